@@ -1,0 +1,98 @@
+-- One record: its clock and its command, done on a store (01, "Time" and "Answers that say no").
+use mathlib.Core.Bool.{Bool, true, false, cond, not, _&&_, _||_}
+use mathlib.Core.List.{List, [], _∷_}
+use mathlib.Core.Option.{Option, none, some}
+use Prim.Native.Nat.{ℕ, zero, suc}
+use lib.Dec.{ltb}
+use lib.ListN.{length}
+use Rattle.wire.specs.Lists.{any, keep, orElse}
+use Rattle.wire.specs.Bytes.{same}
+use Rattle.wire.specs.Words.{Word}
+use Rattle.store.specs.Layout.{versionMost}
+use Rattle.store.specs.Store.{Entry, Slot, Store, decode, encode, holds}
+use Rattle.store.specs.Time.{nowAt, live, roomSlot, without}
+use Rattle.commands.specs.Refusal.{Check, _when_, lowest, errorLine}
+use Rattle.commands.specs.Command.{Command, keyOf, fieldsOf}
+use Rattle.commands.specs.Parse.{Parsed, parse}
+use Rattle.commands.specs.Parse.Parsed.{refused, accepted}
+use Rattle.commands.specs.Effect.{Change, Effect, effect, changeAll}
+use Rattle.commands.specs.Effect.Change.{write, remove}
+
+-- "if it names fields, every dead entry it names is removed next"
+unfoldable pub namedDead : ℕ → Command → Entry → Bool
+namedDead now c e = same (e .key) (keyOf c) && any (same (e .field)) (fieldsOf c) && not (live now e)
+
+unfoldable pub sweep : ℕ → Command → List Slot → List Slot
+sweep now c ss = without (namedDead now c) ss
+
+-- 23: "version would pass its largest, at any pair of an EXHMSET"
+unfoldable pub passes : Change → Bool
+passes (write e) = ltb versionMost (e .version)
+passes (remove k f) = false
+
+-- whether a change writes the entry of a key and a field
+unfoldable pub writes : Word → Word → Change → Bool
+writes k f (write e) = holds k f (some e)
+writes k f (remove _ _) = false
+
+-- a field that a change would add, unless a later change writes it too
+unfoldable pub adds : Change → List Change → List Slot → Bool
+adds (write e) later ss = not (any (holds (e .key) (e .field)) ss || any (writes (e .key) (e .field)) later)
+adds (remove k f) later ss = false
+
+-- how many fields changes would add, "a repeated field counted once"
+unfoldable pub added : List Change → List Slot → ℕ
+added [] ss = 0
+added (c ∷ cs) ss =
+    let n : ℕ = added cs ss in
+    cond (adds c cs ss) (suc n) n
+
+-- slots empty or dead
+unfoldable pub room : ℕ → List Slot → ℕ
+room now ss = length (keep (roomSlot now) ss)
+
+unfoldable pub lateChecks : ℕ → Effect → List Slot → List Check
+lateChecks now e ss =
+    20 when e .stale
+    ∷ 21 when e .notInteger
+    ∷ 22 when e .overflows
+    ∷ 23 when any passes (e .changes)
+    ∷ 24 when ltb (room now ss) (added (e .changes) ss)
+    ∷ []
+
+-- what a record gives: the number of its refusal if it is refused, its reply and the store that it leaves
+pub record Outcome : Type 0 where
+  pub refusal : Option ℕ
+  pub reply : List ℕ
+  pub store : Store
+
+-- "Every command that passes checks 10 to 18 sets the store's clock to now"; "20 to 24 set the clock and remove named dead entries only."
+unfoldable pub run : ℕ → Command → Store → Outcome
+run now c s =
+    let swept : List Slot = sweep now c (s .slots) in
+    let e : Effect = effect now c swept in
+    orElse (lowest (lateChecks now e swept))
+    (record {
+      refusal = none;
+      reply = e .reply;
+      store = record { clock = now; slots = changeAll now (e .changes) swept };
+    })
+    λ n. record { refusal = some n; reply = errorLine n; store = record { clock = now; slots = swept } }
+
+-- "10 to 18 use the record and leave the whole store."
+unfoldable pub perform : ℕ → Parsed → Store → Outcome
+perform now (refused n) s = record { refusal = some n; reply = errorLine n; store = s }
+perform now (accepted c) s = run now c s
+
+unfoldable pub exec : ℕ → List ℕ → Store → Outcome
+exec clock command s = perform (nowAt clock s) (parse (nowAt clock s) clock command) s
+
+-- the same on a store's bytes
+pub record Done : Type 0 where
+  pub reply : List ℕ
+  pub store : List ℕ
+
+unfoldable pub execBytes : ℕ → List ℕ → List ℕ → Done
+execBytes clock command b =
+    let o : Outcome = exec clock command (decode b) in
+    record { reply = o .reply; store = encode (o .store) }

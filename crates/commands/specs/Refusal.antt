@@ -1,0 +1,59 @@
+-- "Answers that say no": each refusal's line, and "The lowest number that applies is given."
+use mathlib.Core.Bool.{Bool, true, false, cond}
+use mathlib.Core.List.{List, [], _∷_}
+use mathlib.Core.Option.{Option, none, some}
+use Prim.Native.Nat.{ℕ}
+use Prim.Native.String.{String}
+use lib.Dec.{eqb}
+use Rattle.wire.specs.Reply.{line}
+
+-- a row of the table: the number of a refusal and its reply
+pub record Row : Type 0 where
+  pub number : ℕ
+  pub reply : String
+
+infix 70 _says_
+abbrev pub _says_ : ℕ → String → Row
+n says t = record { number = n; reply = t }
+
+unfoldable pub table : List Row
+table =
+    10 says "-ERR protocol"
+    ∷ 11 says "-ERR clock out of range"
+    ∷ 12 says "-ERR unknown command"
+    ∷ 13 says "-ERR wrong number of arguments"
+    ∷ 14 says "-ERR too long"
+    ∷ 15 says "-ERR syntax error"
+    ∷ 16 says "-ERR value is not an integer or out of range"
+    ∷ 17 says "-ERR invalid version"
+    ∷ 18 says "-ERR invalid expire time"
+    ∷ 20 says "-ERR update version is stale"
+    ∷ 21 says "-ERR hash value is not an integer"
+    ∷ 22 says "-ERR increment or decrement would overflow"
+    ∷ 23 says "-ERR version overflow"
+    ∷ 24 says "-ERR store is full"
+    ∷ []
+
+unfoldable pub lineIn : List Row → ℕ → List ℕ
+lineIn [] n = []
+lineIn (r ∷ rs) n =
+    let later : List ℕ = lineIn rs n in
+    cond (eqb (r .number) n) (line (r .reply)) later
+
+-- the whole reply of a refused command
+unfoldable pub errorLine : ℕ → List ℕ
+errorLine n = lineIn table n
+
+-- a check: the number of the refusal, and whether it applies
+pub record Check : Type 0 where
+  pub number : ℕ
+  pub applies : Bool
+
+infix 70 _when_
+abbrev pub _when_ : ℕ → Bool → Check
+n when t = record { number = n; applies = t }
+
+-- of checks in ascending order, the first that applies
+unfoldable pub lowest : List Check → Option ℕ
+lowest [] = none
+lowest (c ∷ cs) = cond (c .applies) (some (c .number)) (lowest cs)

@@ -1,0 +1,53 @@
+-- A list of calls (demand 3): "Each call gets the state that the last one handed back and the store as it left it, and nobody else writes
+-- the store meanwhile." "A piece and a reply buffer are any bytes of any length, each call's own."
+use mathlib.Core.Path.{_≡_}
+use mathlib.Core.List.{List, [], _∷_, _++_}
+use mathlib.Core.Logic.{_⊎_}
+use Prim.Native.Nat.{ℕ, suc, _+_, _≤_, _<_}
+use lib.ListN.{length, take}
+use Rattle.wire.specs.Bytes.{Bytes}
+use Rattle.feeder.specs.declared.Feeder.{Feeder}
+use Rattle.feeder.specs.Stream.{divide}
+use Rattle.feeder.specs.Feed.{Answer, feed, fresh, offered}
+
+pub record Call : Type 0 where
+  pub piece : List ℕ
+  pub buffer : List ℕ
+  pub bytes : Bytes piece
+
+-- what a list of calls comes to: the bytes used, joined in order; the joined replies; the total skipped; state and store at the end
+pub record Total : Type 0 where
+  pub used : List ℕ
+  pub replies : List ℕ
+  pub skipped : ℕ
+  pub feeder : Feeder
+  pub store : List ℕ
+
+-- "Take any well-formed store and a fresh feeder."
+unfoldable pub begin : List ℕ → Total
+begin b = record { used = []; replies = []; skipped = 0; feeder = fresh; store = b }
+
+-- "A call's reply is the start of its buffer, as long as its reply length, taken when it returns."
+unfoldable pub tally : Total → Call → Answer → Total
+tally t c a =
+    record {
+      used = t .used ++ take (a .fed .used) (c .piece);
+      replies = t .replies ++ take (a .fed .replied) (a .buffer);
+      skipped = t .skipped + a .fed .skipped;
+      feeder = a .fed .feeder;
+      store = a .store;
+    }
+
+unfoldable pub answerTo : Total → Call → Answer
+answerTo t c = feed (t .feeder) (c .piece) (t .store) (c .buffer)
+
+unfoldable pub callAll : Total → List Call → Total
+callAll t [] = t
+callAll t (c ∷ cs) = callAll (tally t c (answerTo t c)) cs
+
+-- "A call uses the first bytes of its piece: .. up to and with the last byte of the first record completed, but no further than the piece's
+-- end or 65,536 bytes." Said by the division of the stream: `stream` is what was used before the call.
+pub record Uses (stream piece : List ℕ) (used : ℕ) : Type 0 where
+  pub within : used ≤ length (offered piece)
+  pub none-before : (v : ℕ) → v < used → divide (stream ++ take v piece) .records ≡ divide stream .records
+  pub stops : (used ≡ length (offered piece)) ⊎ (length (divide (stream ++ take used piece) .records) ≡ suc (length (divide stream .records)))

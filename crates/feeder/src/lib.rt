@@ -1,0 +1,16 @@
+// The feeder: records from a byte stream that arrives in pieces.
+
+// The bytes that wait for the rest of a record, and how many they are; the places after them are zero.
+pub struct Feeder {
+    pub waiting: [u8; 1035],
+    pub count: usize,
+}
+
+// What a feeding call answers: 0 or a refusal, bytes of its piece used, bytes skipped, the reply's length and the new state.
+pub struct Fed {
+    pub refusal: u32,
+    pub used: usize,
+    pub skipped: usize,
+    pub replied: usize,
+    pub feeder: Feeder,
+}

@@ -1,0 +1,6 @@
+-- What bytes spell: numbers, plain integers, the words of a command, the forms of a reply.
+pub mod Lists
+pub mod Bytes
+pub mod Integer
+pub mod Words
+pub mod Reply
