@@ -1,0 +1,2 @@
+-- The laws of the store, for the crates above.
+pub mod Valid
