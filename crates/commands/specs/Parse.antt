@@ -2,10 +2,9 @@
 use mathlib.Core.Bool.{Bool, true, false, cond, not, _&&_, _||_}
 use mathlib.Core.List.{List, [], _∷_}
 use mathlib.Core.Option.{Option, none, some, Option·getD}
-use Prim.Native.Nat.{ℕ, zero, suc, _%_}
+use Prim.Native.Nat.{ℕ, _%_}
 use Prim.Native.String.{String}
 use lib.Dec.{leb, ltb, eqb}
-use lib.IntN.{pos}
 use lib.ListN.{length, drop, getD}
 use Rattle.wire.specs.Lists.{all, any, isSome, orElse}
 use Rattle.wire.specs.Bytes.{spells}
@@ -24,34 +23,7 @@ use Rattle.commands.specs.Refusal.{Check, _when_, lowest}
 use Rattle.commands.specs.Command.{Deed, Pair, Command, keyOf, fieldsOf, valuesOf}
 use Rattle.commands.specs.Command.Deed.{set, increment, expire, persist, renumber, ask}
 use Rattle.commands.specs.Command.Command.{onField, setMany, getMany, delete, countHeld, countLive, list}
-use Rattle.commands.specs.Options.{
-  Range,
-  times,
-  versions,
-  signed64,
-  readable,
-  numberIn,
-  naturalIn,
-  TimeUnit,
-  instant,
-  inSeconds,
-  inMs,
-  Given,
-  scan,
-  conflicting,
-  readableOperand,
-  givenOf,
-  lifetime,
-  condition,
-  versioning,
-  boundIn,
-  expiryGroup,
-  conditionGroup,
-  versionGroup,
-  minGroup,
-  maxGroup,
-  noExpGroup,
-}
+use Rattle.commands.specs.Options.{Range, times, versions, signed64, readable, numberIn, naturalIn, TimeUnit, instant, inSeconds, inMs, Given, scan, conflicting, readableOperand, givenOf, lifetime, condition, versioning, boundIn, expiryGroup, conditionGroup, versionGroup, minGroup, maxGroup, noExpGroup}
 
 -- ---- the commands
 

@@ -1,5 +1,5 @@
 -- One feeding call (01, "The record" and refusals 1 to 3).
-use mathlib.Core.Bool.{Bool, true, false, cond, not}
+use mathlib.Core.Bool.{Bool, cond, not}
 use mathlib.Core.List.{List, [], _∷_, _++_}
 use mathlib.Core.Option.{Option, none, some, Option·map}
 use Prim.Native.Nat.{ℕ, suc, _+_, _-_}
@@ -15,7 +15,7 @@ use Rattle.feeder.specs.declared.Feeder.{Feeder}
 use Rattle.feeder.specs.declared.Fed.{Fed}
 use Rattle.feeder.specs.Record.{Record, Head, headOf, recordOf, commandAt}
 use Rattle.feeder.specs.Record.Head.{skip, whole, wait}
-use Rattle.feeder.specs.Stream.{Division, divide}
+use Rattle.feeder.specs.Stream.{divide}
 
 -- "the waiting bytes (at most 1,035)"
 abbrev pub waitingMost : ℕ

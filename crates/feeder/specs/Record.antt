@@ -1,9 +1,9 @@
 -- The record (01, "The record"): "Mark 45 57 (hexadecimal), then the clock in ms (8 bytes, low first), then L (2 bytes, low first), then L
 -- bytes of command. L is 1 to 1,024."
-use mathlib.Core.Bool.{Bool, true, false, cond, not, _||_}
+use mathlib.Core.Bool.{cond, not, _||_}
 use mathlib.Core.List.{List}
 use Prim.Native.Nat.{ℕ, _+_}
-use lib.Dec.{leb, ltb, eqb}
+use lib.Dec.{ltb, eqb}
 use lib.ListN.{length, getD}
 use Rattle.wire.specs.Bytes.{fromLE, part}
 

@@ -10,31 +10,7 @@ use Rattle.wire.specs.Lists.{every, all, any, orElse}
 use Rattle.wire.specs.Bytes.{fromLE, toLE, part, padded, allZero, same}
 use Rattle.store.specs.declared.Expiry.{Expiry}
 use Rattle.store.specs.declared.Expiry.the-variants.{Never, At}
-use Rattle.store.specs.Layout.{
-  headerSize,
-  slotSize,
-  mostSlots,
-  clockSize,
-  reservedSize,
-  stateAt,
-  keyLengthAt,
-  fieldLengthAt,
-  valueLengthAt,
-  versionAt,
-  versionSize,
-  expiryAt,
-  expirySize,
-  keyAt,
-  keyMost,
-  fieldAt,
-  fieldMost,
-  valueAt,
-  valueMost,
-  emptyState,
-  heldState,
-  expiringState,
-  timeLimit,
-}
+use Rattle.store.specs.Layout.{headerSize, slotSize, mostSlots, clockSize, reservedSize, stateAt, keyLengthAt, fieldLengthAt, valueLengthAt, versionAt, versionSize, expiryAt, expirySize, keyAt, keyMost, fieldAt, fieldMost, valueAt, valueMost, emptyState, heldState, expiringState, timeLimit}
 
 -- ---- what a store holds
 

@@ -1,9 +1,9 @@
 -- The forms of a reply: "Numbers are replied as RESP integers (`:1`), fields and values as bulk strings, nil as `$-1`, an empty list as
 -- `*0`." Each ends in CR LF.
-use mathlib.Core.List.{List, [], _∷_, _++_, flatten}
+use mathlib.Core.List.{List, _++_, flatten}
 use Prim.Native.Nat.{ℕ}
 use Prim.Native.String.{String}
-use lib.ListN.{length, take, drop}
+use lib.ListN.{length, drop}
 use lib.IntN.{ℤ, pos}
 use Rattle.wire.specs.Bytes.{text}
 use Rattle.wire.specs.Integer.{naturalText, integerText}

@@ -1,8 +1,8 @@
 -- The RESP2 array: "one RESP2 array of 1 to 64 bulk strings, filling the L bytes exactly: `*n\r\n`, then `$len\r\n`, the bytes, `\r\n` for
 -- each word. Counts are digits with no leading zero but 0 itself. No null strings."
-use mathlib.Core.Bool.{Bool, true, false, cond, _&&_}
-use mathlib.Core.List.{List, [], _∷_, _++_}
-use mathlib.Core.Option.{Option, none, some, Option·map}
+use mathlib.Core.Bool.{cond, _&&_}
+use mathlib.Core.List.{List, [], _∷_}
+use mathlib.Core.Option.{Option, none, Option·map}
 use Prim.Native.Nat.{ℕ, zero, suc, _+_}
 use lib.Dec.{leb, eqb}
 use lib.ListN.{length, take, drop}
