@@ -1,0 +1,188 @@
+-- What more bytes do to the head of a stream: a byte to skip and a whole record stay what they are.
+use mathlib.Core.Path.{_≡_, refl, sym, ap, ap₂, _∙_}
+use mathlib.Core.Bool.{Bool, true, false, not, cond, _||_, false≢true}
+use mathlib.Core.List.{List, [], _∷_, _++_, append-nil}
+use Prim.Native.Nat.{ℕ, zero, suc, _+_, _-_, _≤_, _<_}
+use native.Mathlib.Omega.{arith}
+use lib.Dec.{ltb, leb, eqb}
+use lib.ListN.{length, take, drop, getD, length-append, length-drop, List·getD-append}
+use lib.Seq.{take-append-le, drop-append-le}
+use borrow.Author.Tests.{ltb-true, ltb-false, lt-ltb, le-ltb}
+use Rattle.wire.specs.Bytes.{fromLE, part}
+use Rattle.wire.proofs.Lists.{or-left, or-right}
+use Rattle.feeder.specs.Record.{Record, Head, headOf, commandLength, recordOf, firstMark, secondMark, lengthAt, commandAt, commandMost}
+use Rattle.feeder.specs.Record.Head.{skip, whole, wait}
+
+-- a part of s is the same part of s ++ u
+pub part-more : (at n : ℕ) (s u : List ℕ) → at + n ≤ length s → part at n (s ++ u) ≡ part at n s
+unfolding part
+part-more at n s u h =
+    let a : at ≤ length s = omega arith in
+    let b : n ≤ length (drop at s) = rw length-drop (omega arith) in
+    rw (drop-append-le at s u) (rw (take-append-le n (drop at s) u))
+
+pub length-more : (s u : List ℕ) → commandAt ≤ length s → commandLength (s ++ u) ≡ commandLength s
+unfolding commandLength
+length-more s u h = ap fromLE (part-more lengthAt 2 s u (omega arith))
+
+-- the record at the start of s is that at the start of s ++ u
+pub record-more : (n : ℕ) (s u : List ℕ) → commandAt + n ≤ length s → recordOf n (s ++ u) ≡ recordOf n s
+unfolding recordOf
+record-more n s u h = rw (part-more 2 8 s u (omega arith), part-more commandAt n s u h)
+
+-- a head that can be told
+unfoldable pub told : Head → Bool
+told skip = true
+told (whole n) = true
+told wait = false
+
+short : (k : ℕ) (s u : List ℕ) → ltb (length s) k ≡ false → ltb (length (s ++ u)) k ≡ false
+short k s u h = le-ltb (length (s ++ u)) k (rw (length-append s u) (omega (arith, ltb-false (length s) k h)))
+
+-- the last tests of headOf, where the length of the command is known
+lastTests : ℕ → ℕ → Head
+lastTests size n = cond (ltb n 1 || ltb commandMost n) skip (cond (ltb size (commandAt + n)) wait (whole n))
+
+-- a head that can be told stays as it is
+module _ (s u : List ℕ) where
+  last-more : (n : ℕ) → told (lastTests (length s) n) ≡ true → lastTests (length (s ++ u)) n ≡ lastTests (length s) n
+  unfolding lastTests told
+  last-more n = outer (ltb n 1 || ltb commandMost n) (ltb (length s) (commandAt + n)) refl
+    where
+      outer : (e f : Bool) → ltb (length s) (commandAt + n) ≡ f → told (cond e skip (cond f wait (whole n))) ≡ true
+          → cond e skip (cond (ltb (length (s ++ u)) (commandAt + n)) wait (whole n)) ≡ cond e skip (cond f wait (whole n))
+      outer true f p h = refl
+      outer false true p h = absurd (false≢true h)
+      outer false false p h = rw (short (commandAt + n) s u p)
+
+  pub head-more : 1 ≤ length s → told (headOf s) ≡ true → headOf (s ++ u) ≡ headOf s
+  unfolding headOf told lastTests
+  head-more l = rw (List·getD-append s u 0 0 l) (first (not (eqb (getD s 0 0) firstMark)) (ltb (length s) 2) refl)
+    where
+      third : (d : Bool) → ltb (length s) commandAt ≡ d → told (cond d wait (lastTests (length s) (commandLength s))) ≡ true
+          → cond (ltb (length (s ++ u)) commandAt) wait (lastTests (length (s ++ u)) (commandLength (s ++ u)))
+          ≡ cond d wait (lastTests (length s) (commandLength s))
+      third true p h = absurd (false≢true h)
+      third false p h =
+          rw (short commandAt s u p, length-more s u (ltb-false (length s) commandAt p)) (last-more (commandLength s) h)
+
+      second : (c d : Bool) → ltb (length s) commandAt ≡ d → told (cond c skip (cond d wait (lastTests (length s) (commandLength s)))) ≡ true
+          → cond c skip (cond (ltb (length (s ++ u)) commandAt) wait (lastTests (length (s ++ u)) (commandLength (s ++ u))))
+          ≡ cond c skip (cond d wait (lastTests (length s) (commandLength s)))
+      second true d p h = refl
+      second false d p h = third d p h
+
+      first : (a b : Bool) → ltb (length s) 2 ≡ b
+          → told (cond a skip (cond b wait (cond (not (eqb (getD s 1 0) secondMark)) skip (cond (ltb (length s) commandAt) wait (lastTests (length s) (commandLength s)))))) ≡ true
+          → cond a skip (cond (ltb (length (s ++ u)) 2) wait (cond (not (eqb (getD (s ++ u) 1 0) secondMark)) skip (cond (ltb (length (s ++ u)) commandAt) wait (lastTests (length (s ++ u)) (commandLength (s ++ u))))))
+          ≡ cond a skip (cond b wait (cond (not (eqb (getD s 1 0) secondMark)) skip (cond (ltb (length s) commandAt) wait (lastTests (length s) (commandLength s)))))
+      first true b p h = refl
+      first false true p h = absurd (false≢true h)
+      first false false p h =
+          let two : 1 < length s = ltb-false (length s) 2 p in
+          rw (short 2 s u p, List·getD-append s u 0 1 two) (second (not (eqb (getD s 1 0) secondMark)) (ltb (length s) commandAt) refl h)
+
+-- ---- which heads there are
+
+-- a head is one to skip, waits for want of bytes, or is a record that lies whole in s
+pub head-cases : (P : Head → Type 0) (s : List ℕ)
+    → P skip
+    → (length s < commandAt + suc commandMost → P wait)
+    → (commandAt + commandLength s ≤ length s → P (whole (commandLength s)))
+    → P (headOf s)
+unfolding headOf
+head-cases P s skips waits wholes =
+    first (not (eqb (getD s 0 0) firstMark)) (ltb (length s) 2) refl
+    where
+      n : ℕ
+      n = commandLength s
+
+      third : (e f : Bool) → ltb n 1 || ltb commandMost n ≡ e → ltb (length s) (commandAt + n) ≡ f → P (cond e skip (cond f wait (whole n)))
+      third true f p q = skips
+      third false true p q =
+          waits (omega (arith, ltb-true (length s) (commandAt + n) q, ltb-false commandMost n (or-right (ltb n 1) (ltb commandMost n) p)))
+      third false false p q = wholes (ltb-false (length s) (commandAt + n) q)
+
+      second : (c d : Bool) → ltb (length s) commandAt ≡ d
+          → P (cond c skip (cond d wait (cond (ltb n 1 || ltb commandMost n) skip (cond (ltb (length s) (commandAt + n)) wait (whole n)))))
+      second true d p = skips
+      second false true p = waits (omega (arith, ltb-true (length s) commandAt p))
+      second false false p = third (ltb n 1 || ltb commandMost n) (ltb (length s) (commandAt + n)) refl refl
+
+      first : (a b : Bool) → ltb (length s) 2 ≡ b
+          → P (cond a skip (cond b wait (cond (not (eqb (getD s 1 0) secondMark)) skip (cond (ltb (length s) commandAt) wait (cond (ltb n 1 || ltb commandMost n) skip (cond (ltb (length s) (commandAt + n)) wait (whole n)))))))
+      first true b p = skips
+      first false true p = waits (omega (arith, ltb-true (length s) 2 p))
+      first false false p = second (not (eqb (getD s 1 0) secondMark)) (ltb (length s) commandAt) refl
+
+-- a whole record lies in s
+pub whole-fits : (s : List ℕ) (n : ℕ) → headOf s ≡ whole n → commandAt + n ≤ length s
+whole-fits s n =
+    head-cases (λ h. h ≡ whole n → commandAt + n ≤ length s) s
+    (λ e. let z : _≡_ {A = ℕ} 0 1 = cc in omega arith)
+    (λ l e. let z : _≡_ {A = ℕ} 0 1 = cc in omega arith)
+    (λ l e. let z : commandLength s ≡ n = cc in omega arith)
+
+-- what waits is short
+pub wait-short : (s : List ℕ) → headOf s ≡ wait → length s < commandAt + suc commandMost
+wait-short s =
+    head-cases (λ h. h ≡ wait → length s < commandAt + suc commandMost) s
+    (λ e. let z : _≡_ {A = ℕ} 0 1 = cc in omega arith)
+    (λ l e. l)
+    (λ l e. let z : _≡_ {A = ℕ} 0 1 = cc in omega arith)
+
+-- ---- what fewer bytes do, where they are at least 12
+
+-- the head of bytes that start with s, of so many in all
+long : List ℕ → ℕ → Head
+long s size =
+    cond (not (eqb (getD s 0 0) firstMark)) skip (cond (not (eqb (getD s 1 0) secondMark)) skip (lastTests size (commandLength s)))
+
+head-long : (s u : List ℕ) → commandAt ≤ length s → headOf (s ++ u) ≡ long s (length (s ++ u))
+unfolding headOf long lastTests
+head-long s u l =
+    let size : commandAt ≤ length (s ++ u) = rw (length-append s u) (omega arith) in
+    let zeroth : 0 < length s = omega arith in
+    let first : 1 < length s = omega arith in
+    rw
+    ( List·getD-append s u 0 0 zeroth
+    , List·getD-append s u 0 1 first
+    , length-more s u l
+    , le-ltb (length (s ++ u)) 2 (omega arith)
+    , le-ltb (length (s ++ u)) commandAt size
+    )
+
+head-itself : (s : List ℕ) → commandAt ≤ length s → headOf s ≡ long s (length s)
+head-itself s l = rw append-nil at (head-long s [] l)
+
+-- a byte to skip among more bytes is one to skip
+pub skip-fewer : (s u : List ℕ) → commandAt ≤ length s → headOf (s ++ u) ≡ skip → headOf s ≡ skip
+unfolding long lastTests
+skip-fewer s u l h = rw (head-itself s l)
+    (go (not (eqb (getD s 0 0) firstMark)) (not (eqb (getD s 1 0) secondMark)) (ltb (commandLength s) 1 || ltb commandMost (commandLength s))
+    (ltb (length (s ++ u)) (commandAt + commandLength s)) (rw (head-long s u l) at h))
+  where
+    go : (a c e f : Bool) → cond a skip (cond c skip (cond e skip (cond f wait (whole (commandLength s))))) ≡ skip
+        → cond a skip (cond c skip (cond e skip (cond (ltb (length s) (commandAt + commandLength s)) wait (whole (commandLength s))))) ≡ skip
+    go true c e f p = refl
+    go false true e f p = refl
+    go false false true f p = refl
+    go false false false true p = cc
+    go false false false false p = cc
+
+-- a record among more bytes is one if it lies whole in fewer
+pub whole-fewer : (n : ℕ) (s u : List ℕ) → commandAt + n ≤ length s → headOf (s ++ u) ≡ whole n → headOf s ≡ whole n
+unfolding long lastTests
+whole-fewer n s u l h = rw (head-itself s (omega arith))
+    (go (not (eqb (getD s 0 0) firstMark)) (not (eqb (getD s 1 0) secondMark)) (ltb (commandLength s) 1 || ltb commandMost (commandLength s))
+    (ltb (length (s ++ u)) (commandAt + commandLength s)) (rw (head-long s u (omega arith)) at h))
+  where
+    go : (a c e f : Bool) → cond a skip (cond c skip (cond e skip (cond f wait (whole (commandLength s))))) ≡ whole n
+        → cond a skip (cond c skip (cond e skip (cond (ltb (length s) (commandAt + commandLength s)) wait (whole (commandLength s))))) ≡ whole n
+    go true c e f p = cc
+    go false true e f p = cc
+    go false false true f p = cc
+    go false false false true p = cc
+    go false false false false p =
+        let z : commandLength s ≡ n = cc in
+        rw (le-ltb (length s) (commandAt + commandLength s) (rw z l)) p

@@ -1,0 +1,2 @@
+-- The laws of the feeder; Demands is the page to open first.
+pub mod Head
