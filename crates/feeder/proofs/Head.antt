@@ -87,7 +87,7 @@ module _ (s u : List ℕ) where
 -- a head is one to skip, waits for want of bytes, or is a record that lies whole in s
 pub head-cases : (P : Head → Type 0) (s : List ℕ)
     → P skip
-    → (length s < commandAt + suc commandMost → P wait)
+    → (length s < commandAt + commandMost → P wait)
     → (commandAt + commandLength s ≤ length s → P (whole (commandLength s)))
     → P (headOf s)
 unfolding headOf
@@ -124,9 +124,9 @@ whole-fits s n =
     (λ l e. let z : commandLength s ≡ n = cc in omega arith)
 
 -- what waits is short
-pub wait-short : (s : List ℕ) → headOf s ≡ wait → length s < commandAt + suc commandMost
+pub wait-short : (s : List ℕ) → headOf s ≡ wait → length s < commandAt + commandMost
 wait-short s =
-    head-cases (λ h. h ≡ wait → length s < commandAt + suc commandMost) s
+    head-cases (λ h. h ≡ wait → length s < commandAt + commandMost) s
     (λ e. let z : _≡_ {A = ℕ} 0 1 = cc in omega arith)
     (λ l e. l)
     (λ l e. let z : _≡_ {A = ℕ} 0 1 = cc in omega arith)

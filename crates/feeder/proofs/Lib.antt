@@ -1,2 +1,4 @@
 -- The laws of the feeder; Demands is the page to open first.
 pub mod Head
+pub mod Divide
+pub mod First

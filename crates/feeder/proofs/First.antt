@@ -1,0 +1,95 @@
+-- The first record of a stream: where it stands is settled by the bytes up to its end, and none of fewer bytes.
+use mathlib.Core.Path.{_≡_, refl, sym, ap, ap₂, _∙_}
+use mathlib.Core.Bool.{true}
+use mathlib.Core.List.{List, [], _∷_, _++_}
+use mathlib.Core.Option.{Option, none, some, Option·map}
+use Prim.Native.Nat.{ℕ, zero, suc, _+_, _-_, _≤_, _<_, zero-le}
+use native.Mathlib.Nat.{not-suc-le-zero}
+use native.Mathlib.Omega.{arith}
+use lib.ListN.{length, take, drop, length-append}
+use Rattle.feeder.specs.Record.{Record, Head, headOf, recordOf, commandAt}
+use Rattle.feeder.specs.Record.Head.{skip, whole, wait}
+use Rattle.feeder.specs.Stream.{Division, ended, skipping, recording, dividedAt, divideAfter, divide}
+use Rattle.feeder.specs.Feed.{Place, later, placedAt, firstRecord}
+use Rattle.feeder.proofs.Head.{told, head-more, record-more, whole-fits, skip-fewer, whole-fewer}
+
+zero≢one : _≡_ {A = ℕ} 0 1 → ⊥
+zero≢one z = omega arith
+
+-- just past a record
+abbrev pub endOf : Place → ℕ
+endOf p = p .at + (commandAt + p .size)
+
+-- the first record of a stream stands after bytes to skip
+pub data First : List ℕ → Place → Type 0 where
+  here : {b : ℕ} {s : List ℕ} {n : ℕ} → headOf (b ∷ s) ≡ whole n → First (b ∷ s) (record { at = 0; size = n })
+  there : {b : ℕ} {s : List ℕ} {p : Place} → headOf (b ∷ s) ≡ skip → First s p → First (b ∷ s) (later p)
+
+-- what firstRecord finds is the first record
+pub first-found : (s : List ℕ) (p : Place) → firstRecord s ≡ some p → First s p
+unfolding firstRecord placedAt
+first-found [] p e = let z : _≡_ {A = ℕ} 0 1 = cc in absurd (zero≢one z)
+first-found (b ∷ s) p e = go (headOf (b ∷ s)) refl (firstRecord s) e (first-found s)
+  where
+    go : (h : Head) → headOf (b ∷ s) ≡ h → (m : Option Place) → placedAt h m ≡ some p
+        → ((q : Place) → m ≡ some q → First s q) → First (b ∷ s) p
+    go skip x none e ih = let z : _≡_ {A = ℕ} 0 1 = cc in absurd (zero≢one z)
+    go skip x (some q) e ih =
+        let z : later q ≡ p = cc in
+        rw z at (there x (ih q refl))
+    go (whole n) x m e ih =
+        let z : record { at = 0; size = n } ≡ p = cc in
+        rw z at (here x)
+    go wait x m e ih = let z : _≡_ {A = ℕ} 0 1 = cc in absurd (zero≢one z)
+
+-- the first record is what firstRecord finds
+pub found-first : {s : List ℕ} {p : Place} → First s p → firstRecord s ≡ some p
+unfolding firstRecord placedAt
+found-first (here h) = rw h
+found-first (there h f) = rw (h, found-first f)
+
+-- with no first record, a division has no record
+pub first-none : (s : List ℕ) → firstRecord s ≡ none → divide s .records ≡ []
+unfolding firstRecord divide divideAfter dividedAt placedAt
+first-none [] e = refl
+first-none (b ∷ s) e = go (headOf (b ∷ s)) (firstRecord s) e (first-none s)
+  where
+    go : (h : Head) (m : Option Place) → placedAt h m ≡ none → (m ≡ none → divideAfter 0 s .records ≡ [])
+        → dividedAt h (b ∷ s) (λ k. divideAfter k s) .records ≡ []
+    go skip none p ih = ih refl
+    go skip (some q) p ih = cc
+    go (whole n) m p ih = cc
+    go wait m p ih = refl
+
+-- the first record lies in s
+pub first-fits : {s : List ℕ} {p : Place} → First s p → endOf p ≤ length s
+first-fits (here {b = b} {s = s} {n = n} h) = omega (arith, whole-fits (b ∷ s) n h)
+first-fits (there h f) = omega (arith, first-fits f)
+
+-- it stays the first whatever follows
+pub first-more : {s : List ℕ} {p : Place} (u : List ℕ) → First s p → First (s ++ u) p
+unfolding told
+first-more u (here {b = b} {s = s} h) = here (head-more (b ∷ s) u (omega arith) (rw h) ∙ h)
+first-more u (there {b = b} {s = s} h f) = there (head-more (b ∷ s) u (omega arith) (rw h) ∙ h) (first-more u f)
+
+-- it is the first of any fewer bytes that reach its end
+pub first-fewer : (s u : List ℕ) (p : Place) → First (s ++ u) p → endOf p ≤ length s → First s p
+first-fewer [] u p f l = absurd (let n : ⊥ = omega arith in n)
+first-fewer (b ∷ s) u p (here {n = n} h) l = here (whole-fewer n (b ∷ s) u (omega arith) h)
+first-fewer (b ∷ s) u p (there {p = q} h f) l =
+    there (skip-fewer (b ∷ s) u (omega arith) h) (first-fewer s u q f (omega arith))
+
+-- a record's own bytes after its first are passed over
+passed-over : (s : List ℕ) → divideAfter (length s) s ≡ ended []
+unfolding divideAfter
+passed-over [] = refl
+passed-over (b ∷ s) = passed-over s
+
+-- a stream that ends with its first record: that record, all before it skipped, nothing waits
+pub first-divides : {s : List ℕ} {p : Place} → First s p → endOf p ≡ length s
+    → divide s ≡ record { records = recordOf (p .size) (drop (p .at) s) ∷ []; skipped = p .at; rest = [] }
+unfolding divide divideAfter dividedAt
+first-divides (here {b = b} {s = s} {n = n} h) l =
+    let k : 11 + n ≡ length s = omega arith in
+    rw h (rw k (rw (passed-over s)))
+first-divides (there {b = b} {s = s} {p = p} h f) l = rw h (ap skipping (first-divides f (omega arith)))
