@@ -1,7 +1,7 @@
 -- The first record of a stream: where it stands is settled by the bytes up to its end, and none of fewer bytes.
 use mathlib.Core.Path.{_≡_, refl, sym, ap, ap₂, _∙_}
 use mathlib.Core.Bool.{true}
-use mathlib.Core.List.{List, [], _∷_, _++_}
+use mathlib.Core.List.{List, [], _∷_, _++_, cons-ne-nil}
 use mathlib.Core.Option.{Option, none, some, Option·map}
 use Prim.Native.Nat.{ℕ, zero, suc, _+_, _-_, _≤_, _<_, zero-le}
 use native.Mathlib.Nat.{not-suc-le-zero}
@@ -93,3 +93,11 @@ first-divides (here {b = b} {s = s} {n = n} h) l =
     let k : 11 + n ≡ length s = omega arith in
     rw h (rw k (rw (passed-over s)))
 first-divides (there {b = b} {s = s} {p = p} h f) l = rw h (ap skipping (first-divides f (omega arith)))
+
+-- a stream with a first record does not wait whole
+pub first-not-waiting : {s : List ℕ} {p : Place} → First s p → divide s .records ≡ [] → ⊥
+unfolding divide divideAfter dividedAt
+first-not-waiting (here {b = b} {s = s} {n = n} h) e =
+    let g : recordOf n (b ∷ s) ∷ divideAfter (11 + n) s .records ≡ [] = rw h at e in
+    cons-ne-nil (recordOf n (b ∷ s)) (divideAfter (11 + n) s .records) g
+first-not-waiting (there h f) e = first-not-waiting f (rw h at e)

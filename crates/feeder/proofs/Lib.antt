@@ -2,3 +2,4 @@
 pub mod Head
 pub mod Divide
 pub mod First
+pub mod Call

@@ -7,8 +7,8 @@ use Prim.Native.Nat.{ℕ, suc, _+_, _≤_, _<_}
 use lib.ListN.{length, take}
 use Rattle.wire.specs.Bytes.{Bytes}
 use Rattle.feeder.specs.declared.Feeder.{Feeder}
-use Rattle.feeder.specs.Stream.{divide}
-use Rattle.feeder.specs.Feed.{Answer, feed, fresh, offered}
+use Rattle.feeder.specs.Stream.{divide, meaning}
+use Rattle.feeder.specs.Feed.{Answer, feed, stateOf, fresh, offered}
 
 pub record Call : Type 0 where
   pub piece : List ℕ
@@ -44,6 +44,14 @@ answerTo t c = feed (t .feeder) (c .piece) (t .store) (c .buffer)
 unfoldable pub callAll : Total → List Call → Total
 callAll t [] = t
 callAll t (c ∷ cs) = callAll (tally t c (answerTo t c)) cs
+
+-- "The joined replies, the total of bytes skipped, the bytes left waiting and the whole store are exactly those that the definition gives
+-- for one uncut stream: the bytes used, joined in order." The state holds the waiting bytes, with zero after them.
+pub record Agrees (b : List ℕ) (t : Total) : Type 0 where
+  pub replies : t .replies ≡ meaning (t .used) b .replies
+  pub skipped : t .skipped ≡ meaning (t .used) b .skipped
+  pub waiting : t .feeder ≡ stateOf (meaning (t .used) b .rest)
+  pub store : t .store ≡ meaning (t .used) b .store
 
 -- "A call uses the first bytes of its piece: .. up to and with the last byte of the first record completed, but no further than the piece's
 -- end or 65,536 bytes." Said by the division of the stream: `stream` is what was used before the call.
