@@ -3,3 +3,4 @@ pub mod Head
 pub mod Divide
 pub mod First
 pub mod Call
+pub mod Calls

@@ -1,3 +1,8 @@
 -- The laws of numbers and words, for the crates above.
 pub mod Lists
 pub mod Bytes
+pub mod Options
+pub mod Digits
+pub mod Integer
+pub mod Words
+pub mod Reply
