@@ -2,16 +2,17 @@
 use mathlib.Core.Path.{_≡_, refl, sym, ap, ap₂, _∙_}
 use mathlib.Core.Logic.{_⊎_, inl, inr}
 use mathlib.Core.Bool.{Bool, true, false, cond}
-use mathlib.Core.List.{List, [], _∷_, _++_, append-assoc, append-nil}
+use mathlib.Core.List.{List, [], _∷_, _++_, append-assoc, append-nil, flatten}
 use Prim.Native.Nat.{ℕ, zero, suc, _+_, _≤_, _<_}
 use native.Mathlib.Nat.{add-zero}
 use native.Mathlib.Numerals.{add-one}
 use native.Mathlib.Omega.{arith}
 use lib.Dec.{ltb}
-use lib.ListN.{length, take, length-append}
+use lib.ListN.{length, take, drop, getD, length-append, length-drop, take-append-drop}
+use lib.Seq.{take-all}
 use borrow.Author.Tests.{ltb-true, ltb-false, le-ltb}
 use Rattle.wire.specs.Bytes.{Bytes}
-use Rattle.wire.proofs.Bytes.{bytes-append, bytes-take, bytes-part, bytes-tail}
+use Rattle.wire.proofs.Bytes.{bytes-append, bytes-take, bytes-drop, bytes-part, bytes-tail}
 use Rattle.store.specs.Store.{wellFormed}
 use Rattle.commands.specs.Execute.{Done, execBytes}
 use Rattle.feeder.specs.declared.Feeder.{Feeder}
@@ -19,7 +20,7 @@ use Rattle.feeder.specs.Record.{Record, Head, headOf, recordOf, commandA
 use Rattle.feeder.specs.Record.Head.{skip, whole, wait}
 use Rattle.feeder.specs.Stream.{Division, dividedAt, divideAfter, divide, doAll, meaning}
 use Rattle.feeder.specs.Feed.{bufferLeast, stateOf, fresh, Answer, refusing, taking, feed, offered}
-use Rattle.feeder.specs.Calls.{Call, Total, begin, tally, answerTo, callAll, Agrees, Uses}
+use Rattle.feeder.specs.Calls.{Call, AllBytes, Total, begin, tally, answerTo, callAll, Agrees, Uses, Answered, offering, offeringAll}
 use Rattle.feeder.proofs.Divide.{divide-more, rest-waits, do-more}
 use Rattle.feeder.proofs.Call.{waiting-back, rest-left, Took, taken}
 
@@ -45,6 +46,20 @@ module _ (keeps : (clock : ℕ) (command b : List ℕ) → Bytes command → wel
   pub meaning-well : (s b : List ℕ) → Bytes s → wellFormed b ≡ true → wellFormed (meaning s b .store) ≡ true
   unfolding meaning divide
   meaning-well s b bs well = records-well 0 s bs b well
+
+-- calls in two goes
+call-more : (t : Total) (cs ds : List Call) → callAll t (cs ++ ds) ≡ callAll (callAll t cs) ds
+unfolding callAll
+call-more t [] ds = refl
+call-more t (c ∷ cs) ds = call-more (tally t c (answerTo t c)) cs ds
+
+join-bytes : (cs ds : List Call) → AllBytes cs → AllBytes ds → AllBytes (cs ++ ds)
+join-bytes [] ds p q = q
+join-bytes (c ∷ cs) ds p q = (p .0, join-bytes cs ds (p .1) q)
+
+-- a number is not below another and at least it
+clash {ℓ} : {A : Type ℓ} {m n : ℕ} → m < n → n ≤ m → A
+clash l h = absurd (let none : ⊥ = omega arith in none)
 
 -- ---- one call after a list of calls
 
@@ -104,3 +119,115 @@ module _ (b : List ℕ) (t : Total) (c : Call) (r : Reached b t) where
             → (a .fed .used ≡ length (offered (c .piece))) ⊎ (length (divide (t .used ++ y) .records) ≡ suc (length (divide (t .used) .records)))
         ends (inl e) = inl e
         ends (inr e) = inr (rw (divide-more (t .used) y) (rw (length-append, e, add-one)))
+
+module _ (keeps : (clock : ℕ) (command b : List ℕ) → Bytes command → wellFormed b ≡ true → wellFormed (execBytes clock command b .store) ≡ true)
+    (b : List ℕ) (well : wellFormed b ≡ true) where
+  -- a total that agrees over bytes is reached
+  reached : (t : Total) → Agrees b t → Bytes (t .used) → Reached b t
+  reached t g bs = record { agrees = g; bytes = bs; well = rw (g .store) (meaning-well keeps (t .used) b bs well) }
+
+  module _ (t : Total) (c : Call) (r : Reached b t) where
+    abbrev rest : List ℕ
+    rest = divide (t .used) .rest
+
+    abbrev took : Answer
+    took = taking rest (c .piece) (t .store) (c .buffer)
+
+    how : Took rest (c .piece) (t .store) took
+    how = taken rest (c .piece) (t .store) (c .buffer) (rest-waits (t .used))
+
+    -- what is said of the next call
+    pub call-answered : Answered t c (answerTo t c)
+    call-answered = rw (answered b t c r) (go (ltb (length (c .buffer)) bufferLeast) refl)
+      where
+        go : (small : Bool) → ltb (length (c .buffer)) bufferLeast ≡ small
+            → Answered t c (cond small (refusing 3 (t .feeder) (t .store) (c .buffer)) took)
+        go true e =
+            let l : length (c .buffer) < bufferLeast = ltb-true (length (c .buffer)) bufferLeast e in
+            record { refused = λ h. refl; accepted = λ h. clash l h; uses = λ h. clash l h; some-used = λ h p. clash l h }
+        go false e =
+            record
+            { refused = λ h. clash h (ltb-false (length (c .buffer)) bufferLeast e)
+            ; accepted = λ h. how .refusal
+            ; uses = λ h. taken-uses b t c r took how
+            ; some-used = λ h p. how .some-used p
+            }
+
+    -- and what the calls with it have come to is reached
+    pub call-reached : Bytes (c .piece) → Reached b (tally t c (answerTo t c))
+    call-reached bs = rw (answered b t c r) (go (ltb (length (c .buffer)) bufferLeast))
+      where
+        go : (small : Bool) → Reached b (tally t c (cond small (refusing 3 (t .feeder) (t .store) (c .buffer)) took))
+        go true = rw (refused-adds b t c r) r
+        go false =
+            reached (tally t c took) (taken-agrees b t c r took how)
+            (unfold tally in bytes-append (t .used) (take (took .fed .used) (c .piece)) (r .bytes) (bytes-take (took .fed .used) (c .piece) bs))
+
+  -- ---- lists of calls
+
+  pub begin-reached : Reached b (begin b)
+  unfolding begin fresh meaning divide divideAfter doAll
+  begin-reached = reached (begin b) (record { replies = refl; skipped = refl; waiting = refl; store = refl }) refl
+
+  pub all-reached : (t : Total) (cs : List Call) → AllBytes cs → Reached b t → Reached b (callAll t cs)
+  unfolding callAll
+  all-reached t [] bs r = r
+  all-reached t (c ∷ cs) bs r = all-reached (tally t c (answerTo t c)) cs (bs .1) (call-reached t c r (bs .0))
+
+  -- ---- offering pieces until they are used up
+
+  module _ (buffer : List ℕ) (large : bufferLeast ≤ length buffer) where
+    offering-bytes : (n : ℕ) (piece : List ℕ) (t : Total) → Bytes piece → AllBytes (offering n buffer piece t)
+    unfolding offering
+    offering-bytes zero piece t bs = tt
+    offering-bytes (suc n) piece t bs =
+        let c : Call = record { piece = piece; buffer = buffer } in
+        (bs, offering-bytes n (drop (answerTo t c .fed .used) piece) (tally t c (answerTo t c)) (bytes-drop (answerTo t c .fed .used) piece bs))
+
+    -- a piece of at most n bytes is used up by n calls
+    offering-used : (n : ℕ) (piece : List ℕ) (t : Total) → length piece ≤ n → Bytes piece → Reached b t
+        → callAll t (offering n buffer piece t) .used ≡ t .used ++ piece
+    unfolding offering callAll tally
+    offering-used zero piece t l bs r =
+        let e : piece ≡ [] = sym (take-all 0 piece l) in
+        rw e (sym (append-nil (t .used)))
+    offering-used (suc n) piece t l bs r =
+        offering-used n (drop u piece) (tally t c (answerTo t c)) fewer (bytes-drop u piece bs) (call-reached t c r bs)
+        ∙ append-assoc (t .used) (take u piece) (drop u piece)
+        ∙ ap (λ (s : List ℕ). t .used ++ s) (take-append-drop u piece)
+      where
+        c : Call
+        c = record { piece = piece; buffer = buffer }
+
+        u : ℕ
+        u = answerTo t c .fed .used
+
+        fewer : length (drop u piece) ≤ n
+        fewer = go piece refl
+          where
+            go : (s : List ℕ) → piece ≡ s → length (drop u piece) ≤ n
+            go [] e = rw (length-drop, e) (omega arith)
+            go (x ∷ s) e =
+                let some : 1 ≤ u = call-answered t c r .some-used large (rw e (omega arith)) in
+                rw length-drop (omega arith)
+
+    offeringAll-bytes : (ps : List (List ℕ)) (t : Total) → ((i : ℕ) → Bytes (getD ps i [])) → AllBytes (offeringAll buffer ps t)
+    unfolding offeringAll
+    offeringAll-bytes [] t bs = tt
+    offeringAll-bytes (p ∷ ps) t bs =
+        let cs : List Call = offering (length p) buffer p t in
+        join-bytes cs (offeringAll buffer ps (callAll t cs)) (offering-bytes (length p) p t (bs 0))
+        (offeringAll-bytes ps (callAll t cs) (λ i. bs (suc i)))
+
+    -- the pieces of a stream are used up
+    pub offeringAll-used : (ps : List (List ℕ)) (t : Total) → ((i : ℕ) → Bytes (getD ps i [])) → Reached b t
+        → callAll t (offeringAll buffer ps t) .used ≡ t .used ++ flatten ps
+    unfolding offeringAll callAll flatten
+    offeringAll-used [] t bs r = sym (append-nil (t .used))
+    offeringAll-used (p ∷ ps) t bs r =
+        let cs : List Call = offering (length p) buffer p t in
+        let more : Reached b (callAll t cs) = all-reached t cs (offering-bytes (length p) p t (bs 0)) r in
+        ap (λ (x : Total). x .used) (call-more t cs (offeringAll buffer ps (callAll t cs)))
+        ∙ offeringAll-used ps (callAll t cs) (λ i. bs (suc i)) more
+        ∙ ap (λ (s : List ℕ). s ++ flatten ps) (offering-used (length p) p t (omega arith) (bs 0) r)
+        ∙ append-assoc (t .used) p (flatten ps)

@@ -3,17 +3,20 @@
 use mathlib.Core.Path.{_≡_}
 use mathlib.Core.List.{List, [], _∷_, _++_}
 use mathlib.Core.Logic.{_⊎_}
-use Prim.Native.Nat.{ℕ, suc, _+_, _≤_, _<_}
-use lib.ListN.{length, take}
+use Prim.Native.Nat.{ℕ, zero, suc, _+_, _≤_, _<_}
+use lib.ListN.{length, take, drop}
 use Rattle.wire.specs.Bytes.{Bytes}
 use Rattle.feeder.specs.declared.Feeder.{Feeder}
 use Rattle.feeder.specs.Stream.{divide, meaning}
-use Rattle.feeder.specs.Feed.{Answer, feed, stateOf, fresh, offered}
+use Rattle.feeder.specs.Feed.{bufferLeast, Answer, refusing, feed, stateOf, fresh, offered}
 
 pub record Call : Type 0 where
   pub piece : List ℕ
   pub buffer : List ℕ
-  pub bytes : Bytes piece
+
+abbrev pub AllBytes : List Call → Type 0
+AllBytes [] = Unit {0}
+AllBytes (c ∷ cs) = Bytes (c .piece) × AllBytes cs
 
 -- what a list of calls comes to: the bytes used, joined in order; the joined replies; the total skipped; state and store at the end
 pub record Total : Type 0 where
@@ -59,3 +62,28 @@ pub record Uses (stream piece : List ℕ) (used : ℕ) : Type 0 where
   pub within : used ≤ length (offered piece)
   pub none-before : (v : ℕ) → v < used → divide (stream ++ take v piece) .records ≡ divide stream .records
   pub stops : (used ≡ length (offered piece)) ⊎ (length (divide (stream ++ take used piece) .records) ≡ suc (length (divide stream .records)))
+
+-- what is said of each call of a list, where t is what the calls before it have come to: only 3 is ever answered, exactly if the reply buffer
+-- is too small, and then nothing changes; else the call uses the paper's number of bytes, "at least one, if its piece isn't empty and its
+-- reply buffer isn't under the stated size".
+pub record Answered (t : Total) (c : Call) (a : Answer) : Type 0 where
+  pub refused : length (c .buffer) < bufferLeast → a ≡ refusing 3 (t .feeder) (t .store) (c .buffer)
+  pub accepted : bufferLeast ≤ length (c .buffer) → a .fed .refusal ≡ 0
+  pub uses : bufferLeast ≤ length (c .buffer) → Uses (t .used) (c .piece) (a .fed .used)
+  pub some-used : bufferLeast ≤ length (c .buffer) → 1 ≤ length (c .piece) → 1 ≤ a .fed .used
+
+-- ---- "Cutting a stream anywhere and offering each piece until it is used up is one such list."
+
+-- n calls, each with what the one before left of a piece
+unfoldable pub offering : ℕ → List ℕ → List ℕ → Total → List Call
+offering zero buffer piece t = []
+offering (suc n) buffer piece t =
+    let c : Call = record { piece = piece; buffer = buffer } in
+    c ∷ offering n buffer (drop (answerTo t c .fed .used) piece) (tally t c (answerTo t c))
+
+-- the pieces of a stream in order, each offered until it is used up: as many calls as it has bytes are enough
+unfoldable pub offeringAll : List ℕ → List (List ℕ) → Total → List Call
+offeringAll buffer [] t = []
+offeringAll buffer (p ∷ ps) t =
+    let cs : List Call = offering (length p) buffer p t in
+    cs ++ offeringAll buffer ps (callAll t cs)
