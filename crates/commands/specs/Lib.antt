@@ -5,3 +5,4 @@ pub mod Options
 pub mod Parse
 pub mod Effect
 pub mod Execute
+pub mod Examples

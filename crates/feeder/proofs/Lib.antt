@@ -1,4 +1,5 @@
 -- The laws of the feeder; Demands is the page to open first.
+pub mod Computing
 pub mod Head
 pub mod Divide
 pub mod First

@@ -1,2 +1,3 @@
 -- The laws of the store, for the crates above.
+pub mod Computing
 pub mod Valid

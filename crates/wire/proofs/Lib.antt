@@ -1,4 +1,5 @@
 -- The laws of numbers and words, for the crates above.
+pub mod Computing
 pub mod Lists
 pub mod Bytes
 pub mod Options

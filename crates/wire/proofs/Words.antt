@@ -14,7 +14,7 @@ use Rattle.wire.specs.Lists.{all, onlyIf, orElse, isEmpty}
 use Rattle.wire.specs.Bytes.{Bytes, part, same, text}
 use Rattle.wire.specs.Integer.{isDigit, naturalText, readNatural}
 use Rattle.wire.specs.Words.{Word, Read, crlf, beforeCR, fromCR, readCount, readWord, readWords, wordsOf}
-use Rattle.wire.specs.Reply.{bulk, header, array}
+use Rattle.wire.specs.Reply.{bulk, header, array, respOf}
 use Rattle.wire.proofs.Lists.{and-left, and-right}
 use Rattle.wire.proofs.Bytes.{bytes-take, bytes-drop, same-true}
 use Rattle.wire.proofs.Options.{cond-some, onlyIf-some, orElse-some}
@@ -111,10 +111,6 @@ word-written w rest =
     (rw (drop-append-seam, take-append-seam, drop-append-add))
 
 -- ---- the command
-
--- A command's words as they are written: an array of bulk strings.
-unfoldable pub respOf : List Word → List ℕ
-respOf ws = array (map bulk ws)
 
 -- the array as it is written is its count and what follows
 resp-is : (ws : List Word) → respOf ws ≡ counted 42 (length ws) (flatten (map bulk ws))

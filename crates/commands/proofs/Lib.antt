@@ -1,0 +1,3 @@
+-- The laws of commands, for the crate above.
+pub mod Computing
+pub mod Examples
