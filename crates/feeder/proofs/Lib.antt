@@ -5,3 +5,4 @@ pub mod Divide
 pub mod First
 pub mod Call
 pub mod Calls
+pub mod Examples

@@ -3,3 +3,4 @@ pub mod Record
 pub mod Stream
 pub mod Feed
 pub mod Calls
+pub mod Examples

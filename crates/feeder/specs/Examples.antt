@@ -1,0 +1,54 @@
+-- The paper's worked streams: "Whole example", and the mark that follows a stray 45.
+use mathlib.Core.List.{List, [], _∷_, _++_}
+use mathlib.Core.Option.{none, some}
+use Prim.Native.Nat.{ℕ}
+use Prim.Native.String.{String}
+use lib.ListN.{length}
+use Rattle.wire.specs.Bytes.{text, toLE}
+use Rattle.store.specs.Store.{Store, encode}
+use Rattle.feeder.specs.Record.{Record, firstMark, secondMark}
+use Rattle.feeder.specs.Stream.{Meaning, meaning}
+
+-- "clock 1000, `EXHGET m t1`: 45 57 E8 03 00 00 00 00 00 00 1F 00, then the 31 bytes"
+unfoldable pub wholeExample : List ℕ
+wholeExample =
+    (0x45 ∷ 0x57 ∷ 0xe8 ∷ 0x03 ∷ 0x00 ∷ 0x00 ∷ 0x00 ∷ 0x00 ∷ 0x00 ∷ 0x00 ∷ 0x1f ∷ 0x00 ∷ [])
+    ++ text "*3\r\n$6\r\nEXHGET\r\n$1\r\nm\r\n$2\r\nt1\r\n"
+
+-- a record as it is sent
+unfoldable pub recordBytes : Record → List ℕ
+recordBytes r = (firstMark ∷ secondMark ∷ []) ++ toLE 8 (r .clock) ++ toLE 2 (length (r .command)) ++ r .command
+
+unfoldable pub emptyAt : ℕ → List ℕ
+emptyAt clock = encode (record { clock = clock; slots = none ∷ [] })
+
+-- a stream on an empty store of one slot, and what it comes to
+pub record Row : Type 0 where
+  pub name : String
+  pub stream : List ℕ
+  pub outcome : Meaning
+
+abbrev pub row : String → List ℕ → Meaning → Row
+row n s m = record { name = n; stream = s; outcome = m }
+
+abbrev pub told : List ℕ → ℕ → List ℕ → ℕ → Meaning
+told replies skipped rest clock = record { replies = replies; skipped = skipped; rest = rest; store = emptyAt clock }
+
+unfoldable pub given : Row → Meaning
+given r = meaning (r .stream) (emptyAt 0)
+
+unfoldable pub expected : Row → Meaning
+expected r = r .outcome
+
+unfoldable pub workedStreams : List Row
+workedStreams =
+    row "Whole example: from an empty store the reply is nil" wholeExample (told (text "$-1\r\n") 0 [] 1000)
+    ∷ row "45 45 57: one byte is skipped, and the mark is not lost" (0x45 ∷ wholeExample) (told (text "$-1\r\n") 1 [] 1000)
+    ∷ row "L out of range: only the 45 is skipped, and what follows is read again"
+    ((0x45 ∷ 0x57 ∷ 0 ∷ 0 ∷ 0 ∷ 0 ∷ 0 ∷ 0 ∷ 0 ∷ 0 ∷ 0 ∷ 0 ∷ []) ++ wholeExample)
+    (told (text "$-1\r\n") 12 [] 1000)
+    ∷ row "A record that is cut short waits" (wholeExample ++ (0x45 ∷ 0x57 ∷ 7 ∷ [])) (told (text "$-1\r\n") 0 (0x45 ∷ 0x57 ∷ 7 ∷ []) 1000)
+    ∷ row "A refused command is a record too: its error line is its reply"
+    (recordBytes (record { clock = 1000; command = text "*1\r\n$3\r\nGET\r\n" }) ++ wholeExample)
+    (told (text "-ERR unknown command\r\n$-1\r\n") 0 [] 1000)
+    ∷ []
