@@ -1,0 +1,192 @@
+-- Laws of lists of checks, and the ways in which a command's bytes are read.
+use mathlib.Core.Path.{_≡_, refl}
+use mathlib.Core.Bool.{Bool, true, false, cond, not, _&&_}
+use mathlib.Core.List.{List, [], _∷_}
+use mathlib.Core.Option.{Option, none, some, Option·getD}
+use Prim.Native.Nat.{ℕ, _≤_, _<_}
+use lib.Dec.{leb}
+use lib.ListN.{length}
+use native.Mathlib.Omega.{arith}
+use borrow.Author.Tests.{leb-true, leb-false}
+use Rattle.wire.specs.Lists.{all, orElse}
+use Rattle.wire.proofs.Lists.{and-left, and-right}
+use Rattle.wire.specs.Words.{Word, wordsOf}
+use Rattle.store.specs.Layout.{timeLimit}
+use Rattle.commands.specs.Refusal.{Check, _when_, lowest}
+use Rattle.commands.specs.Command.{Command}
+use Rattle.commands.specs.Options.{Given, scan, conflicting, readable, readableOperand}
+use Rattle.commands.specs.Parse.{
+  Form,
+  Count,
+  CommandRow,
+  Parsed,
+  commands,
+  commandNamed,
+  countFits,
+  allowed,
+  optionWords,
+  numberRange,
+  wordAt,
+  build,
+  tooLong,
+  isZero,
+  deedVersioning,
+  beyond,
+  deedLifetime,
+  onDeed,
+  checks,
+  parseWords,
+  parse,
+}
+use Rattle.commands.specs.Parse.Parsed.{refused, accepted}
+
+-- What holds of the number of every check holds of the number that is given.
+pub lowest-number : (p : ℕ → Bool) (cs : List Check) (n : ℕ) → all (λ c. p (c .number)) cs ≡ true → lowest cs ≡ some n → p n ≡ true
+unfolding all lowest
+lowest-number p [] n h e = cc
+lowest-number p (c ∷ cs) n h e =
+    go (c .applies) e (and-left (p (c .number)) (all (λ d. p (d .number)) cs) h)
+    (lowest-number p cs n (and-right (p (c .number)) (all (λ d. p (d .number)) cs) h))
+  where
+    go : (t : Bool) → cond t (some (c .number)) (lowest cs) ≡ some n → p (c .number) ≡ true → (lowest cs ≡ some n → p n ≡ true) → p n ≡ true
+    go true q a b = let m : c .number ≡ n = cc in rw m at a
+    go false q a b = b q
+
+-- Checks whose numbers lie between two give a number between them.
+pub lowest-between : (lo hi : ℕ) (cs : List Check) (n : ℕ) → all (λ c. leb lo (c .number) && leb (c .number) hi) cs ≡ true → lowest cs ≡ some n
+    → (lo ≤ n) × (n ≤ hi)
+lowest-between lo hi cs n h e =
+    let b : (leb lo n && leb n hi) ≡ true = lowest-number (λ i. leb lo i && leb i hi) cs n h e in
+    (leb-true lo n (and-left (leb lo n) (leb n hi) b), leb-true n hi (and-right (leb lo n) (leb n hi) b))
+
+-- Where no check applies, the first does not, and none of the rest.
+pub lowest-none : (c : Check) (cs : List Check) → lowest (c ∷ cs) ≡ none → (c .applies ≡ false) × (lowest cs ≡ none)
+unfolding lowest
+lowest-none c cs = go (c .applies)
+  where
+    go : (t : Bool) → cond t (some (c .number)) (lowest cs) ≡ none → (t ≡ false) × (lowest cs ≡ none)
+    go true h = (cc, cc)
+    go false h = (refl, h)
+
+-- The other way round.
+pub none-lowest : (c : Check) (cs : List Check) → c .applies ≡ false → lowest cs ≡ none → lowest (c ∷ cs) ≡ none
+unfolding lowest
+none-lowest c cs a h = rw a h
+
+-- what is known where none of 13 to 18 applies
+pub record Clear (form : Form) (count : Count) (ws : List Word) (scanned : Option (List Given)) (c : Command) : Type 0 where
+  pub counted : not (countFits count (length ws)) ≡ false
+  pub short : tooLong c ≡ false
+  pub clean : orElse scanned true conflicting ≡ false
+  pub readable : not (orElse (numberRange form) true (λ r. readable r (wordAt 3 ws)) && all readableOperand (Option·getD scanned [])) ≡ false
+  pub versioned : onDeed (λ d. isZero (deedVersioning d)) c ≡ false
+  pub timed : onDeed (λ d. beyond (deedLifetime d)) c ≡ false
+
+pub checks-clear : (form : Form) (count : Count) (ws : List Word) (scanned : Option (List Given)) (c : Command)
+    → lowest (checks form count ws scanned c) ≡ none → Clear form count ws scanned c
+unfolding checks
+checks-clear form count ws scanned c h =
+    let a = lowest-none _ _ h in
+    let b = lowest-none _ _ (a .1) in
+    let d = lowest-none _ _ (b .1) in
+    let e = lowest-none _ _ (d .1) in
+    let f = lowest-none _ _ (e .1) in
+    let g = lowest-none _ _ (f .1) in
+    record { counted = a .0; short = b .0; clean = d .0; readable = e .0; versioned = f .0; timed = g .0 }
+
+-- ---- the ways in which a command is read
+
+abbrev pub givenIn : CommandRow → List Word → Option (List Given)
+givenIn r ws = scan (allowed (r .form)) none (optionWords (r .form) ws)
+
+abbrev pub builtOf : ℕ → CommandRow → List Word → Command
+builtOf now r ws = build now (r .form) ws (Option·getD (givenIn r ws) [])
+
+abbrev pub checksOf : ℕ → CommandRow → List Word → List Check
+checksOf now r ws = checks (r .form) (r .count) ws (givenIn r ws) (builtOf now r ws)
+
+-- not the protocol's array, the clock out of range, no command of that name, refused by 13 to 18, or accepted
+pub data Reads (now clock : ℕ) (s : List ℕ) : Parsed → Type 0 where
+  damaged : wordsOf s ≡ none → Reads now clock s (refused 10)
+  clockOut : (ws : List Word) → wordsOf s ≡ some ws → timeLimit ≤ clock → Reads now clock s (refused 11)
+  unknown : (ws : List Word) → wordsOf s ≡ some ws → clock < timeLimit → commandNamed commands (wordAt 0 ws) ≡ none → Reads now clock s (refused 12)
+  checked :
+    (ws : List Word) (r : CommandRow) (n : ℕ) → wordsOf s ≡ some ws → clock < timeLimit → commandNamed commands (wordAt 0 ws) ≡ some r
+    → lowest (checksOf now r ws) ≡ some n → Reads now clock s (refused n)
+  passed :
+    (ws : List Word) (r : CommandRow) → wordsOf s ≡ some ws → clock < timeLimit → commandNamed commands (wordAt 0 ws) ≡ some r
+    → lowest (checksOf now r ws) ≡ none → Reads now clock s (accepted (builtOf now r ws))
+
+reads-row : (now clock : ℕ) (s : List ℕ) (ws : List Word) (r : CommandRow) → wordsOf s ≡ some ws → clock < timeLimit
+    → commandNamed commands (wordAt 0 ws) ≡ some r → Reads now clock s (parseWords now r ws)
+unfolding parseWords orElse
+reads-row now clock s ws r w k m = go (lowest (checksOf now r ws)) refl
+  where
+    go : (o : Option ℕ) → lowest (checksOf now r ws) ≡ o → Reads now clock s (orElse o (accepted (builtOf now r ws)) refused)
+    go none e = passed ws r w k m e
+    go (some n) e = checked ws r n w k m e
+
+reads-named : (now clock : ℕ) (s : List ℕ) (ws : List Word) → wordsOf s ≡ some ws → clock < timeLimit
+    → Reads now clock s (orElse (commandNamed commands (wordAt 0 ws)) (refused 12) λ r. parseWords now r ws)
+unfolding orElse
+reads-named now clock s ws w k = go (commandNamed commands (wordAt 0 ws)) refl
+  where
+    go : (o : Option CommandRow) → commandNamed commands (wordAt 0 ws) ≡ o → Reads now clock s (orElse o (refused 12) λ r. parseWords now r ws)
+    go none e = unknown ws w k e
+    go (some r) e = reads-row now clock s ws r w k e
+
+-- Every command is read in one of the five ways.
+pub reads : (now clock : ℕ) (s : List ℕ) → Reads now clock s (parse now clock s)
+unfolding parse orElse
+reads now clock s = go (wordsOf s) refl
+  where
+    at : (ws : List Word) (t : Bool) → wordsOf s ≡ some ws → leb timeLimit clock ≡ t
+        → Reads now clock s (cond t (refused 11) (orElse (commandNamed commands (wordAt 0 ws)) (refused 12) λ r. parseWords now r ws))
+    at ws true e f = clockOut ws e (leb-true timeLimit clock f)
+    at ws false e f = reads-named now clock s ws e (leb-false timeLimit clock f)
+    go : (o : Option (List Word)) → wordsOf s ≡ o
+        → Reads now clock s
+        (orElse o (refused 10) λ ws.
+        cond (leb timeLimit clock) (refused 11)
+        (orElse (commandNamed commands (wordAt 0 ws)) (refused 12) λ r. parseWords now r ws))
+    go none e = damaged e
+    go (some ws) e = at ws (leb timeLimit clock) e refl
+
+-- A command that is refused when it is read is refused with one of 10 to 18.
+pub reads-refused : {now clock : ℕ} {s : List ℕ} {p : Parsed} (n : ℕ) → Reads now clock s p → p ≡ refused n → (10 ≤ n) × (n ≤ 18)
+unfolding checks all
+reads-refused n (damaged w) e = let m : n ≡ 10 = cc in omega arith
+reads-refused n (clockOut ws w k) e = let m : n ≡ 11 = cc in omega arith
+reads-refused n (unknown ws w k m) e = let m : n ≡ 12 = cc in omega arith
+reads-refused {now} n (checked ws r k w c m l) e =
+    let b : (10 ≤ k) × (k ≤ 18) = lowest-between 10 18 (checksOf now r ws) k refl l in
+    let m : k ≡ n = cc in
+    omega arith
+reads-refused n (passed ws r w k m l) e = let z : _≡_ {A = ℕ} 0 1 = cc in omega arith
+
+pub parse-refused : (now clock : ℕ) (s : List ℕ) (n : ℕ) → parse now clock s ≡ refused n → (10 ≤ n) × (n ≤ 18)
+parse-refused now clock s n e = reads-refused n (reads now clock s) e
+
+-- what an accepted command has passed
+pub record Accepted (now clock : ℕ) (s : List ℕ) (c : Command) : Type 0 where
+  pub words : List Word
+  pub row : CommandRow
+  pub split : wordsOf s ≡ some words
+  pub early : clock < timeLimit
+  pub named : commandNamed commands (wordAt 0 words) ≡ some row
+  pub clear : lowest (checksOf now row words) ≡ none
+  pub built : builtOf now row words ≡ c
+
+not-both : {A : Type 0} (n : ℕ) (c : Command) → refused n ≡ accepted c → A
+not-both n c e = let z : _≡_ {A = ℕ} 0 1 = cc in absurd (omega arith)
+
+pub parse-accepted : (now clock : ℕ) (s : List ℕ) (c : Command) → parse now clock s ≡ accepted c → Accepted now clock s c
+parse-accepted now clock s c = go (reads now clock s)
+  where
+    go : {p : Parsed} → Reads now clock s p → p ≡ accepted c → Accepted now clock s c
+    go (damaged w) e = not-both 10 c e
+    go (clockOut ws w k) e = not-both 11 c e
+    go (unknown ws w k m) e = not-both 12 c e
+    go (checked ws r n w k m l) e = not-both n c e
+    go (passed ws r w k m l) e =
+        record { words = ws; row = r; split = w; early = k; named = m; clear = l; built = cc }
