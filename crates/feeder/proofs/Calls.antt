@@ -15,6 +15,7 @@ use Rattle.wire.specs.Bytes.{Bytes}
 use Rattle.wire.proofs.Bytes.{bytes-append, bytes-take, bytes-drop, bytes-part, bytes-tail}
 use Rattle.store.specs.Store.{wellFormed}
 use Rattle.commands.specs.Execute.{Done, execBytes}
+use Rattle.commands.proofs.Keeps.{execBytes-well}
 use Rattle.feeder.specs.declared.Feeder.{Feeder}
 use Rattle.feeder.specs.Record.{Record, Head, headOf, recordOf, commandAt}
 use Rattle.feeder.specs.Record.Head.{skip, whole, wait}
@@ -24,28 +25,27 @@ use Rattle.feeder.specs.Calls.{Call, AllBytes, Total, begin, tally, answ
 use Rattle.feeder.proofs.Divide.{divide-more, rest-waits, do-more}
 use Rattle.feeder.proofs.Call.{waiting-back, rest-left, Took, taken}
 
-module _ (keeps : (clock : ℕ) (command b : List ℕ) → Bytes command → wellFormed b ≡ true → wellFormed (execBytes clock command b .store) ≡ true) where
-  -- the records of bytes keep a store well formed
-  records-well : (k : ℕ) (s : List ℕ) → Bytes s → (b : List ℕ) → wellFormed b ≡ true
-      → wellFormed (doAll (divideAfter k s .records) b .store) ≡ true
-  unfolding divideAfter dividedAt doAll recordOf
-  records-well k [] bs b well = well
-  records-well (suc k) (x ∷ s) bs b well = records-well k s (bytes-tail x s bs) b well
-  records-well zero (x ∷ s) bs b well = go (headOf (x ∷ s)) (λ k. records-well k s (bytes-tail x s bs))
-    where
-      go : (h : Head) → ((k : ℕ) (b : List ℕ) → wellFormed b ≡ true → wellFormed (doAll (divideAfter k s .records) b .store) ≡ true)
-          → wellFormed (doAll (dividedAt h (x ∷ s) (λ k. divideAfter k s) .records) b .store) ≡ true
-      go skip ih = ih 0 b well
-      go (whole n) ih =
-          ih (11 + n)
-          (execBytes (recordOf n (x ∷ s) .clock) (recordOf n (x ∷ s) .command) b .store)
-          (keeps (recordOf n (x ∷ s) .clock) (recordOf n (x ∷ s) .command) b (bytes-part commandAt n (x ∷ s) bs) well)
-      go wait ih = well
+-- the records of bytes keep a store well formed
+records-well : (k : ℕ) (s : List ℕ) → Bytes s → (b : List ℕ) → wellFormed b ≡ true
+    → wellFormed (doAll (divideAfter k s .records) b .store) ≡ true
+unfolding divideAfter dividedAt doAll recordOf
+records-well k [] bs b well = well
+records-well (suc k) (x ∷ s) bs b well = records-well k s (bytes-tail x s bs) b well
+records-well zero (x ∷ s) bs b well = go (headOf (x ∷ s)) (λ k. records-well k s (bytes-tail x s bs))
+  where
+    go : (h : Head) → ((k : ℕ) (b : List ℕ) → wellFormed b ≡ true → wellFormed (doAll (divideAfter k s .records) b .store) ≡ true)
+        → wellFormed (doAll (dividedAt h (x ∷ s) (λ k. divideAfter k s) .records) b .store) ≡ true
+    go skip ih = ih 0 b well
+    go (whole n) ih =
+        ih (11 + n)
+        (execBytes (recordOf n (x ∷ s) .clock) (recordOf n (x ∷ s) .command) b .store)
+        (execBytes-well (recordOf n (x ∷ s) .clock) (recordOf n (x ∷ s) .command) b (bytes-part commandAt n (x ∷ s) bs) well)
+    go wait ih = well
 
-  -- a stream of bytes keeps a store well formed
-  pub meaning-well : (s b : List ℕ) → Bytes s → wellFormed b ≡ true → wellFormed (meaning s b .store) ≡ true
-  unfolding meaning divide
-  meaning-well s b bs well = records-well 0 s bs b well
+-- a stream of bytes keeps a store well formed
+pub meaning-well : (s b : List ℕ) → Bytes s → wellFormed b ≡ true → wellFormed (meaning s b .store) ≡ true
+unfolding meaning divide
+meaning-well s b bs well = records-well 0 s bs b well
 
 -- calls in two goes
 call-more : (t : Total) (cs ds : List Call) → callAll t (cs ++ ds) ≡ callAll (callAll t cs) ds
@@ -120,11 +120,10 @@ module _ (b : List ℕ) (t : Total) (c : Call) (r : Reached b t) where
         ends (inl e) = inl e
         ends (inr e) = inr (rw (divide-more (t .used) y) (rw (length-append, e, add-one)))
 
-module _ (keeps : (clock : ℕ) (command b : List ℕ) → Bytes command → wellFormed b ≡ true → wellFormed (execBytes clock command b .store) ≡ true)
-    (b : List ℕ) (well : wellFormed b ≡ true) where
+module _ (b : List ℕ) (well : wellFormed b ≡ true) where
   -- a total that agrees over bytes is reached
   reached : (t : Total) → Agrees b t → Bytes (t .used) → Reached b t
-  reached t g bs = record { agrees = g; bytes = bs; well = rw (g .store) (meaning-well keeps (t .used) b bs well) }
+  reached t g bs = record { agrees = g; bytes = bs; well = rw (g .store) (meaning-well (t .used) b bs well) }
 
   module _ (t : Total) (c : Call) (r : Reached b t) where
     abbrev rest : List ℕ

@@ -1,8 +1,9 @@
 -- The laws of the feeder; Demands is the page to open first.
 pub mod Computing
+pub mod Examples
 pub mod Head
 pub mod Divide
 pub mod First
 pub mod Call
 pub mod Calls
-pub mod Examples
+pub mod Refusals
