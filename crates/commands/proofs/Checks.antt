@@ -111,11 +111,11 @@ pub data Reads (now clock : ℕ) (s : List ℕ) : Parsed → Type 0 where
   clockOut : (ws : List Word) → wordsOf s ≡ some ws → timeLimit ≤ clock → Reads now clock s (refused 11)
   unknown : (ws : List Word) → wordsOf s ≡ some ws → clock < timeLimit → commandNamed commands (wordAt 0 ws) ≡ none → Reads now clock s (refused 12)
   checked :
-    (ws : List Word) (r : CommandRow) (n : ℕ) → wordsOf s ≡ some ws → clock < timeLimit → commandNamed commands (wordAt 0 ws) ≡ some r
-    → lowest (checksOf now r ws) ≡ some n → Reads now clock s (refused n)
+      (ws : List Word) (r : CommandRow) (n : ℕ) → wordsOf s ≡ some ws → clock < timeLimit → commandNamed commands (wordAt 0 ws) ≡ some r
+      → lowest (checksOf now r ws) ≡ some n → Reads now clock s (refused n)
   passed :
-    (ws : List Word) (r : CommandRow) → wordsOf s ≡ some ws → clock < timeLimit → commandNamed commands (wordAt 0 ws) ≡ some r
-    → lowest (checksOf now r ws) ≡ none → Reads now clock s (accepted (builtOf now r ws))
+      (ws : List Word) (r : CommandRow) → wordsOf s ≡ some ws → clock < timeLimit → commandNamed commands (wordAt 0 ws) ≡ some r
+      → lowest (checksOf now r ws) ≡ none → Reads now clock s (accepted (builtOf now r ws))
 
 reads-row : (now clock : ℕ) (s : List ℕ) (ws : List Word) (r : CommandRow) → wordsOf s ≡ some ws → clock < timeLimit
     → commandNamed commands (wordAt 0 ws) ≡ some r → Reads now clock s (parseWords now r ws)
@@ -144,6 +144,7 @@ reads now clock s = go (wordsOf s) refl
         → Reads now clock s (cond t (refused 11) (orElse (commandNamed commands (wordAt 0 ws)) (refused 12) λ r. parseWords now r ws))
     at ws true e f = clockOut ws e (leb-true timeLimit clock f)
     at ws false e f = reads-named now clock s ws e (leb-false timeLimit clock f)
+
     go : (o : Option (List Word)) → wordsOf s ≡ o
         → Reads now clock s
         (orElse o (refused 10) λ ws.

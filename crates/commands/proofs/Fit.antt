@@ -152,10 +152,11 @@ deed-short now ss k f (set v c n t) found h o =
     (omega (arith, few-short (orElse found 1 (λ e. 0)) (one-most found)))
 deed-short now ss k f (increment a l g n t) found h o =
     let sum : ℤ = Option·getD (counted found) (pos 0) +ℤ a in
-    omega
-    (arith,
-    length-integer64 sum
-    (and-left (within lowest64 highest64 sum) (within l g sum) (not-false (within lowest64 highest64 sum && within l g sum) o)))
+    omega (
+      arith,
+      length-integer64 sum
+          (and-left (within lowest64 highest64 sum) (within l g sum) (not-false (within lowest64 highest64 sum && within l g sum) o)),
+    )
 deed-short now ss k f (expire t n) none h o = omega (arith, few-short 0 (omega arith))
 deed-short now ss k f (expire t n) (some e) h o = omega (arith, few-short 1 (omega arith))
 deed-short now ss k f persist none h o = omega (arith, few-short 0 (omega arith))
@@ -232,10 +233,11 @@ unfolding effect fieldsOf
 effect-short now (onField k f d) ss h n few o = omega (arith, deed-short now ss k f d (entryOf k f ss) (found-fits k f ss h) o)
 effect-short now (setMany k ps) ss h n few o = omega (arith, ok-short)
 effect-short now (getMany k fs q) ss h n few o =
-    omega
-    (arith,
-    many-short (λ f. reply now ss k q (entryOf k f ss)) fs few
-    (λ f. answer-short now ss k q (entryOf k f ss) (found-fits k f ss h)))
+    omega (
+      arith,
+      many-short (λ f. reply now ss k q (entryOf k f ss)) fs few
+          (λ f. answer-short now ss k q (entryOf k f ss) (found-fits k f ss h)),
+    )
 effect-short now (delete k fs) ss h n few o = omega (arith, count-short (λ s. any (λ f. holds k f s) fs) ss n)
 effect-short now (countHeld k) ss h n few o = omega (arith, count-short (ofKey k) ss n)
 effect-short now (countLive k) ss h n few o = omega (arith, count-short (liveOfKey now k) ss n)

@@ -52,9 +52,11 @@ full-late now e ss = (there, back)
   where
     there : lowest (lateChecks now e ss) ≡ some 24 → Proper e × (room now ss < added (e .changes) ss)
     there h =
-        let r = only-last (e .stale) (e .notInteger) (e .overflows) (any passes (e .changes)) (ltb (room now ss) (added (e .changes) ss)) h in
-        (record { fresh = r .0; integral = r .1; bounded = r .2; numbered = r .3 },
-        ltb-true (room now ss) (added (e .changes) ss) (r .4))
+        let r = only-last (e .stale) (e .notInteger) (e .overflows) (any passes (e .changes)) (ltb (room now ss) (added (e .changes) ss)) h in (
+          record { fresh = r .0; integral = r .1; bounded = r .2; numbered = r .3 },
+          ltb-true (room now ss) (added (e .changes) ss) (r .4),
+        )
+
     back : Proper e × (room now ss < added (e .changes) ss) → lowest (lateChecks now e ss) ≡ some 24
     back f = rw (f .0 .fresh, f .0 .integral, f .0 .bounded, f .0 .numbered, lt-ltb (room now ss) (added (e .changes) ss) (f .1))
 

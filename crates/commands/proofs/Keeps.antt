@@ -26,7 +26,6 @@ use Rattle.commands.proofs.Full.{Proper, proper}
 use Rattle.commands.proofs.Sound.{Sound, parse-sound, parse-clock}
 use Rattle.commands.proofs.Writes.{Kept, without-kept, changes-kept, effect-writable}
 
-
 -- The sweep keeps the slots of a valid store.
 pub sweep-kept : (now : ℕ) (c : Command) (n : ℕ) (ss : List Slot) → Kept n ss → Kept n (sweep now c ss)
 unfolding sweep
@@ -50,6 +49,7 @@ exec-valid clock command s b v = go (went clock command s)
     swept : (c : Command) → Kept (length (s .slots)) (sweptBy (nowAt clock s) c s)
     swept c =
         sweep-kept (nowAt clock s) c (length (s .slots)) (s .slots) (record { count = refl; fits = v .fits; apart = v .apart })
+
     valid : (c : Command) (ss : List Slot) → parse (nowAt clock s) clock command ≡ accepted c → Kept (length (s .slots)) ss
         → Valid (storeOf (nowAt clock s) ss)
     valid c ss p k =
@@ -60,6 +60,7 @@ exec-valid clock command s b v = go (went clock command s)
           fits = k .fits;
           apart = k .apart;
         }
+
     go : {o : Outcome} → Went clock command s o → Valid (o .store)
     go (early n p) = v
     go (late c n p l) = valid c (sweptBy (nowAt clock s) c s) p (swept c)

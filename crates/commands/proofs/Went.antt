@@ -43,11 +43,11 @@ doing now c s =
 pub data Went (clock : ℕ) (command : List ℕ) (s : Store) : Outcome → Type 0 where
   early : (n : ℕ) → parse (nowAt clock s) clock command ≡ refused n → Went clock command s (refusing n s)
   late :
-    (c : Command) (n : ℕ) → parse (nowAt clock s) clock command ≡ accepted c → lateRefusal (nowAt clock s) c s ≡ some n
-    → Went clock command s (refusing n (storeOf (nowAt clock s) (sweptBy (nowAt clock s) c s)))
+      (c : Command) (n : ℕ) → parse (nowAt clock s) clock command ≡ accepted c → lateRefusal (nowAt clock s) c s ≡ some n
+      → Went clock command s (refusing n (storeOf (nowAt clock s) (sweptBy (nowAt clock s) c s)))
   done :
-    (c : Command) → parse (nowAt clock s) clock command ≡ accepted c → lateRefusal (nowAt clock s) c s ≡ none
-    → Went clock command s (doing (nowAt clock s) c s)
+      (c : Command) → parse (nowAt clock s) clock command ≡ accepted c → lateRefusal (nowAt clock s) c s ≡ none
+      → Went clock command s (doing (nowAt clock s) c s)
 
 -- an accepted command: refused late, or done
 went-accepted : (clock : ℕ) (command : List ℕ) (s : Store) (c : Command) → parse (nowAt clock s) clock command ≡ accepted c

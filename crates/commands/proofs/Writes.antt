@@ -186,9 +186,10 @@ pairs-writable : (now : ℕ) (k : Word) (ps : List Pair) (ss : List Slot) → Sh
 unfolding writesOf nextExpiry instantOf
 pairs-writable now k [] ss hk hf hv = tt
 pairs-writable now k (p ∷ ps) ss hk hf hv =
-    let e : Entry = written k (p .field) (p .value) Next Clear (entryOf k (p .field) ss) in
-    (writing-fits k (p .field) (p .value) Next Clear (entryOf k (p .field) ss) hk (hf 0) (hv 0) (omega arith),
-    pairs-writable now k ps (put now e ss) hk (λ i. hf (suc i)) (λ i. hv (suc i)))
+    let e : Entry = written k (p .field) (p .value) Next Clear (entryOf k (p .field) ss) in (
+      writing-fits k (p .field) (p .value) Next Clear (entryOf k (p .field) ss) hk (hf 0) (hv 0) (omega arith),
+      pairs-writable now k ps (put now e ss) hk (λ i. hf (suc i)) (λ i. hv (suc i)),
+    )
 
 removes-writable : (k : Word) (fs : List Word) → AllWritable (map (remove k) fs)
 removes-writable k [] = tt

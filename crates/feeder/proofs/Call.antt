@@ -38,15 +38,15 @@ unfolding isLeft every stateOf
 rest-left s bs =
     let r : List ℕ = divide s .rest in
     let short : length r ≤ waitingMost = rest-short s in
-    rw
-    ( bytes-padded waitingMost r (rest-bytes s bs)
-    , eq-eqb (length (padded waitingMost r)) waitingMost (length-padded waitingMost r short)
-    , le-leb (length r) waitingMost short
-    , waiting-back r
-    , rest-waits s
-    , same-refl r
-    , drop-padded waitingMost r
-    , zero-replicate (waitingMost - length r)
+    rw (
+      bytes-padded waitingMost r (rest-bytes s bs),
+      eq-eqb (length (padded waitingMost r)) waitingMost (length-padded waitingMost r short),
+      le-leb (length r) waitingMost short,
+      waiting-back r,
+      rest-waits s,
+      same-refl r,
+      drop-padded waitingMost r,
+      zero-replicate (waitingMost - length r),
     )
 
 -- ---- bytes taken
@@ -97,16 +97,16 @@ module _ (w piece : List ℕ) where
     absorbed : firstRecord (w ++ offered piece) ≡ none → Took w piece b (absorbing (w ++ offered piece) (length (offered piece)) b buffer)
     unfolding absorbing doAll
     absorbed e =
-        record
-        { refusal = refl
-        ; within = omega arith
-        ; none-before = λ v l. early v (omega arith) (λ q f. absurd (never q f))
-        ; stops = inl refl
-        ; some-used = λ l. omega (arith, offers l)
-        ; skipped = rw all-offered
-        ; feeder = rw all-offered
-        ; replies = rw (all-offered, first-none (w ++ offered piece) e)
-        ; store = rw (all-offered, first-none (w ++ offered piece) e)
+        record {
+          refusal = refl;
+          within = omega arith;
+          none-before = λ v l. early v (omega arith) (λ q f. absurd (never q f));
+          stops = inl refl;
+          some-used = λ l. omega (arith, offers l);
+          skipped = rw all-offered;
+          feeder = rw all-offered;
+          replies = rw (all-offered, first-none (w ++ offered piece) e);
+          store = rw (all-offered, first-none (w ++ offered piece) e);
         }
       where
         never : (q : Place) → First (w ++ offered piece) q → ⊥
@@ -162,16 +162,16 @@ module _ (w piece : List ℕ) where
       → Took w piece b (completing (w ++ offered piece) (length w) p b buffer)
   unfolding completing doAll laidOver fresh
   completed b buffer waits p f =
-      record
-      { refusal = refl
-      ; within = inside waits p f
-      ; none-before = λ v l. early v (omega (arith, inside waits p f)) (λ q g. first-end v l q g)
-      ; stops = inr (rw (up-to-end waits p f))
-      ; some-used = λ l. omega (arith, beyond waits p f)
-      ; skipped = rw (up-to-end waits p f)
-      ; feeder = rw (up-to-end waits p f)
-      ; replies = rw (up-to-end waits p f) (take-append-seam reply (drop (length reply) buffer) ∙ sym (append-nil reply))
-      ; store = rw (up-to-end waits p f)
+      record {
+        refusal = refl;
+        within = inside waits p f;
+        none-before = λ v l. early v (omega (arith, inside waits p f)) (λ q g. first-end v l q g);
+        stops = inr (rw (up-to-end waits p f));
+        some-used = λ l. omega (arith, beyond waits p f);
+        skipped = rw (up-to-end waits p f);
+        feeder = rw (up-to-end waits p f);
+        replies = rw (up-to-end waits p f) (take-append-seam reply (drop (length reply) buffer) ∙ sym (append-nil reply));
+        store = rw (up-to-end waits p f);
       }
     where
       reply : List ℕ

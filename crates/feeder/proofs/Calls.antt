@@ -21,7 +21,7 @@ use Rattle.feeder.specs.Record.{Record, Head, headOf, recordOf, commandA
 use Rattle.feeder.specs.Record.Head.{skip, whole, wait}
 use Rattle.feeder.specs.Stream.{Division, dividedAt, divideAfter, divide, doAll, meaning}
 use Rattle.feeder.specs.Feed.{bufferLeast, stateOf, fresh, Answer, refusing, taking, feed, offered}
-use Rattle.feeder.specs.Calls.{Call, AllBytes, Total, begin, tally, answerTo, callAll, Agrees, Uses, Answered, offering, offeringAll}
+use Rattle.feeder.specs.Calls.{Call, AllBytes, Total, begin, tally, answerTo, callAll, uncut, Uses, Answered, offering, offeringAll}
 use Rattle.feeder.proofs.Divide.{divide-more, rest-waits, do-more}
 use Rattle.feeder.proofs.Call.{waiting-back, rest-left, Took, taken}
 
@@ -63,6 +63,18 @@ clash l h = absurd (let none : ⊥ = omega arith in none)
 
 -- ---- one call after a list of calls
 
+-- what calls have come to is what the definition gives for the bytes used, part by part
+pub record Agrees (b : List ℕ) (t : Total) : Type 0 where
+  pub replies : t .replies ≡ meaning (t .used) b .replies
+  pub skipped : t .skipped ≡ meaning (t .used) b .skipped
+  pub waiting : t .feeder ≡ stateOf (meaning (t .used) b .rest)
+  pub store : t .store ≡ meaning (t .used) b .store
+
+pub agrees-uncut : {b : List ℕ} {t : Total} → Agrees b t → t ≡ uncut (t .used) b
+unfolding uncut
+agrees-uncut {t = t} g =
+    λ i. record { used = t .used; replies = g .replies i; skipped = g .skipped i; feeder = g .waiting i; store = g .store i }
+
 -- what calls have come to: they agree with the definition, over bytes, and the store is well formed
 pub record Reached (b : List ℕ) (t : Total) : Type 0 where
   pub agrees : Agrees b t
@@ -100,19 +112,19 @@ module _ (b : List ℕ) (t : Total) (c : Call) (r : Reached b t) where
     taken-agrees : Agrees b (tally t c a)
     unfolding tally meaning
     taken-agrees =
-        record
-        { replies = rw both
-        ; skipped = rw (divide-more (t .used) y) (ap₂ (λ (m n : ℕ). m + n) (r .agrees .skipped) (k .skipped))
-        ; waiting = rw (divide-more (t .used) y) (k .feeder)
-        ; store = rw both
+        record {
+          replies = rw both;
+          skipped = rw (divide-more (t .used) y) (ap₂ (λ (m n : ℕ). m + n) (r .agrees .skipped) (k .skipped));
+          waiting = rw (divide-more (t .used) y) (k .feeder);
+          store = rw both;
         }
 
     taken-uses : Uses (t .used) (c .piece) (a .fed .used)
     taken-uses =
-        record
-        { within = k .within
-        ; none-before = λ v l. rw (divide-more (t .used) (take v (c .piece)), k .none-before v l) (append-nil (divide (t .used) .records))
-        ; stops = ends (k .stops)
+        record {
+          within = k .within;
+          none-before = λ v l. rw (divide-more (t .used) (take v (c .piece)), k .none-before v l) (append-nil (divide (t .used) .records));
+          stops = ends (k .stops);
         }
       where
         ends : (a .fed .used ≡ length (offered (c .piece))) ⊎ (length (divide (w ++ y) .records) ≡ 1)
@@ -145,11 +157,11 @@ module _ (b : List ℕ) (well : wellFormed b ≡ true) where
             let l : length (c .buffer) < bufferLeast = ltb-true (length (c .buffer)) bufferLeast e in
             record { refused = λ h. refl; accepted = λ h. clash l h; uses = λ h. clash l h; some-used = λ h p. clash l h }
         go false e =
-            record
-            { refused = λ h. clash h (ltb-false (length (c .buffer)) bufferLeast e)
-            ; accepted = λ h. how .refusal
-            ; uses = λ h. taken-uses b t c r took how
-            ; some-used = λ h p. how .some-used p
+            record {
+              refused = λ h. clash h (ltb-false (length (c .buffer)) bufferLeast e);
+              accepted = λ h. how .refusal;
+              uses = λ h. taken-uses b t c r took how;
+              some-used = λ h p. how .some-used p;
             }
 
     -- and what the calls with it have come to is reached
@@ -210,7 +222,7 @@ module _ (b : List ℕ) (well : wellFormed b ≡ true) where
                 let some : 1 ≤ u = call-answered t c r .some-used large (rw e (omega arith)) in
                 rw length-drop (omega arith)
 
-    offeringAll-bytes : (ps : List (List ℕ)) (t : Total) → ((i : ℕ) → Bytes (getD ps i [])) → AllBytes (offeringAll buffer ps t)
+    pub offeringAll-bytes : (ps : List (List ℕ)) (t : Total) → ((i : ℕ) → Bytes (getD ps i [])) → AllBytes (offeringAll buffer ps t)
     unfolding offeringAll
     offeringAll-bytes [] t bs = tt
     offeringAll-bytes (p ∷ ps) t bs =

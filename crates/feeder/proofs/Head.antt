@@ -93,27 +93,27 @@ pub head-cases : (P : Head → Type 0) (s : List ℕ)
 unfolding headOf
 head-cases P s skips waits wholes =
     first (not (eqb (getD s 0 0) firstMark)) (ltb (length s) 2) refl
-    where
-      n : ℕ
-      n = commandLength s
+  where
+    n : ℕ
+    n = commandLength s
 
-      third : (e f : Bool) → ltb n 1 || ltb commandMost n ≡ e → ltb (length s) (commandAt + n) ≡ f → P (cond e skip (cond f wait (whole n)))
-      third true f p q = skips
-      third false true p q =
-          waits (omega (arith, ltb-true (length s) (commandAt + n) q, ltb-false commandMost n (or-right (ltb n 1) (ltb commandMost n) p)))
-      third false false p q = wholes (ltb-false (length s) (commandAt + n) q)
+    third : (e f : Bool) → ltb n 1 || ltb commandMost n ≡ e → ltb (length s) (commandAt + n) ≡ f → P (cond e skip (cond f wait (whole n)))
+    third true f p q = skips
+    third false true p q =
+        waits (omega (arith, ltb-true (length s) (commandAt + n) q, ltb-false commandMost n (or-right (ltb n 1) (ltb commandMost n) p)))
+    third false false p q = wholes (ltb-false (length s) (commandAt + n) q)
 
-      second : (c d : Bool) → ltb (length s) commandAt ≡ d
-          → P (cond c skip (cond d wait (cond (ltb n 1 || ltb commandMost n) skip (cond (ltb (length s) (commandAt + n)) wait (whole n)))))
-      second true d p = skips
-      second false true p = waits (omega (arith, ltb-true (length s) commandAt p))
-      second false false p = third (ltb n 1 || ltb commandMost n) (ltb (length s) (commandAt + n)) refl refl
+    second : (c d : Bool) → ltb (length s) commandAt ≡ d
+        → P (cond c skip (cond d wait (cond (ltb n 1 || ltb commandMost n) skip (cond (ltb (length s) (commandAt + n)) wait (whole n)))))
+    second true d p = skips
+    second false true p = waits (omega (arith, ltb-true (length s) commandAt p))
+    second false false p = third (ltb n 1 || ltb commandMost n) (ltb (length s) (commandAt + n)) refl refl
 
-      first : (a b : Bool) → ltb (length s) 2 ≡ b
-          → P (cond a skip (cond b wait (cond (not (eqb (getD s 1 0) secondMark)) skip (cond (ltb (length s) commandAt) wait (cond (ltb n 1 || ltb commandMost n) skip (cond (ltb (length s) (commandAt + n)) wait (whole n)))))))
-      first true b p = skips
-      first false true p = waits (omega (arith, ltb-true (length s) 2 p))
-      first false false p = second (not (eqb (getD s 1 0) secondMark)) (ltb (length s) commandAt) refl
+    first : (a b : Bool) → ltb (length s) 2 ≡ b
+        → P (cond a skip (cond b wait (cond (not (eqb (getD s 1 0) secondMark)) skip (cond (ltb (length s) commandAt) wait (cond (ltb n 1 || ltb commandMost n) skip (cond (ltb (length s) (commandAt + n)) wait (whole n)))))))
+    first true b p = skips
+    first false true p = waits (omega (arith, ltb-true (length s) 2 p))
+    first false false p = second (not (eqb (getD s 1 0) secondMark)) (ltb (length s) commandAt) refl
 
 -- a whole record lies in s
 pub whole-fits : (s : List ℕ) (n : ℕ) → headOf s ≡ whole n → commandAt + n ≤ length s
@@ -144,12 +144,12 @@ head-long s u l =
     let size : commandAt ≤ length (s ++ u) = rw (length-append s u) (omega arith) in
     let zeroth : 0 < length s = omega arith in
     let first : 1 < length s = omega arith in
-    rw
-    ( List·getD-append s u 0 0 zeroth
-    , List·getD-append s u 0 1 first
-    , length-more s u l
-    , le-ltb (length (s ++ u)) 2 (omega arith)
-    , le-ltb (length (s ++ u)) commandAt size
+    rw (
+      List·getD-append s u 0 0 zeroth,
+      List·getD-append s u 0 1 first,
+      length-more s u l,
+      le-ltb (length (s ++ u)) 2 (omega arith),
+      le-ltb (length (s ++ u)) commandAt size,
     )
 
 head-itself : (s : List ℕ) → commandAt ≤ length s → headOf s ≡ long s (length s)

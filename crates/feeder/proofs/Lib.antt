@@ -7,3 +7,4 @@ pub mod First
 pub mod Call
 pub mod Calls
 pub mod Refusals
+pub mod Demands

@@ -7,7 +7,7 @@ use Prim.Native.Nat.{ℕ, zero, suc, _+_, _≤_, _<_}
 use lib.ListN.{length, take, drop}
 use Rattle.wire.specs.Bytes.{Bytes}
 use Rattle.feeder.specs.declared.Feeder.{Feeder}
-use Rattle.feeder.specs.Stream.{divide, meaning}
+use Rattle.feeder.specs.Stream.{divide, Meaning, meaning}
 use Rattle.feeder.specs.Feed.{bufferLeast, Answer, refusing, feed, stateOf, fresh, offered}
 
 pub record Call : Type 0 where
@@ -48,13 +48,12 @@ unfoldable pub callAll : Total → List Call → Total
 callAll t [] = t
 callAll t (c ∷ cs) = callAll (tally t c (answerTo t c)) cs
 
--- "The joined replies, the total of bytes skipped, the bytes left waiting and the whole store are exactly those that the definition gives
--- for one uncut stream: the bytes used, joined in order." The state holds the waiting bytes, with zero after them.
-pub record Agrees (b : List ℕ) (t : Total) : Type 0 where
-  pub replies : t .replies ≡ meaning (t .used) b .replies
-  pub skipped : t .skipped ≡ meaning (t .used) b .skipped
-  pub waiting : t .feeder ≡ stateOf (meaning (t .used) b .rest)
-  pub store : t .store ≡ meaning (t .used) b .store
+-- what demand 3's definition gives for one uncut stream: "the joined replies, the total of bytes skipped, the bytes left waiting and the
+-- whole store"; the state holds the waiting bytes, with zero after them
+unfoldable pub uncut : List ℕ → List ℕ → Total
+uncut s b =
+    let m : Meaning = meaning s b in
+    record { used = s; replies = m .replies; skipped = m .skipped; feeder = stateOf (m .rest); store = m .store }
 
 -- "A call uses the first bytes of its piece: .. up to and with the last byte of the first record completed, but no further than the piece's
 -- end or 65,536 bytes." Said by the division of the stream: `stream` is what was used before the call.

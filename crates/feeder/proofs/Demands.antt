@@ -1,0 +1,162 @@
+-- The customer's three demands over the definitions: the page to open first. Each theorem has one plain sentence above it; the proofs are laws
+-- of the other files. `exec` is one record on what a store holds, `execBytes` the same on its bytes, `meaning` demand 3's definition of a whole
+-- stream, `feed` one feeding call.
+use mathlib.Core.Path.{_≡_, refl, sym, ap, _∙_}
+use mathlib.Core.Logic.{_≢_, _↔_}
+use mathlib.Core.Bool.{true, false}
+use mathlib.Core.List.{List, [], _∷_, _++_, map, flatten}
+use mathlib.Core.Option.{none, some}
+use Prim.Native.Nat.{ℕ, _+_, _*_, _≤_, _<_}
+use lib.IntN.{ℤ}
+use lib.ListN.{length, getD}
+use Rattle.wire.specs.Bytes.{Bytes, part}
+use Rattle.wire.specs.Integer.{within, readInteger, integerText}
+use Rattle.wire.specs.Words.{Word, wordsOf}
+use Rattle.wire.specs.Reply.{respOf}
+use Rattle.wire.proofs.Integer.{read-text, text-read}
+use Rattle.wire.proofs.Words.{words-respOf, respOf-words}
+use Rattle.store.specs.Layout.{headerSize, slotSize}
+use Rattle.store.specs.Store.{Entry, Store, decode, encode, wellFormed, slotCount}
+use Rattle.store.specs.Time.{nowAt, live}
+use Rattle.store.proofs.Valid.{Valid}
+use Rattle.store.proofs.Encode.{decode-encode, encode-decode, encode-well, decode-valid}
+use Rattle.commands.specs.Refusal.{errorLine}
+use Rattle.commands.specs.Command.{Command}
+use Rattle.commands.specs.Parse.{parse}
+use Rattle.commands.specs.Parse.Parsed.{accepted}
+use Rattle.commands.specs.Effect.{effect}
+use Rattle.commands.specs.Execute.{sweep, room, added, exec, execBytes}
+use Rattle.commands.specs.Examples.{given, expected, markedPresses}
+use Rattle.commands.proofs.Examples as commandExamples
+use Rattle.commands.proofs.Refused.{refused-reply, early-refusal, late-refusal, refused-keeps-live}
+use Rattle.commands.proofs.Clock.{Step, execAll, clock-forward, clock-is-now, clock-forward-all, dead-stays-dead}
+use Rattle.commands.proofs.Full.{Proper, full-exactly}
+use Rattle.commands.proofs.Keeps.{exec-valid, execBytes-well}
+use Rattle.feeder.specs.declared.Feeder.{Feeder}
+use Rattle.feeder.specs.Stream.{Meaning, meaning}
+use Rattle.feeder.specs.Feed.{bufferLeast, refusing, feed}
+use Rattle.feeder.specs.Calls.{Call, AllBytes, Total, begin, callAll, answerTo, uncut, Answered, offeringAll}
+use Rattle.feeder.proofs.Refusals as refusals
+use Rattle.feeder.proofs.Calls as calls
+
+-- ════ Demand 1: refusals
+
+-- A refused call uses no byte, skips none, hands its state back and changes no lent memory, whatever state, piece, store and buffer it got.
+pub refused-call : (f : Feeder) (piece b buffer : List ℕ) → feed f piece b buffer .fed .refusal ≢ 0
+    → feed f piece b buffer ≡ refusing (feed f piece b buffer .fed .refusal) f b buffer
+refused-call = refusals.refused-call
+
+-- The reply of a refused command is its line alone.
+pub refused-line : (clock : ℕ) (command : List ℕ) (s : Store) (n : ℕ) → exec clock command s .refusal ≡ some n
+    → exec clock command s .reply ≡ errorLine n
+refused-line = refused-reply
+
+-- A command refused by 10 to 18 leaves the store byte for byte, its clock too.
+pub early-refusal-leaves : (clock : ℕ) (command b : List ℕ) (n : ℕ) → wellFormed b ≡ true → exec clock command (decode b) .refusal ≡ some n
+    → n ≤ 18 → execBytes clock command b .store ≡ b
+early-refusal-leaves = refusals.early-bytes
+
+-- Any other refusal is one of 20 to 24; it sets the clock and removes the named dead entries, and does nothing else.
+pub late-refusal-leaves : (clock : ℕ) (command : List ℕ) (s : Store) (n : ℕ) → exec clock command s .refusal ≡ some n → 19 ≤ n
+    → (c : Command)
+    × (parse (nowAt clock s) clock command ≡ accepted c)
+    × (exec clock command s .store ≡ record { clock = nowAt clock s; slots = sweep (nowAt clock s) c (s .slots) })
+    × (20 ≤ n)
+    × (n ≤ 24)
+late-refusal-leaves = late-refusal
+
+-- A refused command keeps every entry that is live at its now, in its slot; the slot's bytes are as they were.
+pub refused-keeps : (clock : ℕ) (command : List ℕ) (s : Store) (n : ℕ) → exec clock command s .refusal ≡ some n
+    → (i : ℕ) (e : Entry) → getD (s .slots) i none ≡ some e → live (nowAt clock s) e ≡ true
+    → getD (exec clock command s .store .slots) i none ≡ some e
+refused-keeps = refused-keeps-live
+
+pub refused-keeps-bytes : (clock : ℕ) (command b : List ℕ) (n : ℕ) → Bytes command → wellFormed b ≡ true
+    → exec clock command (decode b) .refusal ≡ some n
+    → (i : ℕ) (e : Entry) → i < slotCount b → getD (decode b .slots) i none ≡ some e → live (nowAt clock (decode b)) e ≡ true
+    → part (headerSize + slotSize * i) slotSize (execBytes clock command b .store) ≡ part (headerSize + slotSize * i) slotSize b
+refused-keeps-bytes = refusals.live-bytes
+
+-- ════ Demand 2: commands
+
+-- Every record leaves a well-formed store well formed.
+pub stays-well-formed : (clock : ℕ) (command b : List ℕ) → Bytes command → wellFormed b ≡ true
+    → wellFormed (execBytes clock command b .store) ≡ true
+stays-well-formed = execBytes-well
+
+-- Store full is said exactly if none of 20 to 23 applies and fewer slots are empty or dead than the command would add fields.
+pub full-exactly-if : (clock : ℕ) (command : List ℕ) (s : Store) (c : Command) → parse (nowAt clock s) clock command ≡ accepted c
+    → let swept = sweep (nowAt clock s) c (s .slots) in
+    let e = effect (nowAt clock s) c swept in
+    (exec clock command s .refusal ≡ some 24) ↔ (Proper e × (room (nowAt clock s) swept < added (e .changes) swept))
+full-exactly-if = full-exactly
+
+-- A command that passes checks 10 to 18 sets the clock to now, and no record takes the clock back.
+pub clock-set : (clock : ℕ) (command : List ℕ) (s : Store) (c : Command) → parse (nowAt clock s) clock command ≡ accepted c
+    → exec clock command s .store .clock ≡ nowAt clock s
+clock-set = clock-is-now
+
+pub clock-never-back : (rs : List Step) (s : Store) → s .clock ≤ execAll rs s .clock
+clock-never-back = clock-forward-all
+
+-- An entry that is dead at the now of a record past checks 10 to 18 is live at no later record, whatever clock that record brings.
+pub dead-for-good : (r : Step) (rs : List Step) (next : Step) (s : Store) (c : Command) (e : Entry)
+    → parse (nowAt (r .clock) s) (r .clock) (r .command) ≡ accepted c → live (nowAt (r .clock) s) e ≡ false
+    → live (nowAt (next .clock) (execAll (r ∷ rs) s)) e ≡ false
+dead-for-good = dead-stays-dead
+
+-- No reply on a well-formed store is longer than 56,000 bytes, so a call's reply lies in its buffer.
+pub reply-fits : (clock : ℕ) (command b : List ℕ) → wellFormed b ≡ true → length (execBytes clock command b .reply) ≤ 56000
+reply-fits = refusals.reply-short
+
+pub buffer-stays : (f : Feeder) (piece b buffer : List ℕ) → length (feed f piece b buffer .buffer) ≡ length buffer
+buffer-stays = refusals.buffer-length
+
+-- P1 to P14.
+pub marked-presses : map given markedPresses ≡ map expected markedPresses
+marked-presses = commandExamples.marked-presses
+
+-- ════ Demand 3: any list of calls
+
+module _ (b : List ℕ) (well : wellFormed b ≡ true) where
+  -- From any well-formed store and a fresh feeder, after any list of calls with any pieces and any buffers, refused calls included: the joined
+  -- replies, the total skipped, the bytes left waiting and the whole store are those of the definition for the bytes used, joined.
+  pub demand-3 : (cs : List Call) → AllBytes cs → callAll (begin b) cs ≡ uncut (callAll (begin b) cs .used) b
+  demand-3 cs bytes = calls.agrees-uncut (calls.all-reached b well (begin b) cs bytes (calls.begin-reached b well) .agrees)
+
+  -- Each next call is refused only with 3, exactly if its buffer is under 56,000 bytes, and then changes nothing; 1 and 2 are never answered.
+  -- Else it uses as many bytes as the paper says, and at least one if its piece isn't empty.
+  pub demand-3-each : (cs : List Call) → AllBytes cs → (c : Call) → Answered (callAll (begin b) cs) c (answerTo (callAll (begin b) cs) c)
+  demand-3-each cs bytes c =
+      calls.call-answered b well (callAll (begin b) cs) c (calls.all-reached b well (begin b) cs bytes (calls.begin-reached b well))
+
+  -- Cutting a stream anywhere and offering each piece until it is used up uses the whole stream, so it gives the uncut answer.
+  pub demand-3-cut : (buffer : List ℕ) → bufferLeast ≤ length buffer → (pieces : List (List ℕ)) → ((i : ℕ) → Bytes (getD pieces i []))
+      → callAll (begin b) (offeringAll buffer pieces (begin b)) ≡ uncut (flatten pieces) b
+  unfolding begin
+  demand-3-cut buffer large pieces bytes =
+      demand-3 (offeringAll buffer pieces (begin b)) (calls.offeringAll-bytes b well buffer large pieces (begin b) bytes)
+      ∙ ap (λ (s : List ℕ). uncut s b) (calls.offeringAll-used b well buffer large pieces (begin b) bytes (calls.begin-reached b well))
+
+-- ════ Round trips
+
+-- An integer's text is read back, and a text that is read is the integer's text, within any bounds.
+pub integer-read-back : (lo hi z : ℤ) → within lo hi z ≡ true → readInteger lo hi (integerText z) ≡ some z
+integer-read-back = read-text
+
+pub integer-text-only : (lo hi : ℤ) (s : List ℕ) (z : ℤ) → readInteger lo hi s ≡ some z → integerText z ≡ s
+integer-text-only = text-read
+
+-- The words of a command are read back, and a command that is read is the array of its words.
+pub words-read-back : (ws : List Word) → 1 ≤ length ws → length ws ≤ 64 → wordsOf (respOf ws) ≡ some ws
+words-read-back = words-respOf
+
+pub words-array-only : (s : List ℕ) (ws : List Word) → wordsOf s ≡ some ws → s ≡ respOf ws
+words-array-only = respOf-words
+
+-- What a valid store holds is read back from its bytes, which are well formed; well-formed bytes are those of what they hold, which is valid.
+pub store-read-back : (s : Store) → Valid s → (wellFormed (encode s) ≡ true) × (decode (encode s) ≡ s)
+store-read-back s v = (encode-well s v, decode-encode s v)
+
+pub store-bytes-only : (b : List ℕ) → wellFormed b ≡ true → Valid (decode b) × (encode (decode b) ≡ b)
+store-bytes-only b well = (decode-valid b well, encode-decode b well)
