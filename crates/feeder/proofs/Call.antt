@@ -21,6 +21,7 @@ use Rattle.feeder.specs.declared.Feeder.{Feeder}
 use Rattle.feeder.specs.Record.{Record, recordOf, commandAt}
 use Rattle.feeder.specs.Stream.{Division, ended, divide, doAll, meaning}
 use Rattle.feeder.specs.Feed.{waitingMost, usedMost, bufferLeast, stateOf, fresh, waitingIn, isLeft, Place, firstRecord, Answer, refusing, absorbing, completing, offered, taking, feed}
+use Rattle.feeder.specs.Calls.{Untouched}
 use Rattle.feeder.proofs.Head.{record-more}
 use Rattle.feeder.proofs.Divide.{joined, goingOn, divide-more, rest-waits, rest-short, rest-bytes, do-more}
 use Rattle.feeder.proofs.First.{endOf, First, first-found, found-first, first-none, first-fits, first-more, first-fewer, first-divides, first-not-waiting}
@@ -48,6 +49,12 @@ rest-left s bs =
       drop-padded waitingMost r,
       zero-replicate (waitingMost - length r),
     )
+
+-- ---- refused
+
+pub refusing-leaves : (n : ℕ) (f : Feeder) (b buffer : List ℕ) → Untouched f b buffer (refusing n f b buffer)
+unfolding refusing
+refusing-leaves n f b buffer = record { used = refl; skipped = refl; replied = refl; feeder = refl; store = refl; same = refl }
 
 -- ---- bytes taken
 

@@ -23,7 +23,7 @@ use Rattle.feeder.specs.Stream.{Division, dividedAt, divideAfter, divide
 use Rattle.feeder.specs.Feed.{bufferLeast, stateOf, fresh, Answer, refusing, taking, feed, offered}
 use Rattle.feeder.specs.Calls.{Call, AllBytes, Total, begin, tally, answerTo, callAll, uncut, Uses, Answered, offering, offeringAll}
 use Rattle.feeder.proofs.Divide.{divide-more, rest-waits, do-more}
-use Rattle.feeder.proofs.Call.{waiting-back, rest-left, Took, taken}
+use Rattle.feeder.proofs.Call.{waiting-back, rest-left, refusing-leaves, Took, taken}
 
 -- the records of bytes keep a store well formed
 records-well : (k : ℕ) (s : List ℕ) → Bytes s → (b : List ℕ) → wellFormed b ≡ true
@@ -155,7 +155,7 @@ module _ (b : List ℕ) (well : wellFormed b ≡ true) where
             → Answered t c (cond small (refusing 3 (t .feeder) (t .store) (c .buffer)) took)
         go true e =
             let l : length (c .buffer) < bufferLeast = ltb-true (length (c .buffer)) bufferLeast e in
-            record { refused = λ h. refl; accepted = λ h. clash l h; uses = λ h. clash l h; some-used = λ h p. clash l h }
+            record { refused = λ h. (unfold refusing in refl, refusing-leaves 3 (t .feeder) (t .store) (c .buffer)); accepted = λ h. clash l h; uses = λ h. clash l h; some-used = λ h p. clash l h }
         go false e =
             record {
               refused = λ h. clash h (ltb-false (length (c .buffer)) bufferLeast e);

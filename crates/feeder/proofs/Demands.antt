@@ -34,16 +34,15 @@ use Rattle.commands.proofs.Full.{Proper, full-exactly}
 use Rattle.commands.proofs.Keeps.{exec-valid, execBytes-well}
 use Rattle.feeder.specs.declared.Feeder.{Feeder}
 use Rattle.feeder.specs.Stream.{Meaning, meaning}
-use Rattle.feeder.specs.Feed.{bufferLeast, refusing, feed}
-use Rattle.feeder.specs.Calls.{Call, AllBytes, Total, begin, callAll, answerTo, uncut, Answered, offeringAll}
+use Rattle.feeder.specs.Feed.{bufferLeast, feed}
+use Rattle.feeder.specs.Calls.{Call, AllBytes, Total, begin, callAll, answerTo, uncut, Untouched, Answered, offeringAll}
 use Rattle.feeder.proofs.Refusals as refusals
 use Rattle.feeder.proofs.Calls as calls
 
 -- ════ Demand 1: refusals
 
--- A refused call uses no byte, skips none, hands its state back and changes no lent memory, whatever state, piece, store and buffer it got.
-pub refused-call : (f : Feeder) (piece b buffer : List ℕ) → feed f piece b buffer .fed .refusal ≢ 0
-    → feed f piece b buffer ≡ refusing (feed f piece b buffer .fed .refusal) f b buffer
+-- A refused call uses no byte, skips none, replies nothing, hands its state back and changes no lent memory, whatever it got.
+pub refused-call : (f : Feeder) (piece b buffer : List ℕ) → feed f piece b buffer .fed .refusal ≢ 0 → Untouched f b buffer (feed f piece b buffer)
 refused-call = refusals.refused-call
 
 -- The reply of a refused command is its line alone.

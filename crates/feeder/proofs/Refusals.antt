@@ -24,6 +24,8 @@ use Rattle.commands.proofs.Keeps.{exec-valid}
 use Rattle.commands.proofs.Fit.{reply-fits}
 use Rattle.feeder.specs.declared.Feeder.{Feeder}
 use Rattle.feeder.specs.Record.{Record, recordOf}
+use Rattle.feeder.specs.Calls.{Untouched}
+use Rattle.feeder.proofs.Call.{refusing-leaves}
 use Rattle.feeder.specs.Feed.{bufferLeast, waitingIn, isLeft, Place, firstRecord, Answer, refusing, absorbing, completing, offered, taking, feed}
 
 -- bytes are taken with no refusal
@@ -37,18 +39,16 @@ taking-answers w piece b buffer = go (firstRecord (w ++ offered piece))
     go none = refl
     go (some p) = refl
 
-pub refused-call : (f : Feeder) (piece b buffer : List ℕ) → feed f piece b buffer .fed .refusal ≢ 0
-    → feed f piece b buffer ≡ refusing (feed f piece b buffer .fed .refusal) f b buffer
-unfolding feed refusing
+pub refused-call : (f : Feeder) (piece b buffer : List ℕ) → feed f piece b buffer .fed .refusal ≢ 0 → Untouched f b buffer (feed f piece b buffer)
+unfolding feed
 refused-call f piece b buffer = go (not (isLeft f)) (not (wellFormed b)) (ltb (length buffer) bufferLeast)
   where
-    answer : (x y z : Bool) → Answer
-    answer x y z = cond x (refusing 1 f b buffer) (cond y (refusing 2 f b buffer) (cond z (refusing 3 f b buffer) (taking (waitingIn f) piece b buffer)))
-
-    go : (x y z : Bool) → answer x y z .fed .refusal ≢ 0 → answer x y z ≡ refusing (answer x y z .fed .refusal) f b buffer
-    go true y z h = refl
-    go false true z h = refl
-    go false false true h = refl
+    go : (x y z : Bool)
+        → cond x (refusing 1 f b buffer) (cond y (refusing 2 f b buffer) (cond z (refusing 3 f b buffer) (taking (waitingIn f) piece b buffer))) .fed .refusal ≢ 0
+        → Untouched f b buffer (cond x (refusing 1 f b buffer) (cond y (refusing 2 f b buffer) (cond z (refusing 3 f b buffer) (taking (waitingIn f) piece b buffer))))
+    go true y z h = refusing-leaves 1 f b buffer
+    go false true z h = refusing-leaves 2 f b buffer
+    go false false true h = refusing-leaves 3 f b buffer
     go false false false h = absurd (h (taking-answers (waitingIn f) piece b buffer))
 
 -- the reply lies in the buffer, and the buffer keeps its length

@@ -8,7 +8,7 @@ use lib.ListN.{length, take, drop}
 use Rattle.wire.specs.Bytes.{Bytes}
 use Rattle.feeder.specs.declared.Feeder.{Feeder}
 use Rattle.feeder.specs.Stream.{divide, Meaning, meaning}
-use Rattle.feeder.specs.Feed.{bufferLeast, Answer, refusing, feed, stateOf, fresh, offered}
+use Rattle.feeder.specs.Feed.{bufferLeast, Answer, feed, stateOf, fresh, offered}
 
 pub record Call : Type 0 where
   pub piece : List ℕ
@@ -62,11 +62,20 @@ pub record Uses (stream piece : List ℕ) (used : ℕ) : Type 0 where
   pub none-before : (v : ℕ) → v < used → divide (stream ++ take v piece) .records ≡ divide stream .records
   pub stops : (used ≡ length (offered piece)) ⊎ (length (divide (stream ++ take used piece) .records) ≡ suc (length (divide stream .records)))
 
+-- "A refused call uses no byte and changes no lent memory." "A refused call has reply length 0, skips none and hands its state back as it came."
+pub record Untouched (f : Feeder) (b buffer : List ℕ) (a : Answer) : Type 0 where
+  pub used : a .fed .used ≡ 0
+  pub skipped : a .fed .skipped ≡ 0
+  pub replied : a .fed .replied ≡ 0
+  pub feeder : a .fed .feeder ≡ f
+  pub store : a .store ≡ b
+  pub same : a .buffer ≡ buffer
+
 -- what is said of each call of a list, where t is what the calls before it have come to: only 3 is ever answered, exactly if the reply buffer
 -- is too small, and then nothing changes; else the call uses the paper's number of bytes, "at least one, if its piece isn't empty and its
 -- reply buffer isn't under the stated size".
 pub record Answered (t : Total) (c : Call) (a : Answer) : Type 0 where
-  pub refused : length (c .buffer) < bufferLeast → a ≡ refusing 3 (t .feeder) (t .store) (c .buffer)
+  pub refused : length (c .buffer) < bufferLeast → (a .fed .refusal ≡ 3) × Untouched (t .feeder) (t .store) (c .buffer) a
   pub accepted : bufferLeast ≤ length (c .buffer) → a .fed .refusal ≡ 0
   pub uses : bufferLeast ≤ length (c .buffer) → Uses (t .used) (c .piece) (a .fed .used)
   pub some-used : bufferLeast ≤ length (c .buffer) → 1 ≤ length (c .piece) → 1 ≤ a .fed .used
