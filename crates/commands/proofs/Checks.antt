@@ -12,32 +12,10 @@ use Rattle.wire.specs.Lists.{all, orElse}
 use Rattle.wire.proofs.Lists.{and-left, and-right}
 use Rattle.wire.specs.Words.{Word, wordsOf}
 use Rattle.store.specs.Layout.{timeLimit}
-use Rattle.commands.specs.Refusal.{Check, _when_, lowest}
+use Rattle.commands.specs.Refusal.{Check, lowest}
 use Rattle.commands.specs.Command.{Command}
 use Rattle.commands.specs.Options.{Given, scan, conflicting, readable, readableOperand}
-use Rattle.commands.specs.Parse.{
-  Form,
-  Count,
-  CommandRow,
-  Parsed,
-  commands,
-  commandNamed,
-  countFits,
-  allowed,
-  optionWords,
-  numberRange,
-  wordAt,
-  build,
-  tooLong,
-  isZero,
-  deedVersioning,
-  beyond,
-  deedLifetime,
-  onDeed,
-  checks,
-  parseWords,
-  parse,
-}
+use Rattle.commands.specs.Parse.{Form, Count, CommandRow, Parsed, commands, commandNamed, countFits, allowed, optionWords, numberRange, wordAt, build, tooLong, isZero, deedVersioning, beyond, deedLifetime, onDeed, checks, parseWords, parse}
 use Rattle.commands.specs.Parse.Parsed.{refused, accepted}
 
 -- What holds of the number of every check holds of the number that is given.
@@ -68,10 +46,11 @@ lowest-none c cs = go (c .applies)
     go true h = (cc, cc)
     go false h = (refl, h)
 
--- The other way round.
-pub none-lowest : (c : Check) (cs : List Check) → c .applies ≡ false → lowest cs ≡ none → lowest (c ∷ cs) ≡ none
-unfolding lowest
-none-lowest c cs a h = rw a h
+-- A command that these checks refuse is refused with one of 13 to 18.
+pub checks-number : (form : Form) (count : Count) (ws : List Word) (scanned : Option (List Given)) (c : Command) (n : ℕ)
+    → lowest (checks form count ws scanned c) ≡ some n → (13 ≤ n) × (n ≤ 18)
+unfolding checks all
+checks-number form count ws scanned c n h = lowest-between 13 18 (checks form count ws scanned c) n refl h
 
 -- what is known where none of 13 to 18 applies
 pub record Clear (form : Form) (count : Count) (ws : List Word) (scanned : Option (List Given)) (c : Command) : Type 0 where
@@ -82,6 +61,7 @@ pub record Clear (form : Form) (count : Count) (ws : List Word) (scanned : Optio
   pub versioned : onDeed (λ d. isZero (deedVersioning d)) c ≡ false
   pub timed : onDeed (λ d. beyond (deedLifetime d)) c ≡ false
 
+-- Where none of 13 to 18 is given, none applies.
 pub checks-clear : (form : Form) (count : Count) (ws : List Word) (scanned : Option (List Given)) (c : Command)
     → lowest (checks form count ws scanned c) ≡ none → Clear form count ws scanned c
 unfolding checks
@@ -153,18 +133,17 @@ reads now clock s = go (wordsOf s) refl
     go none e = damaged e
     go (some ws) e = at ws (leb timeLimit clock) e refl
 
--- A command that is refused when it is read is refused with one of 10 to 18.
-pub reads-refused : {now clock : ℕ} {s : List ℕ} {p : Parsed} (n : ℕ) → Reads now clock s p → p ≡ refused n → (10 ≤ n) × (n ≤ 18)
-unfolding checks all
+reads-refused : {now clock : ℕ} {s : List ℕ} {p : Parsed} (n : ℕ) → Reads now clock s p → p ≡ refused n → (10 ≤ n) × (n ≤ 18)
 reads-refused n (damaged w) e = let m : n ≡ 10 = cc in omega arith
 reads-refused n (clockOut ws w k) e = let m : n ≡ 11 = cc in omega arith
 reads-refused n (unknown ws w k m) e = let m : n ≡ 12 = cc in omega arith
 reads-refused {now} n (checked ws r k w c m l) e =
-    let b : (10 ≤ k) × (k ≤ 18) = lowest-between 10 18 (checksOf now r ws) k refl l in
+    let b : (13 ≤ k) × (k ≤ 18) = checks-number (r .form) (r .count) ws (givenIn r ws) (builtOf now r ws) k l in
     let m : k ≡ n = cc in
     omega arith
 reads-refused n (passed ws r w k m l) e = let z : _≡_ {A = ℕ} 0 1 = cc in omega arith
 
+-- A command that is refused when it is read is refused with one of 10 to 18.
 pub parse-refused : (now clock : ℕ) (s : List ℕ) (n : ℕ) → parse now clock s ≡ refused n → (10 ≤ n) × (n ≤ 18)
 parse-refused now clock s n e = reads-refused n (reads now clock s) e
 
@@ -181,6 +160,7 @@ pub record Accepted (now clock : ℕ) (s : List ℕ) (c : Command) : Type 0 wher
 not-both : {A : Type 0} (n : ℕ) (c : Command) → refused n ≡ accepted c → A
 not-both n c e = let z : _≡_ {A = ℕ} 0 1 = cc in absurd (omega arith)
 
+-- An accepted command has passed them.
 pub parse-accepted : (now clock : ℕ) (s : List ℕ) (c : Command) → parse now clock s ≡ accepted c → Accepted now clock s c
 parse-accepted now clock s c = go (reads now clock s)
   where

@@ -1,19 +1,17 @@
 -- The store's clock never goes back, and a dead entry is never live again.
 use mathlib.Core.Path.{_≡_, refl}
-use mathlib.Core.Bool.{Bool, true, false}
+use mathlib.Core.Bool.{false}
 use mathlib.Core.List.{List, [], _∷_}
-use mathlib.Core.Option.{Option, none, some}
-use Prim.Native.Nat.{ℕ, _≤_, _<_, max}
-use lib.Dec.{ltb}
+use Prim.Native.Nat.{ℕ, _≤_}
 use native.Mathlib.Omega.{arith}
 use borrow.Author.Tests.{ltb-false, le-ltb}
 use Rattle.store.specs.declared.Expiry.{Expiry}
 use Rattle.store.specs.declared.Expiry.the-variants.{Never, At}
-use Rattle.store.specs.Store.{Entry, Slot, Store}
+use Rattle.store.specs.Store.{Entry, Store}
 use Rattle.store.specs.Time.{nowAt, live, before}
 use Rattle.commands.specs.Command.{Command}
 use Rattle.commands.specs.Parse.{parse}
-use Rattle.commands.specs.Parse.Parsed.{refused, accepted}
+use Rattle.commands.specs.Parse.Parsed.{accepted}
 use Rattle.commands.specs.Execute.{Outcome, exec}
 use Rattle.commands.proofs.Went.{Went, went}
 use Rattle.commands.proofs.Went.Went.{early, late, done}

@@ -1,74 +1,111 @@
 -- Every record leaves a valid store valid.
-use mathlib.Core.Path.{_≡_, refl}
-use mathlib.Core.Bool.{Bool, true, false}
-use mathlib.Core.List.{List, [], _∷_}
-use mathlib.Core.Option.{Option, none, some}
-use Prim.Native.Nat.{ℕ, _≤_, _<_, max}
-use lib.Dec.{ltb}
+use mathlib.Core.Path.{_≡_, refl, ap, _∙_}
+use mathlib.Core.Bool.{true}
+use mathlib.Core.List.{List}
+use Prim.Native.Nat.{ℕ, _<_}
 use lib.ListN.{length}
 use native.Mathlib.Omega.{arith}
-use Rattle.wire.specs.Lists.{any}
 use Rattle.wire.specs.Bytes.{Bytes}
-use Rattle.store.specs.Layout.{mostSlots, timeLimit}
-use Rattle.store.specs.Store.{Entry, Slot, Store, decode, encode, wellFormed}
+use Rattle.store.specs.Layout.{timeLimit}
+use Rattle.store.specs.Store.{Store, decode, wellFormed}
 use Rattle.store.specs.Time.{nowAt}
-use Rattle.store.proofs.Valid.{Fits, AllFit, Apart, Valid}
-use Rattle.store.proofs.Encode.{decode-valid, encode-well}
-use Rattle.commands.specs.Refusal.{lowest}
+use Rattle.store.proofs.Valid.{AllFit, Apart, Valid}
+use Rattle.store.proofs.Encode.{decode-valid, encode-well, decode-encode, encode-decode, length-encode}
 use Rattle.commands.specs.Command.{Command}
 use Rattle.commands.specs.Parse.{parse}
-use Rattle.commands.specs.Parse.Parsed.{refused, accepted}
-use Rattle.commands.specs.Effect.{Effect, effect, changeAll}
-use Rattle.commands.specs.Execute.{namedDead, sweep, passes, lateChecks, room, added, Outcome, exec, Done, execBytes}
-use Rattle.commands.proofs.Went.{Went, went, sweptBy, effectOn, lateRefusal, storeOf}
+use Rattle.commands.specs.Parse.Parsed.{accepted}
+use Rattle.commands.specs.Execute.{Outcome, exec, execBytes}
+use Rattle.commands.proofs.Went.{Went, went, sweptBy, effectOn}
 use Rattle.commands.proofs.Went.Went.{early, late, done}
+use Rattle.commands.proofs.Sweep.{length-sweep, sweep-fits, sweep-apart}
 use Rattle.commands.proofs.Full.{Proper, proper}
-use Rattle.commands.proofs.Sound.{Sound, parse-sound, parse-clock}
-use Rattle.commands.proofs.Writes.{Kept, without-kept, changes-kept, effect-writable}
+use Rattle.commands.proofs.Sound.{parse-sound, parse-clock}
+use Rattle.commands.proofs.Writes.{length-changes, changes-fit, changes-apart, effect-writable}
 
--- The sweep keeps the slots of a valid store.
-pub sweep-kept : (now : ℕ) (c : Command) (n : ℕ) (ss : List Slot) → Kept n ss → Kept n (sweep now c ss)
-unfolding sweep
-sweep-kept now c n ss k = without-kept (namedDead now c) n ss k
-
--- So does an accepted command that none of 20 to 24 refuses.
-done-kept : (now : ℕ) (c : Command) (n : ℕ) (s : Store) → Sound c → lateRefusal now c s ≡ none → Kept n (sweptBy now c s)
-    → Kept n (changeAll now (effectOn now c s .changes) (sweptBy now c s))
-done-kept now c n s h l k =
-    let p : Proper (effectOn now c s) = proper now c s l .0 in
-    changes-kept now n (effectOn now c s .changes) (sweptBy now c s) (p .numbered) (effect-writable now c (sweptBy now c s) h (k .fits) (p .bounded)) k
+-- Every record leaves as many slots as there were.
+pub exec-count : (clock : ℕ) (command : List ℕ) (s : Store) → length (exec clock command s .store .slots) ≡ length (s .slots)
+exec-count clock command s = go (went clock command s)
+  where
+    go : {o : Outcome} → Went clock command s o → length (o .store .slots) ≡ length (s .slots)
+    go (early n p) = refl
+    go (late c n p l) = length-sweep (nowAt clock s) c (s .slots)
+    go (done c p l) =
+        length-changes (nowAt clock s) (effectOn (nowAt clock s) c s .changes) (sweptBy (nowAt clock s) c s)
+        ∙ length-sweep (nowAt clock s) c (s .slots)
 
 now-early : (clock : ℕ) (s : Store) → s .clock < timeLimit → clock < timeLimit → nowAt clock s < timeLimit
 unfolding nowAt
 now-early clock s h k = omega arith
 
+exec-clock : (clock : ℕ) (command : List ℕ) (s : Store) → s .clock < timeLimit → exec clock command s .store .clock < timeLimit
+exec-clock clock command s h = go (went clock command s)
+  where
+    soon : (c : Command) → parse (nowAt clock s) clock command ≡ accepted c → nowAt clock s < timeLimit
+    soon c p = now-early clock s h (parse-clock (nowAt clock s) clock command c p)
+
+    go : {o : Outcome} → Went clock command s o → o .store .clock < timeLimit
+    go (early n p) = h
+    go (late c n p l) = soon c p
+    go (done c p l) = soon c p
+
+-- No record leaves two slots of one key and field.
+pub exec-apart : (clock : ℕ) (command : List ℕ) (s : Store) → Apart (s .slots) → Apart (exec clock command s .store .slots)
+exec-apart clock command s h = go (went clock command s)
+  where
+    go : {o : Outcome} → Went clock command s o → Apart (o .store .slots)
+    go (early n p) = h
+    go (late c n p l) = sweep-apart (nowAt clock s) c (s .slots) h
+    go (done c p l) =
+        changes-apart (nowAt clock s) (effectOn (nowAt clock s) c s .changes) (sweptBy (nowAt clock s) c s)
+        (sweep-apart (nowAt clock s) c (s .slots) h)
+
+-- Every record leaves slots that fit.
+pub exec-fits : (clock : ℕ) (command : List ℕ) (s : Store) → Bytes command → AllFit (s .slots) → AllFit (exec clock command s .store .slots)
+exec-fits clock command s b h = go (went clock command s)
+  where
+    go : {o : Outcome} → Went clock command s o → AllFit (o .store .slots)
+    go (early n p) = h
+    go (late c n p l) = sweep-fits (nowAt clock s) c (s .slots) h
+    go (done c p l) =
+        let r : Proper (effectOn (nowAt clock s) c s) = proper (nowAt clock s) c s l .0 in
+        let f : AllFit (sweptBy (nowAt clock s) c s) = sweep-fits (nowAt clock s) c (s .slots) h in
+        changes-fit (nowAt clock s) (effectOn (nowAt clock s) c s .changes) (sweptBy (nowAt clock s) c s) (r .numbered)
+        (effect-writable (nowAt clock s) c (sweptBy (nowAt clock s) c s) (parse-sound (nowAt clock s) clock command c b p) f (r .bounded))
+        f
+
 -- Every record leaves a valid store valid, refused or not.
 pub exec-valid : (clock : ℕ) (command : List ℕ) (s : Store) → Bytes command → Valid s → Valid (exec clock command s .store)
-exec-valid clock command s b v = go (went clock command s)
-  where
-    swept : (c : Command) → Kept (length (s .slots)) (sweptBy (nowAt clock s) c s)
-    swept c =
-        sweep-kept (nowAt clock s) c (length (s .slots)) (s .slots) (record { count = refl; fits = v .fits; apart = v .apart })
+exec-valid clock command s b v =
+    record {
+      clock = exec-clock clock command s (v .clock);
+      least = omega (arith, exec-count clock command s, v .least);
+      most = omega (arith, exec-count clock command s, v .most);
+      fits = exec-fits clock command s b (v .fits);
+      apart = exec-apart clock command s (v .apart);
+    }
 
-    valid : (c : Command) (ss : List Slot) → parse (nowAt clock s) clock command ≡ accepted c → Kept (length (s .slots)) ss
-        → Valid (storeOf (nowAt clock s) ss)
-    valid c ss p k =
-        record {
-          clock = now-early clock s (v .clock) (parse-clock (nowAt clock s) clock command c p);
-          least = omega (arith, k .count, v .least);
-          most = omega (arith, k .count, v .most);
-          fits = k .fits;
-          apart = k .apart;
-        }
+module _ (clock : ℕ) (command b : List ℕ) (h : Bytes command) (w : wellFormed b ≡ true) where
+  after-valid : Valid (exec clock command (decode b) .store)
+  after-valid = exec-valid clock command (decode b) h (decode-valid b w)
 
-    go : {o : Outcome} → Went clock command s o → Valid (o .store)
-    go (early n p) = v
-    go (late c n p l) = valid c (sweptBy (nowAt clock s) c s) p (swept c)
-    go (done c p l) =
-        valid c (changeAll (nowAt clock s) (effectOn (nowAt clock s) c s .changes) (sweptBy (nowAt clock s) c s)) p
-        (done-kept (nowAt clock s) c (length (s .slots)) s (parse-sound (nowAt clock s) clock command c b p) l (swept c))
+  -- Every record leaves a well-formed store well-formed.
+  pub execBytes-well : wellFormed (execBytes clock command b .store) ≡ true
+  unfolding execBytes
+  execBytes-well = encode-well (exec clock command (decode b) .store) after-valid
 
--- Every record leaves a well-formed store well-formed.
-pub execBytes-well : (clock : ℕ) (command b : List ℕ) → Bytes command → wellFormed b ≡ true → wellFormed (execBytes clock command b .store) ≡ true
-unfolding execBytes
-execBytes-well clock command b h w = encode-well (exec clock command (decode b) .store) (exec-valid clock command (decode b) h (decode-valid b w))
+  -- The bytes that it leaves mean what `exec` says.
+  pub execBytes-means : decode (execBytes clock command b .store) ≡ exec clock command (decode b) .store
+  unfolding execBytes
+  execBytes-means = decode-encode (exec clock command (decode b) .store) after-valid
+
+  -- It leaves as many bytes as there were.
+  pub execBytes-length : length (execBytes clock command b .store) ≡ length b
+  unfolding execBytes
+  execBytes-length =
+      omega (
+        arith,
+        length-encode (exec clock command (decode b) .store) after-valid,
+        exec-count clock command (decode b),
+        length-encode (decode b) (decode-valid b w),
+        ap length (encode-decode b w),
+      )

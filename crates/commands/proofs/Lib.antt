@@ -1,12 +1,19 @@
--- The laws of commands, for the crate above.
+-- The laws of the commands, for the crates above.
 pub mod Computing
 pub mod Examples
-pub mod Went
 pub mod Checks
+pub mod Went
+pub mod Sweep
 pub mod Refused
 pub mod Clock
 pub mod Full
 pub mod Sound
 pub mod Writes
 pub mod Keeps
+pub mod Replies
 pub mod Fit
+pub mod Others
+pub mod Room
+pub mod Names
+pub mod Ready
+pub mod AllOrNone

@@ -1,24 +1,21 @@
 -- What a refused command replies and leaves.
 use mathlib.Core.Path.{_≡_, refl}
-use mathlib.Core.Bool.{Bool, true, false, not, _&&_, and-false}
-use mathlib.Core.List.{List, [], _∷_}
-use mathlib.Core.Option.{Option, none, some}
-use Prim.Native.Nat.{ℕ, _≤_, _<_}
-use lib.Dec.{leb}
-use lib.ListN.{getD, List·getD-map}
+use mathlib.Core.Bool.{true}
+use mathlib.Core.List.{List}
+use mathlib.Core.Option.{none, some}
+use Prim.Native.Nat.{ℕ, _≤_}
+use lib.ListN.{getD}
 use native.Mathlib.Omega.{arith}
-use borrow.Author.Tests.{leb-true}
-use Rattle.wire.specs.Lists.{all, orElse}
-use Rattle.store.specs.Store.{Entry, Slot, Store}
-use Rattle.store.specs.Time.{nowAt, live, without}
-use Rattle.commands.specs.Refusal.{lowest, errorLine}
+use Rattle.wire.specs.Lists.{all}
+use Rattle.store.specs.Store.{Entry, Store}
+use Rattle.store.specs.Time.{nowAt, live}
+use Rattle.commands.specs.Refusal.{errorLine}
 use Rattle.commands.specs.Command.{Command}
 use Rattle.commands.specs.Parse.{parse}
 use Rattle.commands.specs.Parse.Parsed.{accepted}
-use Rattle.commands.specs.Effect.{Effect}
-use Rattle.commands.specs.Execute.{namedDead, sweep, lateChecks, Outcome, exec}
-use Rattle.store.proofs.Without.{without-keeps}
+use Rattle.commands.specs.Execute.{lateChecks, Outcome, exec}
 use Rattle.commands.proofs.Checks.{lowest-between, parse-refused}
+use Rattle.commands.proofs.Sweep.{sweep-keeps-live}
 use Rattle.commands.proofs.Went.{Went, went, storeOf, sweptBy, effectOn, lateRefusal}
 use Rattle.commands.proofs.Went.Went.{early, late, done}
 
@@ -68,12 +65,6 @@ late-refusal clock command s n = go (went clock command s)
         let b : (20 ≤ k) × (k ≤ 24) = late-number (nowAt clock s) c s k l in
         (c, p, refl, omega arith, omega arith)
     go (done c p l) e h = let z : _≡_ {A = ℕ} 0 1 = cc in absurd (omega arith)
-
--- The sweep keeps every live entry in its slot.
-pub sweep-keeps-live : (now : ℕ) (c : Command) (ss : List Slot) (i : ℕ) (e : Entry) → getD ss i none ≡ some e → live now e ≡ true
-    → getD (sweep now c ss) i none ≡ some e
-unfolding sweep namedDead
-sweep-keeps-live now c ss i e h l = without-keeps (namedDead now c) ss i e h (simp (l, and-false))
 
 -- A refused command keeps every live entry in its slot.
 pub refused-keeps-live : (clock : ℕ) (command : List ℕ) (s : Store) (n : ℕ) → exec clock command s .refusal ≡ some n

@@ -1,50 +1,26 @@
 -- What the checks 10 to 18 promise of an accepted command.
 use mathlib.Core.Path.{_≡_, refl}
-use mathlib.Core.Bool.{Bool, true, false, cond, not, _&&_, _||_}
+use mathlib.Core.Bool.{Bool, true, false, cond, _||_}
 use mathlib.Core.List.{List, [], _∷_, map}
-use mathlib.Core.Option.{Option, none, some, Option·getD}
+use mathlib.Core.Option.{some, Option·getD}
 use Prim.Native.Nat.{ℕ, zero, suc, _+_, _≤_, _<_}
 use lib.Dec.{ltb}
 use lib.ListN.{length, drop, getD, length-drop, length-map, List·getD-eq-default}
 use lib.Seq.{getD-drop}
 use native.Mathlib.Omega.{arith}
-use borrow.Author.Tests.{ltb-false, ltb-true, leb-true, leb-false}
+use borrow.Author.Tests.{ltb-false, ltb-true}
 use Rattle.wire.specs.Lists.{any, isSome}
 use Rattle.wire.specs.Bytes.{Bytes}
 use Rattle.wire.specs.Words.{Word, wordsOf}
 use Rattle.wire.proofs.Words.{words-bytes, words-count}
 use Rattle.wire.proofs.Lists.{or-left, or-right, any-at}
 use Rattle.store.specs.Layout.{keyMost, fieldMost, valueMost, timeLimit}
-use Rattle.commands.specs.Command.{Deed, Pair, Command, keyOf, fieldsOf, valuesOf, deedValues}
+use Rattle.commands.specs.Command.{Deed, Command, keyOf, fieldsOf, valuesOf, deedValues}
 use Rattle.commands.specs.Command.Deed.{set}
 use Rattle.commands.specs.Command.Command.{onField, countHeld, countLive}
 use Rattle.commands.specs.Options.{Given, givenOf, noExpGroup, lifetime, condition, versioning}
-use Rattle.commands.specs.Parse.{
-  Form,
-  wordAt,
-  pairsOf,
-  build,
-  tooLong,
-  beyond,
-  deedLifetime,
-  onDeed,
-  checks,
-  Parsed,
-  parse,
-}
-use Rattle.commands.specs.Parse.Form.{
-  setForm,
-  setManyForm,
-  incrementForm,
-  expireForm,
-  persistForm,
-  renumberForm,
-  askForm,
-  getManyForm,
-  deleteForm,
-  countForm,
-  listForm,
-}
+use Rattle.commands.specs.Parse.{Form, wordAt, pairsOf, build, tooLong, beyond, deedLifetime, onDeed, parse}
+use Rattle.commands.specs.Parse.Form.{setForm, setManyForm, incrementForm, expireForm, persistForm, renumberForm, askForm, getManyForm, deleteForm, countForm, listForm}
 use Rattle.commands.specs.Parse.Parsed.{accepted}
 use Rattle.commands.proofs.Checks.{checks-clear, Accepted, parse-accepted, givenIn, builtOf}
 

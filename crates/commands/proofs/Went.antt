@@ -1,6 +1,5 @@
 -- The three ways in which one record goes. Every law about `exec` looks at these, and at nothing else of the frame.
 use mathlib.Core.Path.{_≡_, refl}
-use mathlib.Core.Bool.{Bool, true, false}
 use mathlib.Core.List.{List}
 use mathlib.Core.Option.{Option, none, some}
 use Prim.Native.Nat.{ℕ}

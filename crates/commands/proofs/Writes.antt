@@ -1,15 +1,14 @@
 -- Every entry that a sound command writes fits, if its version does not pass its largest.
-use mathlib.Core.Path.{_≡_, refl}
-use mathlib.Core.Bool.{Bool, true, false, cond, not, _&&_, _||_}
+use mathlib.Core.Path.{_≡_, refl, _∙_}
+use mathlib.Core.Bool.{Bool, true, false, cond, not, _&&_}
 use mathlib.Core.List.{List, [], _∷_, map}
 use mathlib.Core.Option.{Option, none, some, Option·getD}
-use Prim.Native.Nat.{ℕ, zero, suc, _+_, _≤_, _<_}
-use lib.Dec.{ltb}
+use Prim.Native.Nat.{ℕ, suc, _≤_}
 use lib.IntN.{ℤ, pos, negsuc, _+ℤ_}
-use lib.ListN.{length, getD}
+use lib.ListN.{length}
 use native.Mathlib.Omega.{arith}
 use borrow.Author.Tests.{ltb-false, not-false}
-use Rattle.wire.specs.Lists.{any, isSome, orElse}
+use Rattle.wire.specs.Lists.{any, orElse}
 use Rattle.wire.specs.Integer.{lowest64, highest64, within, integerText}
 use Rattle.wire.specs.Words.{Word}
 use Rattle.wire.specs.Reply.{integer, number}
@@ -19,53 +18,25 @@ use Rattle.store.specs.Layout.{keyMost, fieldMost, valueMost, versionMost, time
 use Rattle.store.specs.declared.Expiry.{Expiry}
 use Rattle.store.specs.declared.Expiry.the-variants.{Never, At}
 use Rattle.store.specs.Store.{Entry, Slot, instantOf}
-use Rattle.store.specs.Time.{entryOf, put, without}
+use Rattle.store.specs.Time.{entryOf, put}
 use Rattle.store.proofs.Valid.{Fits, FitsSlot, AllFit, Apart}
 use Rattle.store.proofs.Slots.{entry-fits}
 use Rattle.store.proofs.Put.{length-put, put-fits, put-apart}
 use Rattle.store.proofs.Without.{length-without, without-fits, without-apart}
 use Rattle.commands.specs.declared.Versioning.{Versioning}
-use Rattle.commands.specs.declared.Versioning.the-variants.{Next, Match, Exactly}
+use Rattle.commands.specs.declared.Versioning.the-variants.{Next}
 use Rattle.commands.specs.declared.Lifetime.{Lifetime}
 use Rattle.commands.specs.declared.Lifetime.the-variants.{Clear, Keep, Until}
-use Rattle.commands.specs.declared.Condition.{Condition}
 use Rattle.commands.specs.Command.{Deed, Pair, Command, keyOf, fieldsOf, valuesOf, deedValues}
 use Rattle.commands.specs.Command.Deed.{set, increment, expire, persist, renumber, ask}
 use Rattle.commands.specs.Command.Command.{onField, setMany, getMany, delete, countHeld, countLive, list}
 use Rattle.commands.specs.Parse.{beyond, deedLifetime, onDeed}
-use Rattle.commands.specs.Effect.{
-  Change,
-  Effect,
-  answer,
-  writing,
-  change,
-  changeAll,
-  nextExpiry,
-  hasExpiry,
-  barred,
-  isStale,
-  written,
-  setEffect,
-  counted,
-  incrementEffect,
-  expireEffect,
-  persistEffect,
-  renumberEffect,
-  deedEffect,
-  writesOf,
-  effect,
-}
+use Rattle.commands.specs.Effect.{Change, Effect, answer, writing, change, changeAll, nextExpiry, hasExpiry, barred, isStale, written, setEffect, counted, incrementEffect, expireEffect, persistEffect, renumberEffect, deedEffect, writesOf, effect}
 use Rattle.commands.specs.Effect.Change.{write, remove}
 use Rattle.commands.specs.Execute.{passes}
 use Rattle.commands.proofs.Sound.{Short, AllShort, Sound}
 
 -- ---- slots that are changed
-
--- slots of a valid store
-pub record Kept (n : ℕ) (ss : List Slot) : Type 0 where
-  pub count : length ss ≡ n
-  pub fits : AllFit ss
-  pub apart : Apart ss
 
 -- an entry that fits if its version does
 abbrev pub Writable : Change → Type 0
@@ -76,27 +47,40 @@ abbrev pub AllWritable : List Change → Type 0
 AllWritable [] = Unit {0}
 AllWritable (c ∷ cs) = Writable c × AllWritable cs
 
--- Removing entries keeps the slots of a valid store.
-pub without-kept : (p : Entry → Bool) (n : ℕ) (ss : List Slot) → Kept n ss → Kept n (without p ss)
-without-kept p n ss k = record { count = rw (length-without p ss) (k .count); fits = without-fits p ss (k .fits); apart = without-apart p ss (k .apart) }
-
-change-kept : (now n : ℕ) (c : Change) (ss : List Slot) → passes c ≡ false → Writable c → Kept n ss → Kept n (change now c ss)
+change-fits : (now : ℕ) (c : Change) (ss : List Slot) → passes c ≡ false → Writable c → AllFit ss → AllFit (change now c ss)
 unfolding change passes
-change-kept now n (write e) ss p w k =
-    record {
-      count = rw (length-put now e ss) (k .count);
-      fits = put-fits now e ss (w (ltb-false versionMost (e .version) p)) (k .fits);
-      apart = put-apart now e ss (k .apart);
-    }
-change-kept now n (remove key f) ss p w k = without-kept _ n ss k
+change-fits now (write e) ss p w h = put-fits now e ss (w (ltb-false versionMost (e .version) p)) h
+change-fits now (remove k f) ss p w h = without-fits _ ss h
 
--- So do changes whose entries fit.
-pub changes-kept : (now n : ℕ) (cs : List Change) (ss : List Slot) → any passes cs ≡ false → AllWritable cs → Kept n ss → Kept n (changeAll now cs ss)
+-- Changes whose entries fit leave slots that fit.
+pub changes-fit : (now : ℕ) (cs : List Change) (ss : List Slot) → any passes cs ≡ false → AllWritable cs → AllFit ss → AllFit (changeAll now cs ss)
 unfolding changeAll any
-changes-kept now n [] ss p w k = k
-changes-kept now n (c ∷ cs) ss p w k =
-    changes-kept now n cs (change now c ss) (or-right (passes c) (any passes cs) p) (w .1)
-    (change-kept now n c ss (or-left (passes c) (any passes cs) p) (w .0) k)
+changes-fit now [] ss p w h = h
+changes-fit now (c ∷ cs) ss p w h =
+    changes-fit now cs (change now c ss) (or-right (passes c) (any passes cs) p) (w .1)
+    (change-fits now c ss (or-left (passes c) (any passes cs) p) (w .0) h)
+
+change-apart : (now : ℕ) (c : Change) (ss : List Slot) → Apart ss → Apart (change now c ss)
+unfolding change
+change-apart now (write e) ss h = put-apart now e ss h
+change-apart now (remove k f) ss h = without-apart _ ss h
+
+-- No change leaves two slots of one key and field.
+pub changes-apart : (now : ℕ) (cs : List Change) (ss : List Slot) → Apart ss → Apart (changeAll now cs ss)
+unfolding changeAll
+changes-apart now [] ss h = h
+changes-apart now (c ∷ cs) ss h = changes-apart now cs (change now c ss) (change-apart now c ss h)
+
+length-change : (now : ℕ) (c : Change) (ss : List Slot) → length (change now c ss) ≡ length ss
+unfolding change
+length-change now (write e) ss = length-put now e ss
+length-change now (remove k f) ss = length-without _ ss
+
+-- No change adds a slot or takes one away.
+pub length-changes : (now : ℕ) (cs : List Change) (ss : List Slot) → length (changeAll now cs ss) ≡ length ss
+unfolding changeAll
+length-changes now [] ss = refl
+length-changes now (c ∷ cs) ss = length-changes now cs (change now c ss) ∙ length-change now c ss
 
 -- ---- the entries that are written
 

@@ -1,18 +1,17 @@
 -- The marked presses P1 to P14, and the paper's other worked cases about commands, as rows of texts. proofs/Examples shows that the
 -- definitions give every row.
-use mathlib.Core.Bool.{Bool, true, false, cond}
+use mathlib.Core.Bool.{cond}
 use mathlib.Core.List.{List, [], _∷_, map}
-use mathlib.Core.Option.{Option, none, some}
+use mathlib.Core.Option.{none, some}
 use Prim.Native.Nat.{ℕ}
 use Prim.Native.String.{String}
 use lib.Dec.{eqb}
-use lib.ListN.{replicate}
 use Rattle.wire.specs.Bytes.{text}
 use Rattle.wire.specs.Words.{Word}
 use Rattle.wire.specs.Reply.{respOf}
 use Rattle.store.specs.declared.Expiry.{Expiry}
 use Rattle.store.specs.declared.Expiry.the-variants.{Never, At}
-use Rattle.store.specs.Store.{Entry, Slot, Store}
+use Rattle.store.specs.Store.{Slot, Store}
 use Rattle.commands.specs.Execute.{Outcome, exec}
 
 -- ---- rows

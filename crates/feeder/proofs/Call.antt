@@ -1,29 +1,27 @@
 -- One call, from a state that feeding leaves.
-use mathlib.Core.Path.{_≡_, refl, sym, ap, ap₂, _∙_}
+use mathlib.Core.Path.{_≡_, refl, sym, ap, _∙_}
 use mathlib.Core.Logic.{_⊎_, inl, inr}
 use mathlib.Core.Bool.{Bool, true, false}
 use mathlib.Core.List.{List, [], _∷_, _++_, append-assoc, append-nil}
 use mathlib.Core.Option.{Option, none, some, Option·none-ne-some, Option·some-injective}
-use Prim.Native.Nat.{ℕ, zero, suc, _+_, _-_, min, _≤_, _<_, zero-le}
-use native.Mathlib.Nat.{add-zero}
+use Prim.Native.Nat.{ℕ, _+_, _-_, _≤_, _<_}
 use native.Mathlib.Omega.{arith}
 use lib.Dec.{ltb}
-use lib.ListN.{length, take, drop, replicate, length-append, length-take, length-drop, take-append-drop}
-use lib.Seq.{take-append-add, take-append-seam, take-take, drop-append-le, take-all, take-length}
+use lib.ListN.{length, take, drop, length-append, length-take, length-drop, take-append-drop}
+use lib.Seq.{take-append-seam, take-take, drop-append-le, take-length}
 use borrow.Author.Tests.{eq-eqb, le-leb, ltb-true, ltb-false}
 use Rattle.wire.specs.Lists.{every, orElse}
-use Rattle.wire.specs.Bytes.{Bytes, padded, allZero, same}
+use Rattle.wire.specs.Bytes.{Bytes, padded, same}
 use Rattle.wire.specs.Reply.{laidOver}
-use Rattle.wire.proofs.Bytes.{bytes-append, bytes-take, bytes-drop, bytes-part, bytes-padded, length-padded, take-padded, drop-padded, same-refl, zero-replicate}
-use Rattle.store.specs.Store.{wellFormed}
-use Rattle.commands.specs.Execute.{Done, execBytes}
+use Rattle.wire.proofs.Bytes.{bytes-padded, length-padded, take-padded, drop-padded, same-refl, zero-replicate}
+use Rattle.commands.specs.Execute.{execBytes}
 use Rattle.feeder.specs.declared.Feeder.{Feeder}
-use Rattle.feeder.specs.Record.{Record, recordOf, commandAt}
-use Rattle.feeder.specs.Stream.{Division, ended, divide, doAll, meaning}
-use Rattle.feeder.specs.Feed.{waitingMost, usedMost, bufferLeast, stateOf, fresh, waitingIn, isLeft, Place, firstRecord, Answer, refusing, absorbing, completing, offered, taking, feed}
+use Rattle.feeder.specs.Record.{recordOf, commandAt}
+use Rattle.feeder.specs.Stream.{ended, divide, doAll}
+use Rattle.feeder.specs.Feed.{waitingMost, usedMost, stateOf, fresh, waitingIn, isLeft, Place, firstRecord, Answer, refusing, absorbing, completing, offered, taking}
 use Rattle.feeder.specs.Calls.{Untouched}
 use Rattle.feeder.proofs.Head.{record-more}
-use Rattle.feeder.proofs.Divide.{joined, goingOn, divide-more, rest-waits, rest-short, rest-bytes, do-more}
+use Rattle.feeder.proofs.Divide.{rest-waits, rest-short, rest-bytes}
 use Rattle.feeder.proofs.First.{endOf, First, first-found, found-first, first-none, first-fits, first-more, first-fewer, first-divides, first-not-waiting}
 
 -- ---- the state

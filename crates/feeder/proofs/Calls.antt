@@ -10,16 +10,15 @@ use native.Mathlib.Omega.{arith}
 use lib.Dec.{ltb}
 use lib.ListN.{length, take, drop, getD, length-append, length-drop, take-append-drop}
 use lib.Seq.{take-all}
-use borrow.Author.Tests.{ltb-true, ltb-false, le-ltb}
+use borrow.Author.Tests.{ltb-true, ltb-false}
 use Rattle.wire.specs.Bytes.{Bytes}
 use Rattle.wire.proofs.Bytes.{bytes-append, bytes-take, bytes-drop, bytes-part, bytes-tail}
 use Rattle.store.specs.Store.{wellFormed}
-use Rattle.commands.specs.Execute.{Done, execBytes}
+use Rattle.commands.specs.Execute.{execBytes}
 use Rattle.commands.proofs.Keeps.{execBytes-well}
-use Rattle.feeder.specs.declared.Feeder.{Feeder}
-use Rattle.feeder.specs.Record.{Record, Head, headOf, recordOf, commandAt}
+use Rattle.feeder.specs.Record.{Head, headOf, recordOf, commandAt}
 use Rattle.feeder.specs.Record.Head.{skip, whole, wait}
-use Rattle.feeder.specs.Stream.{Division, dividedAt, divideAfter, divide, doAll, meaning}
+use Rattle.feeder.specs.Stream.{dividedAt, divideAfter, divide, doAll, meaning}
 use Rattle.feeder.specs.Feed.{bufferLeast, stateOf, fresh, Answer, refusing, taking, feed, offered}
 use Rattle.feeder.specs.Calls.{Call, AllBytes, Total, begin, tally, answerTo, callAll, uncut, Uses, Answered, offering, offeringAll}
 use Rattle.feeder.proofs.Divide.{divide-more, rest-waits, do-more}

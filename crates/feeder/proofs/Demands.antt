@@ -1,10 +1,10 @@
 -- The customer's three demands over the definitions: the page to open first. Each theorem has one plain sentence above it; the proofs are laws
 -- of the other files. `exec` is one record on what a store holds, `execBytes` the same on its bytes, `meaning` demand 3's definition of a whole
 -- stream, `feed` one feeding call.
-use mathlib.Core.Path.{_≡_, refl, sym, ap, _∙_}
+use mathlib.Core.Path.{_≡_, ap, _∙_}
 use mathlib.Core.Logic.{_≢_, _↔_}
 use mathlib.Core.Bool.{true, false}
-use mathlib.Core.List.{List, [], _∷_, _++_, map, flatten}
+use mathlib.Core.List.{List, [], _∷_, map, flatten}
 use mathlib.Core.Option.{none, some}
 use Prim.Native.Nat.{ℕ, _+_, _*_, _≤_, _<_}
 use lib.IntN.{ℤ}
@@ -16,26 +16,29 @@ use Rattle.wire.specs.Reply.{respOf}
 use Rattle.wire.proofs.Integer.{read-text, text-read}
 use Rattle.wire.proofs.Words.{words-respOf, respOf-words}
 use Rattle.store.specs.Layout.{headerSize, slotSize}
-use Rattle.store.specs.Store.{Entry, Store, decode, encode, wellFormed, slotCount}
+use Rattle.store.specs.Store.{Entry, Slot, Store, decode, encode, wellFormed, slotCount}
 use Rattle.store.specs.Time.{nowAt, live}
 use Rattle.store.proofs.Valid.{Valid}
 use Rattle.store.proofs.Encode.{decode-encode, encode-decode, encode-well, decode-valid}
 use Rattle.commands.specs.Refusal.{errorLine}
-use Rattle.commands.specs.Command.{Command}
+use Rattle.commands.specs.Command.{Command, Pair}
+use Rattle.commands.specs.Command.Command.{setMany}
 use Rattle.commands.specs.Parse.{parse}
 use Rattle.commands.specs.Parse.Parsed.{accepted}
 use Rattle.commands.specs.Effect.{effect}
 use Rattle.commands.specs.Execute.{sweep, room, added, exec, execBytes}
 use Rattle.commands.specs.Examples.{given, expected, markedPresses}
 use Rattle.commands.proofs.Examples as commandExamples
-use Rattle.commands.proofs.Refused.{refused-reply, early-refusal, late-refusal, refused-keeps-live}
-use Rattle.commands.proofs.Clock.{Step, execAll, clock-forward, clock-is-now, clock-forward-all, dead-stays-dead}
+use Rattle.commands.proofs.Refused.{refused-reply, late-refusal, refused-keeps-live}
+use Rattle.commands.proofs.Sweep.{room-sweep}
+use Rattle.commands.proofs.Others.{names, others-kept}
+use Rattle.commands.proofs.AllOrNone.{lastOf, Written, all-set}
+use Rattle.commands.proofs.Clock.{Step, execAll, clock-is-now, clock-forward-all, dead-stays-dead}
 use Rattle.commands.proofs.Full.{Proper, full-exactly}
-use Rattle.commands.proofs.Keeps.{exec-valid, execBytes-well}
+use Rattle.commands.proofs.Keeps.{execBytes-well}
 use Rattle.feeder.specs.declared.Feeder.{Feeder}
-use Rattle.feeder.specs.Stream.{Meaning, meaning}
 use Rattle.feeder.specs.Feed.{bufferLeast, feed}
-use Rattle.feeder.specs.Calls.{Call, AllBytes, Total, begin, callAll, answerTo, uncut, Untouched, Answered, offeringAll}
+use Rattle.feeder.specs.Calls.{Call, AllBytes, begin, callAll, answerTo, uncut, Untouched, Answered, offeringAll}
 use Rattle.feeder.proofs.Refusals as refusals
 use Rattle.feeder.proofs.Calls as calls
 
@@ -89,6 +92,22 @@ pub full-exactly-if : (clock : ℕ) (command : List ℕ) (s : Store) (c : Comman
     let e = effect (nowAt clock s) c swept in
     (exec clock command s .refusal ≡ some 24) ↔ (Proper e × (room (nowAt clock s) swept < added (e .changes) swept))
 full-exactly-if = full-exactly
+
+-- The slots that are empty or dead after the named dead entries are gone are as many as before.
+pub room-as-before : (now : ℕ) (c : Command) (ss : List Slot) → room now (sweep now c ss) ≡ room now ss
+room-as-before = room-sweep
+
+-- An EXHMSET that is not refused leaves every field that it names with the value of the field's last pair: all or none.
+pub all-or-none : (clock : ℕ) (command : List ℕ) (s : Store) (k : Word) (ps : List Pair) → Valid s
+    → parse (nowAt clock s) clock command ≡ accepted (setMany k ps) → exec clock command s .refusal ≡ none
+    → (f v : Word) → lastOf f ps ≡ some v → Written k f v (exec clock command s .store .slots)
+all-or-none clock command s k ps valid = all-set clock command s k ps (valid .apart)
+
+-- A command changes no live entry that it does not name.
+pub others-stay : (clock : ℕ) (command : List ℕ) (s : Store) (c : Command) → parse (nowAt clock s) clock command ≡ accepted c
+    → (i : ℕ) (e : Entry) → getD (s .slots) i none ≡ some e → live (nowAt clock s) e ≡ true → names c e ≡ false
+    → getD (exec clock command s .store .slots) i none ≡ some e
+others-stay = others-kept
 
 -- A command that passes checks 10 to 18 sets the clock to now, and no record takes the clock back.
 pub clock-set : (clock : ℕ) (command : List ℕ) (s : Store) (c : Command) → parse (nowAt clock s) clock command ≡ accepted c

@@ -1,15 +1,15 @@
 -- A stream's division in two goes: the division of s ++ u is that of s, and then that of what waited after s with u after it.
-use mathlib.Core.Path.{_≡_, refl, sym, ap, ap₂, _∙_}
+use mathlib.Core.Path.{_≡_, refl, sym, ap}
 use mathlib.Core.Bool.{true}
-use mathlib.Core.List.{List, [], _∷_, _++_, append-assoc, append-nil}
-use Prim.Native.Nat.{ℕ, zero, suc, _+_, _-_, _≤_, _<_, zero-le}
+use mathlib.Core.List.{List, [], _∷_, _++_, append-assoc}
+use Prim.Native.Nat.{ℕ, zero, suc, _+_, _≤_, zero-le}
 use native.Mathlib.Nat.{zero-add, suc-add, not-suc-le-zero}
 use native.Mathlib.Omega.{arith}
-use lib.ListN.{length, take, drop}
+use lib.ListN.{length, drop}
 use Rattle.wire.specs.Bytes.{Bytes}
-use Rattle.wire.proofs.Bytes.{bytes-drop, bytes-tail}
-use Rattle.commands.specs.Execute.{Done, execBytes}
-use Rattle.feeder.specs.Record.{Record, Head, headOf, recordOf, commandAt, commandMost}
+use Rattle.wire.proofs.Bytes.{bytes-drop}
+use Rattle.commands.specs.Execute.{execBytes}
+use Rattle.feeder.specs.Record.{Record, Head, headOf, recordOf, commandAt}
 use Rattle.feeder.specs.Record.Head.{skip, whole, wait}
 use Rattle.feeder.specs.Stream.{Division, ended, skipping, recording, dividedAt, divideAfter, divide, doAll}
 use Rattle.feeder.proofs.Head.{told, head-more, record-more, whole-fits, wait-short}

@@ -1,7 +1,7 @@
 -- The definitions give every row of the paper's worked streams.
 use mathlib.Core.Path.{_≡_, refl}
 use mathlib.Core.List.{map}
-use Rattle.feeder.specs.Record.{Record, recordOf}
+use Rattle.feeder.specs.Record.{recordOf}
 use Rattle.feeder.specs.Examples.{wholeExample, recordBytes, given, expected, workedStreams}
 use Rattle.feeder.proofs.Computing.{computing}
 

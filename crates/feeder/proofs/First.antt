@@ -1,17 +1,15 @@
 -- The first record of a stream: where it stands is settled by the bytes up to its end, and none of fewer bytes.
-use mathlib.Core.Path.{_≡_, refl, sym, ap, ap₂, _∙_}
-use mathlib.Core.Bool.{true}
+use mathlib.Core.Path.{_≡_, refl, ap, _∙_}
 use mathlib.Core.List.{List, [], _∷_, _++_, cons-ne-nil}
-use mathlib.Core.Option.{Option, none, some, Option·map}
-use Prim.Native.Nat.{ℕ, zero, suc, _+_, _-_, _≤_, _<_, zero-le}
-use native.Mathlib.Nat.{not-suc-le-zero}
+use mathlib.Core.Option.{Option, none, some}
+use Prim.Native.Nat.{ℕ, _+_, _≤_}
 use native.Mathlib.Omega.{arith}
-use lib.ListN.{length, take, drop, length-append}
-use Rattle.feeder.specs.Record.{Record, Head, headOf, recordOf, commandAt}
+use lib.ListN.{length, drop}
+use Rattle.feeder.specs.Record.{Head, headOf, recordOf, commandAt}
 use Rattle.feeder.specs.Record.Head.{skip, whole, wait}
-use Rattle.feeder.specs.Stream.{Division, ended, skipping, recording, dividedAt, divideAfter, divide}
+use Rattle.feeder.specs.Stream.{ended, skipping, dividedAt, divideAfter, divide}
 use Rattle.feeder.specs.Feed.{Place, later, placedAt, firstRecord}
-use Rattle.feeder.proofs.Head.{told, head-more, record-more, whole-fits, skip-fewer, whole-fewer}
+use Rattle.feeder.proofs.Head.{told, head-more, whole-fits, skip-fewer, whole-fewer}
 
 zero≢one : _≡_ {A = ℕ} 0 1 → ⊥
 zero≢one z = omega arith

@@ -1,16 +1,16 @@
 -- What more bytes do to the head of a stream: a byte to skip and a whole record stay what they are.
-use mathlib.Core.Path.{_≡_, refl, sym, ap, ap₂, _∙_}
+use mathlib.Core.Path.{_≡_, refl, ap}
 use mathlib.Core.Bool.{Bool, true, false, not, cond, _||_, false≢true}
-use mathlib.Core.List.{List, [], _∷_, _++_, append-nil}
-use Prim.Native.Nat.{ℕ, zero, suc, _+_, _-_, _≤_, _<_}
+use mathlib.Core.List.{List, [], _++_, append-nil}
+use Prim.Native.Nat.{ℕ, _+_, _≤_, _<_}
 use native.Mathlib.Omega.{arith}
-use lib.Dec.{ltb, leb, eqb}
-use lib.ListN.{length, take, drop, getD, length-append, length-drop, List·getD-append}
+use lib.Dec.{ltb, eqb}
+use lib.ListN.{length, drop, getD, length-append, length-drop, List·getD-append}
 use lib.Seq.{take-append-le, drop-append-le}
-use borrow.Author.Tests.{ltb-true, ltb-false, lt-ltb, le-ltb}
+use borrow.Author.Tests.{ltb-true, ltb-false, le-ltb}
 use Rattle.wire.specs.Bytes.{fromLE, part}
-use Rattle.wire.proofs.Lists.{or-left, or-right}
-use Rattle.feeder.specs.Record.{Record, Head, headOf, commandLength, recordOf, firstMark, secondMark, lengthAt, commandAt, commandMost}
+use Rattle.wire.proofs.Lists.{or-right}
+use Rattle.feeder.specs.Record.{Head, headOf, commandLength, recordOf, firstMark, secondMark, lengthAt, commandAt, commandMost}
 use Rattle.feeder.specs.Record.Head.{skip, whole, wait}
 
 -- a part of s is the same part of s ++ u

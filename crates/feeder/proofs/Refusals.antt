@@ -4,7 +4,7 @@ use mathlib.Core.Logic.{_≢_}
 use mathlib.Core.Bool.{Bool, true, false, cond, not}
 use mathlib.Core.List.{List, [], _∷_, _++_}
 use mathlib.Core.Option.{Option, none, some, Option·none-ne-some}
-use Prim.Native.Nat.{ℕ, zero, suc, _+_, _-_, _*_, _≤_, _<_}
+use Prim.Native.Nat.{ℕ, zero, suc, _+_, _*_, _≤_, _<_}
 use native.Mathlib.Omega.{arith}
 use lib.Dec.{ltb}
 use lib.ListN.{length, getD, drop, length-append, length-drop}
@@ -15,7 +15,6 @@ use Rattle.wire.specs.Reply.{laidOver}
 use Rattle.store.specs.Layout.{headerSize, slotSize}
 use Rattle.store.specs.Store.{Entry, Slot, Store, encodeSlot, decode, encode, wellFormed, slotCount}
 use Rattle.store.specs.Time.{nowAt, live}
-use Rattle.store.proofs.Valid.{Valid}
 use Rattle.store.proofs.Encode.{decode-valid, encode-decode, length-decode}
 use Rattle.store.proofs.Places.{encode-at}
 use Rattle.commands.specs.Execute.{exec, execBytes}
@@ -26,7 +25,7 @@ use Rattle.feeder.specs.declared.Feeder.{Feeder}
 use Rattle.feeder.specs.Record.{Record, recordOf}
 use Rattle.feeder.specs.Calls.{Untouched}
 use Rattle.feeder.proofs.Call.{refusing-leaves}
-use Rattle.feeder.specs.Feed.{bufferLeast, waitingIn, isLeft, Place, firstRecord, Answer, refusing, absorbing, completing, offered, taking, feed}
+use Rattle.feeder.specs.Feed.{bufferLeast, waitingIn, isLeft, Place, firstRecord, refusing, absorbing, completing, offered, taking, feed}
 
 -- bytes are taken with no refusal
 taking-answers : (w piece b buffer : List ℕ) → taking w piece b buffer .fed .refusal ≡ 0

@@ -1,11 +1,11 @@
 -- The paper's worked streams: "Whole example", and the mark that follows a stray 45.
 use mathlib.Core.List.{List, [], _∷_, _++_}
-use mathlib.Core.Option.{none, some}
+use mathlib.Core.Option.{none}
 use Prim.Native.Nat.{ℕ}
 use Prim.Native.String.{String}
 use lib.ListN.{length}
 use Rattle.wire.specs.Bytes.{text, toLE}
-use Rattle.store.specs.Store.{Store, encode}
+use Rattle.store.specs.Store.{encode}
 use Rattle.feeder.specs.Record.{Record, firstMark, secondMark}
 use Rattle.feeder.specs.Stream.{Meaning, meaning}
 

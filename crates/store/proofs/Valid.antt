@@ -1,6 +1,6 @@
 -- What well-formedness says of what a store holds, without its bytes: `wellFormed b` exactly if `b` is `encode s` of a valid s.
 use mathlib.Core.Path.{_≡_}
-use mathlib.Core.Bool.{Bool, true, false}
+use mathlib.Core.Bool.{false}
 use mathlib.Core.List.{List}
 use mathlib.Core.Option.{none, some}
 use Prim.Native.Nat.{ℕ, _≤_, _<_}
