@@ -15,7 +15,7 @@ use Rattle.store.proofs.Slots.{Named, entry-some}
 use Rattle.store.proofs.Put.{put-keeps}
 use Rattle.store.proofs.Without.{without-keeps}
 use Rattle.commands.specs.Command.{Deed, Pair, Command, keyOf, fieldsOf}
-use Rattle.commands.specs.Command.Deed.{set, increment, expire, persist, renumber, ask}
+use Rattle.commands.specs.Command.Deed.{assign, increment, expire, persist, renumber, ask}
 use Rattle.commands.specs.Command.Command.{onField, setMany, getMany, delete, countHeld, countLive, list}
 use Rattle.commands.specs.Effect.{Change, Effect, change, changeAll, written, barred, hasExpiry, setEffect, incrementEffect, expireEffect, persistEffect, renumberEffect, deedEffect, writesOf, effect}
 use Rattle.commands.specs.Effect.Change.{write, remove}
@@ -85,7 +85,7 @@ other-found e x k f m h = rw (m .key, m .field) h
 other-deed : (now : ℕ) (ss : List Slot) (e : Entry) (k f : Word) (d : Deed) (found : Option Entry) → (same (e .key) k && same (e .field) f) ≡ false
     → FoundNamed k f found → any (concerns e) (deedEffect now ss k f d found .changes) ≡ false
 unfolding deedEffect setEffect incrementEffect expireEffect persistEffect renumberEffect orElse written any concerns holds
-other-deed now ss e k f (set v c n t) found h m = other-either e (barred c found) _ _ refl (or-neither h refl)
+other-deed now ss e k f (assign v c n t) found h m = other-either e (barred c found) _ _ refl (or-neither h refl)
 other-deed now ss e k f (increment a l g n t) found h m = or-neither h refl
 other-deed now ss e k f (expire t n) none h m = refl
 other-deed now ss e k f (expire t n) (some x) h m = or-neither (other-found e x k f m h) refl

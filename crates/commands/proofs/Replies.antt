@@ -27,7 +27,7 @@ use Rattle.commands.specs.declared.Question.{Question}
 use Rattle.commands.specs.declared.Question.the-variants.{Value, Length, Exists, Versioned, Version, Seconds, Milliseconds}
 use Rattle.commands.specs.Refusal.{Row, table, lineIn, errorLine}
 use Rattle.commands.specs.Command.{Deed}
-use Rattle.commands.specs.Command.Deed.{set, increment, expire, persist, renumber, ask}
+use Rattle.commands.specs.Command.Deed.{assign, increment, expire, persist, renumber, ask}
 use Rattle.commands.specs.Effect.{Effect, barred, setEffect, counted, incrementEffect, hasExpiry, expireEffect, persistEffect, renumberEffect, timeLeft, reply, deedEffect}
 use Rattle.commands.proofs.Sound.{Short}
 
@@ -143,7 +143,7 @@ one-most (some e) = omega arith
 pub deed-short : (now : ℕ) (ss : List Slot) (k f : Word) (d : Deed) (found : Option Entry) → FitsSlot found
     → deedEffect now ss k f d found .overflows ≡ false → Short 146 (deedEffect now ss k f d found .reply)
 unfolding deedEffect setEffect incrementEffect expireEffect persistEffect renumberEffect orElse
-deed-short now ss k f (set v c n t) found h o =
+deed-short now ss k f (assign v c n t) found h o =
     either-short 146 (barred c found) _ _ (loosen 146 (omega arith) (minus-short 0 (omega arith)))
     (loosen 146 (omega arith) (few-short (orElse found 1 (λ e. 0)) (one-most found)))
 deed-short now ss k f (increment a l g n t) found h o =

@@ -16,7 +16,7 @@ use Rattle.wire.proofs.Words.{words-bytes, words-count}
 use Rattle.wire.proofs.Lists.{or-left, or-right, any-at}
 use Rattle.store.specs.Layout.{keyMost, fieldMost, valueMost, timeLimit}
 use Rattle.commands.specs.Command.{Deed, Command, keyOf, fieldsOf, valuesOf, deedValues}
-use Rattle.commands.specs.Command.Deed.{set}
+use Rattle.commands.specs.Command.Deed.{assign}
 use Rattle.commands.specs.Command.Command.{onField, countHeld, countLive}
 use Rattle.commands.specs.Options.{Given, givenOf, noExpGroup, lifetime, condition, versioning}
 use Rattle.commands.specs.Parse.{Form, wordAt, pairsOf, build, tooLong, beyond, deedLifetime, onDeed, parse}
@@ -91,7 +91,7 @@ module _ (P : Word → Type 0) (empty : P []) where
     of-build : (now : ℕ) (gs : List Given) (f : Form) → Taken P (build now f ws gs)
     unfolding build keyOf fieldsOf valuesOf wordAt deedValues
     of-build now gs setForm =
-        of-field (set (wordAt 3 ws) (condition gs) (versioning gs) (lifetime now gs)) (have-one (wordAt 3 ws) (h 3))
+        of-field (assign (wordAt 3 ws) (condition gs) (versioning gs) (lifetime now gs)) (have-one (wordAt 3 ws) (h 3))
     of-build now gs setManyForm =
         record {
           key = h 1;

@@ -28,7 +28,7 @@ use Rattle.commands.specs.declared.Versioning.the-variants.{Next}
 use Rattle.commands.specs.declared.Lifetime.{Lifetime}
 use Rattle.commands.specs.declared.Lifetime.the-variants.{Clear, Keep, Until}
 use Rattle.commands.specs.Command.{Deed, Pair, Command, keyOf, fieldsOf, valuesOf, deedValues}
-use Rattle.commands.specs.Command.Deed.{set, increment, expire, persist, renumber, ask}
+use Rattle.commands.specs.Command.Deed.{assign, increment, expire, persist, renumber, ask}
 use Rattle.commands.specs.Command.Command.{onField, setMany, getMany, delete, countHeld, countLive, list}
 use Rattle.commands.specs.Parse.{beyond, deedLifetime, onDeed}
 use Rattle.commands.specs.Effect.{Change, Effect, answer, writing, change, changeAll, nextExpiry, hasExpiry, barred, isStale, written, setEffect, counted, incrementEffect, expireEffect, persistEffect, renumberEffect, deedEffect, writesOf, effect}
@@ -147,7 +147,7 @@ module _ (now : ℕ) (ss : List Slot) (k f : Word) (hk : Short keyMost k) (hf : 
   deed-writable : (d : Deed) (found : Option Entry) → AllShort valueMost (deedValues d) → beyond (deedLifetime d) ≡ false → FitsSlot found
       → deedEffect now ss k f d found .overflows ≡ false → AllWritable (deedEffect now ss k f d found .changes)
   unfolding deedEffect deedValues deedLifetime setEffect incrementEffect expireEffect persistEffect renumberEffect orElse restamped beyond instantOf
-  deed-writable (set v c n t) found hv b h o =
+  deed-writable (assign v c n t) found hv b h o =
       either-writable (barred c found) (answer (integer (negsuc 0)))
       (writing (isStale n found) (written k f v n t found) (number (orElse found 1 (λ e. 0))))
       tt

@@ -11,7 +11,7 @@ use Rattle.commands.specs.declared.Listing.{Listing}
 
 -- what is done with one field
 pub data Deed : Type 0 where
-  set : (value : Word) (condition : Condition) (versioning : Versioning) (lifetime : Lifetime) → Deed
+  assign : (value : Word) (condition : Condition) (versioning : Versioning) (lifetime : Lifetime) → Deed
   increment : (amount least greatest : ℤ) (versioning : Versioning) (lifetime : Lifetime) → Deed
   expire : (instant : ℕ) (versioning : Versioning) → Deed
   persist : Deed
@@ -51,7 +51,7 @@ fieldsOf (countLive k) = []
 fieldsOf (list k l) = []
 
 unfoldable pub deedValues : Deed → List Word
-deedValues (set v c n t) = v ∷ []
+deedValues (assign v c n t) = v ∷ []
 deedValues (increment a l g n t) = []
 deedValues (expire t n) = []
 deedValues persist = []

@@ -27,7 +27,7 @@ use Rattle.commands.specs.declared.Question.the-variants.{Value, Length,
 use Rattle.commands.specs.declared.Listing.{Listing}
 use Rattle.commands.specs.declared.Listing.the-variants.{Fields, Values, Both}
 use Rattle.commands.specs.Command.{Deed, Pair, Command}
-use Rattle.commands.specs.Command.Deed.{set, increment, expire, persist, renumber, ask}
+use Rattle.commands.specs.Command.Deed.{assign, increment, expire, persist, renumber, ask}
 use Rattle.commands.specs.Command.Command.{onField, setMany, getMany, delete, countHeld, countLive, list}
 
 -- ---- effects
@@ -163,7 +163,7 @@ reply now ss k Seconds found = integer (orElse found (negsuc 1) (λ e. timeLeft 
 reply now ss k Milliseconds found = integer (orElse found (negsuc 1) (λ e. timeLeft now 1 (e .expiry)))
 
 unfoldable pub deedEffect : ℕ → List Slot → Word → Word → Deed → Option Entry → Effect
-deedEffect now ss k f (set v c n t) found = setEffect k f v c n t found
+deedEffect now ss k f (assign v c n t) found = setEffect k f v c n t found
 deedEffect now ss k f (increment a l g n t) found = incrementEffect k f a l g n t found
 deedEffect now ss k f (expire t n) found = expireEffect t n found
 deedEffect now ss k f persist found = persistEffect found

@@ -21,7 +21,7 @@ use Rattle.commands.specs.declared.Listing.{Listing}
 use Rattle.commands.specs.declared.Listing.the-variants.{Fields, Values, Both}
 use Rattle.commands.specs.Refusal.{Check, _when_, lowest}
 use Rattle.commands.specs.Command.{Deed, Pair, Command, keyOf, fieldsOf, valuesOf}
-use Rattle.commands.specs.Command.Deed.{set, increment, expire, persist, renumber, ask}
+use Rattle.commands.specs.Command.Deed.{assign, increment, expire, persist, renumber, ask}
 use Rattle.commands.specs.Command.Command.{onField, setMany, getMany, delete, countHeld, countLive, list}
 use Rattle.commands.specs.Options.{Range, times, versions, signed64, readable, numberIn, naturalIn, TimeUnit, instant, inSeconds, inMs, Given, scan, conflicting, readableOperand, givenOf, lifetime, condition, versioning, boundIn, expiryGroup, conditionGroup, versionGroup, minGroup, maxGroup, noExpGroup}
 
@@ -148,7 +148,7 @@ pairsOf (f ∷ v ∷ ws) = record { field = f; value = v } ∷ pairsOf ws
 -- the command that words and options say; words that are not there count as empty
 unfoldable pub build : ℕ → Form → List Word → List Given → Command
 build now setForm ws gs =
-    onField (wordAt 1 ws) (wordAt 2 ws) (set (wordAt 3 ws) (condition gs) (versioning gs) (lifetime now gs))
+    onField (wordAt 1 ws) (wordAt 2 ws) (assign (wordAt 3 ws) (condition gs) (versioning gs) (lifetime now gs))
 build now setManyForm ws gs = setMany (wordAt 1 ws) (pairsOf (drop 2 ws))
 build now incrementForm ws gs =
     onField
@@ -186,7 +186,7 @@ isZero (Match v) = false
 isZero (Exactly v) = eqb v 0
 
 unfoldable pub deedVersioning : Deed → Versioning
-deedVersioning (set v c n t) = n
+deedVersioning (assign v c n t) = n
 deedVersioning (increment a l g n t) = n
 deedVersioning (expire t n) = n
 deedVersioning persist = Next
@@ -200,7 +200,7 @@ beyond Keep = false
 beyond (Until t) = ltb timeLimit t
 
 unfoldable pub deedLifetime : Deed → Lifetime
-deedLifetime (set v c n t) = t
+deedLifetime (assign v c n t) = t
 deedLifetime (increment a l g n t) = t
 deedLifetime (expire t n) = Until t
 deedLifetime persist = Clear
