@@ -1,0 +1,114 @@
+// The words of a command: where each of them stands.
+ghost use mathlib.Core.Path.{_≡_};
+ghost use Prim.Native.Nat.{_≤_};
+ghost use lib.ListN.{length};
+ghost use Rattle.wire.specs.Promises.{Places, nextOf};
+
+// The next word of a command, by its number, or the end of its words.
+pub enum Next {
+    Word(usize),
+    End,
+}
+
+pub fn next_word(count: usize, i: usize) -> Next
+    ensures { λ r. ⌜ r ≡ nextOf count i ⌝ }
+{
+    if i < count { Next::Word(i) } else { Next::End }
+}
+
+// What reading a count found: the count and the place after it.
+enum Counted {
+    Count(usize, usize),
+    Damaged,
+}
+
+// What reading a word found: where it starts, its size and the place after it.
+enum Placed {
+    Word(usize, usize, usize),
+    Damaged,
+}
+
+// The place of the first CR from a place on, or the end.
+fn line_end(s: &[u8], from: usize) -> usize {
+    let mut i = from;
+    while i < s.len() {
+        if s[i] == 13 {
+            return i;
+        }
+        i += 1;
+    }
+    i
+}
+
+// A mark, a count of at most `most`, CR LF, from a place on.
+fn read_count(s: &[u8], at: usize, mark: u8, most: u64) -> Counted {
+    if s.len() <= at {
+        return Counted::Damaged;
+    }
+    if s[at] != mark {
+        return Counted::Damaged;
+    }
+    let from = at + 1;
+    let end = line_end(s, from);
+    if s.len() - end < 2 {
+        return Counted::Damaged;
+    }
+    if s[end + 1] != 10 {
+        return Counted::Damaged;
+    }
+    let read = crate::integers::read_natural(&s[from..end], most);
+    match read {
+        crate::integers::Natural::Value(n) => Counted::Count(n as usize, end + 2),
+        crate::integers::Natural::Refused => Counted::Damaged,
+    }
+}
+
+// One word from a place on: `$len\r\n`, the bytes, `\r\n`.
+fn read_word(s: &[u8], at: usize) -> Placed {
+    if s.len() < at {
+        return Placed::Damaged;
+    }
+    let left = s.len() - at;
+    let count = read_count(s, at, 36, left as u64);
+    let Counted::Count(size, start) = count else {
+        return Placed::Damaged;
+    };
+    if s.len() - start < size {
+        return Placed::Damaged;
+    }
+    let end = start + size;
+    if s.len() - end < 2 {
+        return Placed::Damaged;
+    }
+    if s[end] != 13 || s[end + 1] != 10 {
+        return Placed::Damaged;
+    }
+    Placed::Word(start, size, end + 2)
+}
+
+// Where the words of a command stand: their number, with their starts and sizes, or 0 where the command is damaged.
+pub fn split(s: &[u8], starts: &mut [usize], sizes: &mut [usize]) -> usize
+    requires { ⌜ (64 ≤ length (now starts)) × (64 ≤ length (now sizes)) ⌝ }
+    ensures { λ r. ⌜ Places (now (s .entry)) (now (starts .exit)) (now (sizes .exit)) r ⌝ }
+{
+    let head = read_count(s, 0, 42, 64);
+    let Counted::Count(count, first) = head else {
+        return 0;
+    };
+    let mut at = first;
+    let mut i = 0;
+    while i < count {
+        let word = read_word(s, at);
+        let Placed::Word(start, size, next) = word else {
+            return 0;
+        };
+        starts[i] = start;
+        sizes[i] = size;
+        at = next;
+        i += 1;
+    }
+    if at != s.len() {
+        return 0;
+    }
+    count
+}
