@@ -15,13 +15,13 @@ use Rattle.wire.proofs.Lists.{length-keep}
 use Rattle.wire.proofs.Reply.{bytes-header, length-header}
 use Rattle.store.specs.Layout.{mostSlots}
 use Rattle.store.specs.Store.{Entry, Slot, Store, holds}
-use Rattle.store.specs.Time.{nowAt, entryOf}
+use Rattle.store.specs.Time.{nowAt, entryOf, ofKey, liveOfKey}
 use Rattle.store.proofs.Valid.{Fits, FitsSlot, AllFit, Valid}
 use Rattle.commands.specs.declared.Listing.{Listing}
 use Rattle.commands.specs.declared.Listing.the-variants.{Fields, Values, Both}
 use Rattle.commands.specs.Command.{Command, fieldsOf}
 use Rattle.commands.specs.Command.Command.{onField, setMany, getMany, delete, countHeld, countLive, list}
-use Rattle.commands.specs.Effect.{reply, ofKey, liveOfKey, listed, listedSlot, effect}
+use Rattle.commands.specs.Effect.{reply, listed, listedSlot, effect}
 use Rattle.commands.specs.Execute.{Outcome, exec}
 use Rattle.commands.proofs.Went.{Went, went, sweptBy}
 use Rattle.commands.proofs.Went.Went.{early, late, done}

@@ -15,7 +15,7 @@ use Rattle.wire.specs.Reply.{line, nil, integer, number, bulk, array}
 use Rattle.store.specs.declared.Expiry.{Expiry}
 use Rattle.store.specs.declared.Expiry.the-variants.{Never, At}
 use Rattle.store.specs.Store.{Entry, Slot, holds}
-use Rattle.store.specs.Time.{live, keyExists, entryOf, put, without}
+use Rattle.store.specs.Time.{keyExists, ofKey, liveOfKey, entryOf, put, without}
 use Rattle.commands.specs.declared.Versioning.{Versioning}
 use Rattle.commands.specs.declared.Versioning.the-variants.{Next, Match, Exactly}
 use Rattle.commands.specs.declared.Lifetime.{Lifetime}
@@ -178,12 +178,6 @@ writesOf now k [] ss = []
 writesOf now k (p ∷ ps) ss =
     let e : Entry = written k (p .field) (p .value) Next Clear (entryOf k (p .field) ss) in
     write e ∷ writesOf now k ps (put now e ss)
-
-unfoldable pub ofKey : Word → Slot → Bool
-ofKey k s = orElse s false (λ e. same (e .key) k)
-
-unfoldable pub liveOfKey : ℕ → Word → Slot → Bool
-liveOfKey now k s = orElse s false (λ e. same (e .key) k && live now e)
 
 unfoldable pub listed : Listing → Entry → List (List ℕ)
 listed Fields e = bulk (e .field) ∷ []

@@ -15,7 +15,7 @@ use Rattle.store.specs.Layout.{headerSize, slotSize, mostSlots, clockSiz
 use Rattle.store.specs.Store.{Slot, Store, decodeSlot, slotsIn, slotCount, slotBytes, clockOf, decode, encodeSlot, encode, slotWell, distinct, wellFormed}
 use Rattle.store.proofs.Valid.{AllFit, Valid}
 use Rattle.store.proofs.Pieces.{length-part, number-back, zeros-are}
-use Rattle.store.proofs.Slot.{length-encodeSlot, decode-encodeSlot, well-encodeSlot, bytes-encodeSlot}
+use Rattle.store.proofs.SlotBytes.{length-encodeSlot, decode-encodeSlot, well-encodeSlot, bytes-encodeSlot}
 use Rattle.store.proofs.WellSlot.{encode-decodeSlot, decode-fitsSlot}
 use Rattle.store.proofs.Distinct.{distinct-apart, apart-distinct}
 

@@ -6,7 +6,7 @@ pub mod Put
 pub mod Without
 pub mod Distinct
 pub mod Pieces
-pub mod Slot
+pub mod SlotBytes
 pub mod WellSlot
 pub mod Encode
 pub mod Places

@@ -17,7 +17,7 @@ use Rattle.store.specs.Layout.{slotSize, stateAt, keyLengthAt, fieldLeng
 use Rattle.store.specs.Store.{Slot, decodeExpiry, decodeEntry, decodeSlot, stateOf, instantOf, encodeEntry, encodeSlot, zeroBeyond, heldWell, slotWell}
 use Rattle.store.proofs.Valid.{Fits, FitsSlot}
 use Rattle.store.proofs.Pieces.{total, cut, flatten-cut, length-part, take-part, number-back, number-below, zeros-are}
-use Rattle.store.proofs.Slot.{sizes, pieces, encode-pieces}
+use Rattle.store.proofs.SlotBytes.{sizes, pieces, encode-pieces}
 
 -- what the tests of a held slot say
 pub record Held (t : List ℕ) : Type 0 where

@@ -2,3 +2,4 @@
 pub mod Layout
 pub mod Store
 pub mod Time
+pub mod Promises

@@ -36,9 +36,16 @@ emptySlot s = orElse s true (λ e. false)
 unfoldable pub roomSlot : ℕ → Slot → Bool
 roomSlot now s = not (liveSlot now s)
 
+-- a slot that holds an entry of a key, and one whose entry is live
+unfoldable pub ofKey : List ℕ → Slot → Bool
+ofKey k s = orElse s false (λ e. same (e .key) k)
+
+unfoldable pub liveOfKey : ℕ → List ℕ → Slot → Bool
+liveOfKey now k s = orElse s false (λ e. same (e .key) k && live now e)
+
 -- "A key exists if it has a live entry."
 unfoldable pub keyExists : ℕ → List ℕ → List Slot → Bool
-keyExists now k ss = any (λ s. orElse s false (λ e. same (e .key) k && live now e)) ss
+keyExists now k ss = any (liveOfKey now k) ss
 
 -- the lowest slot of which p holds
 unfoldable pub lowestSlot : (Slot → Bool) → List Slot → Option ℕ

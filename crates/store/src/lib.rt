@@ -1,7 +1,19 @@
-// The store: fields in lent bytes.
+// The store: fields in lent bytes. The crates above see what the bytes mean, never the bytes.
+pub mod change;
+pub mod check;
+pub mod find;
+pub mod layout;
+pub mod read;
+pub mod slot;
 
 // When an entry expires: never, or at an instant in ms.
 pub enum Expiry {
     Never,
     At(u64),
+}
+
+// A slot that was looked for, or that there is none.
+pub enum Found {
+    At(usize),
+    Nothing,
 }

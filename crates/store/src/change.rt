@@ -1,0 +1,110 @@
+// Changes of a well-formed store, each said by what the store then holds.
+use crate::Expiry;
+use crate::layout::CLOCK;
+use crate::layout::EXPIRING;
+use crate::layout::EXPIRY;
+use crate::layout::FIELD;
+use crate::layout::FIELD_LENGTH;
+use crate::layout::HEADER;
+use crate::layout::HELD;
+use crate::layout::KEY;
+use crate::layout::KEY_LENGTH;
+use crate::layout::SLOT;
+use crate::layout::STATE;
+use crate::layout::VALUE;
+use crate::layout::VALUE_LENGTH;
+use crate::layout::VERSION;
+use wire::numbers::write_le;
+use wire::slices::clear;
+use wire::slices::copy;
+ghost use mathlib.Core.Path.{_≡_};
+ghost use mathlib.Core.Bool.{true};
+ghost use mathlib.Core.Option.{none, some};
+ghost use lib.ListN.{length};
+ghost use Prim.Native.Nat.{_≤_, _<_};
+ghost use Rattle.wire.specs.Bytes.{toLE, padded};
+ghost use Rattle.store.specs.Layout.{slotSize, timeLimit, versionMost, valueMost, versionSize, expirySize};
+ghost use Rattle.store.specs.Store.{decode, wellFormed, slotCount, encodeEntry, stateOf, instantOf};
+ghost use Rattle.store.specs.Promises.{Held, Holds, Placeable, withClock, withSlot, entry, entryAt, stamped};
+
+// Sets the clock.
+pub fn set_clock(store: &mut [u8], time: u64)
+    requires { ⌜ (wellFormed (now store) ≡ true) × (time < timeLimit) ⌝ }
+    ensures { λ _. ⌜ Holds (now (store .exit)) (withClock time (decode (now (store .entry)))) ⌝ }
+{
+    write_le(&mut store[0..CLOCK], time);
+}
+
+// Empties slot i.
+pub fn remove(store: &mut [u8], i: usize)
+    requires { ⌜ (wellFormed (now store) ≡ true) × (i < slotCount (now store)) ⌝ }
+    ensures { λ _. ⌜ Holds (now (store .exit)) (withSlot i none (decode (now (store .entry)))) ⌝ }
+{
+    let start = HEADER + SLOT * i;
+    let end = start + SLOT;
+    clear(&mut store[start..end]);
+}
+
+// Writes bytes over a place, with zero after them.
+fn write_padded(from: &[u8], to: &mut [u8])
+    requires { ⌜ length (now from) ≤ length (now to) ⌝ }
+    ensures { λ _. ⌜ now (to .exit) ≡ padded (length (now (to .entry))) (now (from .entry)) ⌝ }
+{
+    copy(from, to);
+    let end = from.len();
+    clear(&mut to[end..]);
+}
+
+// Writes state, version and expiry of one slot's bytes.
+fn write_stamp(t: &mut [u8], version: u64, expiry: Expiry) {
+    write_le(&mut t[VERSION..EXPIRY], version);
+    match expiry {
+        Expiry::Never => {
+            t[STATE] = HELD;
+            write_le(&mut t[EXPIRY..KEY], 0);
+        }
+        Expiry::At(instant) => {
+            t[STATE] = EXPIRING;
+            write_le(&mut t[EXPIRY..KEY], instant);
+        }
+    }
+}
+
+// Writes an entry over one slot's bytes.
+fn write_entry(t: &mut [u8], key: &[u8], field: &[u8], value: &[u8], version: u64, expiry: Expiry) {
+    t[KEY_LENGTH] = (key.len() % 256) as u8;
+    t[FIELD_LENGTH] = (field.len() % 256) as u8;
+    t[VALUE_LENGTH] = (value.len() % 256) as u8;
+    write_stamp(t, version, expiry);
+    write_padded(key, &mut t[KEY..FIELD]);
+    write_padded(field, &mut t[FIELD..VALUE]);
+    write_padded(value, &mut t[VALUE..SLOT]);
+}
+
+// Puts an entry into slot i: an empty slot, or over the entry that it replaces.
+pub fn put(
+    store: &mut [u8],
+    i: usize,
+    key: &[u8],
+    field: &[u8],
+    value: &[u8],
+    version: u64,
+    expiry: Expiry,
+)
+    requires { ⌜ Placeable (now store) i (entry (now key) (now field) (now value) version expiry) ⌝ }
+    ensures { λ _. ⌜ Holds (now (store .exit)) (withSlot i (some (entry (now (key .entry)) (now (field .entry)) (now (value .entry)) version expiry)) (decode (now (store .entry)))) ⌝ }
+{
+    let start = HEADER + SLOT * i;
+    let end = start + SLOT;
+    write_entry(&mut store[start..end], key, field, value, version, expiry);
+}
+
+// Writes the version and the expiry of the entry in slot i anew.
+pub fn restamp(store: &mut [u8], i: usize, version: u64, expiry: Expiry)
+    requires { ⌜ (Held (now store) i) × (version ≤ versionMost) × (instantOf expiry ≤ timeLimit) ⌝ }
+    ensures { λ _. ⌜ Holds (now (store .exit)) (withSlot i (some (stamped version expiry (entryAt (decode (now (store .entry)) .slots) i))) (decode (now (store .entry)))) ⌝ }
+{
+    let start = HEADER + SLOT * i;
+    let end = start + SLOT;
+    write_stamp(&mut store[start..end], version, expiry);
+}
