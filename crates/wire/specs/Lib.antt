@@ -4,3 +4,4 @@ pub mod Bytes
 pub mod Integer
 pub mod Words
 pub mod Reply
+pub mod Promises

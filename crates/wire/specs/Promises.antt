@@ -1,0 +1,113 @@
+-- What the functions of wire answer, in the terms of the other definitions.
+use mathlib.Core.Path.{_≡_}
+use mathlib.Core.Bool.{Bool, true, false, cond}
+use mathlib.Core.List.{List, [], _∷_, map}
+use mathlib.Core.Option.{Option, none, some}
+use Prim.Native.Nat.{ℕ, zero, suc, _+_, _-_, _*_, _/_, _≤_, _<_}
+use lib.Dec.{leb, ltb, eqb}
+use lib.IntN.{ℤ, pos, negsuc, negℤ}
+use lib.ListN.{length, take, drop, getD}
+use Rattle.wire.specs.declared.integers.Natural.{Natural}
+use Rattle.wire.specs.declared.integers.Natural.the-variants as naturals
+use Rattle.wire.specs.declared.integers.Integer.{Integer}
+use Rattle.wire.specs.declared.integers.Integer.the-variants as integers
+use Rattle.wire.specs.declared.integers.Signed.{Signed}
+use Rattle.wire.specs.declared.names.Row.{Row}
+use Rattle.wire.specs.declared.names.Row.the-variants as rows
+use Rattle.wire.specs.declared.places.Next.{Next}
+use Rattle.wire.specs.declared.places.Next.the-variants as nexts
+use Rattle.wire.specs.declared.places.Counted.{Counted}
+use Rattle.wire.specs.declared.places.Counted.the-variants as counts
+use Rattle.wire.specs.declared.places.Placed.{Placed}
+use Rattle.wire.specs.declared.places.Placed.the-variants as placed
+use Rattle.wire.specs.Lists.{orElse}
+use Rattle.wire.specs.Bytes.{part, same, upper}
+use Rattle.wire.specs.Words.{Word, Read, wordsOf}
+use Rattle.wire.specs.Reply.{laidOver}
+
+-- ---- integers
+
+-- a number that may be missing, as the code answers it
+unfoldable pub naturalFor : Option ℕ → Natural
+naturalFor none = naturals.Refused
+naturalFor (some n) = naturals.Value n
+
+-- sign and magnitude; 0 has no sign
+unfoldable pub signedFor : ℤ → Signed
+signedFor (pos n) = record { negative = false; magnitude = n }
+signedFor (negsuc n) = record { negative = true; magnitude = suc n }
+
+unfoldable pub integerFor : Option ℤ → Integer
+integerFor none = integers.Refused
+integerFor (some z) = integers.Value (signedFor z)
+
+-- the integer that a sign and a magnitude say
+unfoldable pub integerOf : Signed → ℤ
+integerOf s = cond (s .negative) (negℤ (pos (s .magnitude))) (pos (s .magnitude))
+
+-- ---- words
+
+-- A reader at a place of a command of `size` bytes answers with places: what it left unread begins at `size` less its length.
+unfoldable pub countedFor : ℕ → Option (Read ℕ) → Counted
+countedFor size none = counts.Damaged
+countedFor size (some c) = counts.Count (c .found) (size - length (c .rest))
+
+-- CR LF stands between a word and what is left
+unfoldable pub placedFor : ℕ → Option (Read Word) → Placed
+placedFor size none = placed.Damaged
+placedFor size (some w) =
+    placed.Word (size - (length (w .found) + 2 + length (w .rest))) (length (w .found)) (size - length (w .rest))
+
+-- the word of a place
+unfoldable pub wordIn : List ℕ → ℕ → ℕ → Word
+wordIn s start size = part start size s
+
+-- the first n words of places
+unfoldable pub wordsIn : ℕ → List ℕ → List ℕ → List ℕ → List Word
+wordsIn zero s starts sizes = []
+wordsIn (suc n) s starts sizes = wordIn s (getD starts 0 0) (getD sizes 0 0) ∷ wordsIn n s (drop 1 starts) (drop 1 sizes)
+
+-- a count and places say what words a command has, a count of 0 that it is damaged; each place lies in the command
+pub record Places (s starts sizes : List ℕ) (count : ℕ) : Type 0 where
+  pub words : wordsOf s ≡ cond (eqb count 0) none (some (wordsIn count s starts sizes))
+  pub most : count ≤ 64
+  pub inside : (i : ℕ) → i < count → getD starts i 0 + getD sizes i 0 ≤ length s
+
+-- the next word of count, or the end
+unfoldable pub nextOf : ℕ → ℕ → Next
+nextOf count i = cond (ltb i count) (nexts.Word i) nexts.End
+
+-- ---- names
+
+-- A table of names has 16 bytes a row: the name's length, and the name in capitals.
+abbrev pub rowSize : ℕ
+rowSize = 16
+
+unfoldable pub nameIn : List ℕ → ℕ → List ℕ
+nameIn table i = part (rowSize * i + 1) (getD table (rowSize * i) 0) table
+
+-- the lowest of n rows, from row i on, whose name a word spells
+unfoldable pub rowFrom : ℕ → ℕ → List ℕ → Word → Option ℕ
+rowFrom zero i table w = none
+rowFrom (suc n) i table w =
+    let later : Option ℕ = rowFrom n (suc i) table w in
+    cond (same (map upper w) (nameIn table i)) (some i) later
+
+unfoldable pub rowNamed : List ℕ → Word → Option ℕ
+rowNamed table w = rowFrom (length table / rowSize) 0 table w
+
+unfoldable pub rowFor : Option ℕ → Row
+rowFor none = rows.Nothing
+rowFor (some i) = rows.At i
+
+-- a table is whole rows, and no name is longer than its place
+pub record Table (table : List ℕ) : Type 0 where
+  pub whole : length table ≡ rowSize * (length table / rowSize)
+  pub short : (i : ℕ) → getD table (rowSize * i) 0 < rowSize
+
+-- ---- replies
+
+-- a writer laid x at the start of a buffer, left the bytes beyond as they were, and answered how many bytes that was
+pub record Laid (x before after : List ℕ) (r : ℕ) : Type 0 where
+  pub bytes : after ≡ laidOver x before
+  pub size : r ≡ length x

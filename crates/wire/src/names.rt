@@ -1,0 +1,59 @@
+// Names in a table, compared without regard to case. A row of the table is 16 bytes: the name's length, and the name in capitals.
+ghost use mathlib.Core.Path.{_≡_};
+ghost use mathlib.Core.List.{map};
+ghost use Rattle.wire.specs.Bytes.{same, upper};
+ghost use Rattle.wire.specs.Promises.{Table, rowNamed, rowFor};
+
+const ROW: usize = 16;
+
+// The row of a name, or that there is none.
+pub enum Row {
+    At(usize),
+    Nothing,
+}
+
+// A letter as its capital.
+fn capital(b: u8) -> u8
+    ensures { λ r. ⌜ r ≡ upper b ⌝ }
+{
+    if 97 <= b && b <= 122 {
+        return b - 32;
+    }
+    b
+}
+
+// Whether a word spells a name that is written in capitals.
+pub fn spells(word: &[u8], name: &[u8]) -> bool
+    ensures { λ r. ⌜ r ≡ same (map upper (now (word .entry))) (now (name .entry)) ⌝ }
+{
+    if word.len() != name.len() {
+        return false;
+    }
+    let mut i = 0;
+    while i < word.len() {
+        if capital(word[i]) != name[i] {
+            return false;
+        }
+        i += 1;
+    }
+    true
+}
+
+// The lowest row whose name a word spells.
+pub fn find(table: &[u8], word: &[u8]) -> Row
+    requires { ⌜ Table (now table) ⌝ }
+    ensures { λ r. ⌜ r ≡ rowFor (rowNamed (now (table .entry)) (now (word .entry))) ⌝ }
+{
+    let rows = table.len() / ROW;
+    let mut i = 0;
+    while i < rows {
+        let at = ROW * i;
+        let start = at + 1;
+        let end = start + table[at] as usize;
+        if spells(word, &table[start..end]) {
+            return Row::At(i);
+        }
+        i += 1;
+    }
+    Row::Nothing
+}
