@@ -7,3 +7,9 @@ pub mod Digits
 pub mod Integer
 pub mod Words
 pub mod Reply
+pub mod Passing
+pub mod Laying
+pub mod Reading
+pub mod Signs
+pub mod Rows
+pub mod Cursor

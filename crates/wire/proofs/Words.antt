@@ -28,7 +28,7 @@ digit-other : (c : ℕ) → isDigit c ≡ true → c ≢ 13
 digit-other c h = omega (arith, digit-least c h)
 
 -- what stands before the first CR, and from it on, is the whole
-split-CR : (s : List ℕ) → beforeCR s ++ fromCR s ≡ s
+pub split-CR : (s : List ℕ) → beforeCR s ++ fromCR s ≡ s
 unfolding beforeCR fromCR
 split-CR [] = refl
 split-CR (b ∷ s) = go (eqb b 13) (split-CR s)
@@ -49,11 +49,11 @@ digits-from [] t h = refl
 digits-from (c ∷ s) t h = rw (ne-eqb c 13 (digit-other c (and-left (isDigit c) (all isDigit s) h)), digits-from s t (and-right (isDigit c) (all isDigit s) h))
 
 -- a count as it is written, and what follows it
-abbrev counted : ℕ → ℕ → List ℕ → List ℕ
+abbrev pub counted : ℕ → ℕ → List ℕ → List ℕ
 counted mark n rest = mark ∷ (naturalText n ++ (crlf ++ rest))
 
 -- a count that is read is one that is written so, and what is left is what follows it
-count-is : (mark most : ℕ) (s : List ℕ) (r : Read ℕ) → readCount mark most s ≡ some r → (r .found ≤ most) × (s ≡ counted mark (r .found) (r .rest))
+pub count-is : (mark most : ℕ) (s : List ℕ) (r : Read ℕ) → readCount mark most s ≡ some r → (r .found ≤ most) × (s ≡ counted mark (r .found) (r .rest))
 unfolding readCount
 count-is mark most [] r h = absurd (Option·none-ne-some r h)
 count-is mark most (b ∷ s) r h =
@@ -83,7 +83,7 @@ unfolding bulk text
 bulk-is w rest = simp append-assoc
 
 -- a word that is read is one that is written so
-word-is : (s : List ℕ) (r : Read Word) → readWord s ≡ some r → s ≡ bulk (r .found) ++ r .rest
+pub word-is : (s : List ℕ) (r : Read Word) → readWord s ≡ some r → s ≡ bulk (r .found) ++ r .rest
 unfolding readWord part
 word-is s r h =
     let (n, p, q) = orElse-some (readCount 36 (length s) s) h in

@@ -1,0 +1,61 @@
+-- A count and CR LF say where the word stands; CR LF stands behind it.
+use mathlib.Core.Path.{sym, _∙_}
+use native.Mathlib.Omega.{arith}
+use borrow.Author.Needs.{needs}
+use borrow.Author.Tests.{not-true, not-false}
+use Rattle.wire.proofs.Cursor.{ends-room, placed-damaged, start-inside, placed-short, placed-end, placed-word}
+use Rattle.wire.proofs.places.read_word.Statement.{statement}
+use Rattle.wire.proofs.places.read_word.Tie as tie
+
+sub-left : tie.Need-sub-left
+sub-left c = search needs
+
+read-count-requires : tie.Need-read-count-requires
+read-count-requires c κs = search needs
+
+enum-known-count : tie.Need-enum-known-count
+enum-known-count c = search needs
+
+enum-told : tie.Need-enum-told
+enum-told c = search needs
+
+returns : tie.Need-returns
+returns c = placed-damaged (c .before .before .before .before .args .s .now) (c .before .before .before .before .args .at) (sym (c .enum-told .given .1) ∙ c .before .before .read-count .ensures)
+
+sub-if1 : tie.Need-sub-if1
+sub-if1 c = start-inside (c .before .before .before .before .before .args .s .now) _ (c .before .before .before .before .before .pre) _ _ (sym (c .before .count .given .1) ∙ c .before .before .before .read-count .ensures)
+
+returns-2 : tie.Need-returns-2
+returns-2 c = placed-short (c .before .before .before .before .before .before .args .s .now) _ (c .before .before .before .before .before .before .pre) _ _ (sym (c .before .before .count .given .1) ∙ c .before .before .before .before .read-count .ensures) (c .if1 .taken)
+
+add-end : tie.Need-add-end
+add-end c = search needs
+
+ends-line-requires : tie.Need-ends-line-requires
+ends-line-requires c κs = omega (arith, start-inside (c .before .before .before .before .before .before .args .s .now) (c .before .before .before .before .before .before .args .at) (c .before .before .before .before .before .before .pre) _ _ (sym (c .before .before .count .given .1) ∙ c .before .before .before .before .read-count .ensures))
+
+returns-3 : tie.Need-returns-3
+returns-3 c = placed-end _ _ (c .before .before .before .before .before .before .before .before .pre) _ _ (sym (c .before .before .before .before .count .given .1) ∙ c .before .before .before .before .before .before .read-count .ensures) (sym (c .before .ends-line .ensures) ∙ not-true _ (c .if2 .taken))
+
+add-t8 : tie.Need-add-t8
+add-t8 c = omega (arith, ends-room _ _ (sym (c .before .ends-line .ensures) ∙ not-false _ (c .if2 .left)))
+
+returns-4 : tie.Need-returns-4
+returns-4 c = placed-word _ _ (c .before .before .before .before .before .before .before .before .pre) _ _ (sym (c .before .before .before .before .count .given .1) ∙ c .before .before .before .before .before .before .read-count .ensures) (sym (c .before .ends-line .ensures) ∙ not-false _ (c .if2 .left))
+
+pub read-word-spec : {M : Type 1} → statement M
+read-word-spec =
+    tie.close
+    (tie.spec
+    sub-left
+    read-count-requires
+    enum-known-count
+    enum-told
+    returns
+    sub-if1
+    returns-2
+    add-end
+    ends-line-requires
+    returns-3
+    add-t8
+    returns-4)

@@ -1,0 +1,79 @@
+use mathlib.Core.List.{_∷_}
+use native.Mathlib.Omega.{arith}
+use Rattle.wire.specs.Bytes.{text}
+use Rattle.wire.specs.Integer.{integerText}
+use Rattle.wire.specs.Words.{crlf}
+use Rattle.wire.specs.Reply.{integer}
+use Rattle.wire.specs.Promises.{integerOf}
+use Rattle.wire.proofs.Laying.{laid-length, laid-within, laid-tail, tail-inside, tail-room, front-room, mark-inside, mark-room, marked}
+use borrow.Author.Needs.{needs}
+use Rattle.wire.proofs.replies.put_integer.Statement.{statement}
+use Rattle.wire.proofs.replies.put_integer.Tie as tie
+
+slice-write-out : tie.Need-slice-write-out
+unfolding integer text
+slice-write-out c = omega arith
+
+sub-write-integer : tie.Need-sub-write-integer
+unfolding integer text
+sub-write-integer c = mark-inside _ (integerText (integerOf (c .before .args .z))) crlf (c .before .args .out .now) (c .before .pre)
+
+part-write-integer-start : tie.Need-part-write-integer-start
+unfolding integer text
+part-write-integer-start c = mark-inside _ (integerText (integerOf (c .before .args .z))) crlf (c .before .args .out .now) (c .before .pre)
+
+part-write-integer-end : tie.Need-part-write-integer-end
+part-write-integer-end c = search needs
+
+write-integer-requires : tie.Need-write-integer-requires
+unfolding integer text
+write-integer-requires c κs = mark-room _ (integerText (integerOf (c .before .before .args .z))) crlf (c .before .before .args .out .now) (c .before .before .pre)
+
+add-at : tie.Need-add-at
+unfolding integer text
+add-at c = omega (arith, laid-within (marked _ (integerText (integerOf (c .before .before .before .before .before .args .z))) crlf (c .before .before .before .before .before .args .out .now) (c .before .before .before .before .before .pre) (c .before .before .write-integer .ensures)) (front-room (58 ∷ (integerText (integerOf (c .before .before .before .before .before .args .z)))) crlf (c .before .before .before .before .before .pre)))
+
+sub-put-end : tie.Need-sub-put-end
+unfolding integer text
+sub-put-end c = tail-inside crlf (marked _ (integerText (integerOf (c .before .before .before .before .before .args .z))) crlf (c .before .before .before .before .before .args .out .now) (c .before .before .before .before .before .pre) (c .before .before .write-integer .ensures)) (c .before .before .before .before .before .pre)
+
+part-put-end-start : tie.Need-part-put-end-start
+unfolding integer text
+part-put-end-start c = tail-inside crlf (marked _ (integerText (integerOf (c .before .before .before .before .before .args .z))) crlf (c .before .before .before .before .before .args .out .now) (c .before .before .before .before .before .pre) (c .before .before .write-integer .ensures)) (c .before .before .before .before .before .pre)
+
+part-put-end-end : tie.Need-part-put-end-end
+part-put-end-end c = search needs
+
+put-end-requires : tie.Need-put-end-requires
+unfolding integer text
+put-end-requires c κs = tail-room crlf (marked _ (integerText (integerOf (c .before .before .before .before .before .before .args .z))) crlf (c .before .before .before .before .before .before .args .out .now) (c .before .before .before .before .before .before .pre) (c .before .before .before .write-integer .ensures)) (c .before .before .before .before .before .before .pre)
+
+add-result : tie.Need-add-result
+unfolding integer text
+add-result c = omega (arith, laid-within (laid-tail (marked _ (integerText (integerOf (c .before .before .before .before .before .before .before .before .before .args .z))) crlf (c .before .before .before .before .before .before .before .before .before .args .out .now) (c .before .before .before .before .before .before .before .before .before .pre) (c .before .before .before .before .before .before .write-integer .ensures)) (c .before .before .put-end .ensures)) (c .before .before .before .before .before .before .before .before .before .pre))
+
+same-length : tie.Need-same-length
+unfolding integer text
+same-length c = laid-length (laid-tail (marked _ (integerText (integerOf (c .before .before .before .before .before .before .before .before .before .args .z))) crlf (c .before .before .before .before .before .before .before .before .before .args .out .now) (c .before .before .before .before .before .before .before .before .before .pre) (c .before .before .before .before .before .before .write-integer .ensures)) (c .before .before .put-end .ensures)) (c .before .before .before .before .before .before .before .before .before .pre)
+
+returns : tie.Need-returns
+unfolding integer text
+returns c = laid-tail (marked _ (integerText (integerOf (c .before .before .before .before .before .before .before .before .before .args .z))) crlf (c .before .before .before .before .before .before .before .before .before .args .out .now) (c .before .before .before .before .before .before .before .before .before .pre) (c .before .before .before .before .before .before .write-integer .ensures)) (c .before .before .put-end .ensures)
+
+pub put-integer-spec : {M : Type 1} → statement M
+put-integer-spec =
+    tie.close
+    (tie.spec
+    slice-write-out
+    sub-write-integer
+    part-write-integer-start
+    part-write-integer-end
+    write-integer-requires
+    add-at
+    sub-put-end
+    part-put-end-start
+    part-put-end-end
+    put-end-requires
+    add-result
+    same-length
+    returns)

@@ -1,0 +1,20 @@
+use Rattle.wire.specs.Bytes.{text}
+use Rattle.wire.specs.Integer.{integerText}
+use Rattle.wire.specs.Reply.{integer}
+use borrow.Author.Needs.{needs}
+use Rattle.wire.proofs.replies.put_number.Statement.{statement}
+use Rattle.wire.proofs.replies.put_number.Tie as tie
+
+put-count-requires : tie.Need-put-count-requires
+unfolding integer text integerText
+put-count-requires c κs = c .before .before .pre
+
+same-length : tie.Need-same-length
+same-length c = search needs
+
+returns : tie.Need-returns
+unfolding integer text integerText
+returns c = c .before .before .put-count .ensures
+
+pub put-number-spec : {M : Type 1} → statement M
+put-number-spec = tie.close (tie.spec put-count-requires same-length returns)
