@@ -3,11 +3,7 @@ use mathlib.Core.Path.{_≡_}
 use mathlib.Core.Bool.{Bool, true, false, cond}
 use mathlib.Core.List.{List, [], _∷_, map}
 use mathlib.Core.Option.{Option, none, some}
-<<<<<<< HEAD
-use Prim.Native.Nat.{ℕ, zero, suc, _+_, _*_, _/_, _≤_, _<_}
-=======
 use Prim.Native.Nat.{ℕ, zero, suc, _+_, _-_, _*_, _/_, _≤_, _<_}
->>>>>>> origin/wire-done
 use lib.Dec.{leb, ltb, eqb}
 use lib.IntN.{ℤ, pos, negsuc, negℤ}
 use lib.ListN.{length, take, drop, getD}
@@ -20,11 +16,6 @@ use Rattle.wire.specs.declared.names.Row.{Row}
 use Rattle.wire.specs.declared.names.Row.the-variants as rows
 use Rattle.wire.specs.declared.places.Next.{Next}
 use Rattle.wire.specs.declared.places.Next.the-variants as nexts
-<<<<<<< HEAD
-use Rattle.wire.specs.Lists.{orElse}
-use Rattle.wire.specs.Bytes.{part, same, upper}
-use Rattle.wire.specs.Words.{Word, wordsOf}
-=======
 use Rattle.wire.specs.declared.places.Counted.{Counted}
 use Rattle.wire.specs.declared.places.Counted.the-variants as counts
 use Rattle.wire.specs.declared.places.Placed.{Placed}
@@ -32,7 +23,6 @@ use Rattle.wire.specs.declared.places.Placed.the-variants as placed
 use Rattle.wire.specs.Lists.{orElse}
 use Rattle.wire.specs.Bytes.{part, same, upper}
 use Rattle.wire.specs.Words.{Word, Read, wordsOf}
->>>>>>> origin/wire-done
 use Rattle.wire.specs.Reply.{laidOver}
 
 -- ---- integers
@@ -57,8 +47,6 @@ integerOf s = cond (s .negative) (negℤ (pos (s .magnitude))) (pos (s .magnitud
 
 -- ---- words
 
-<<<<<<< HEAD
-=======
 -- A reader at a place of a command of `size` bytes answers with places: what it left unread begins at `size` less its length.
 unfoldable pub countedFor : ℕ → Option (Read ℕ) → Counted
 countedFor size none = counts.Damaged
@@ -70,7 +58,6 @@ placedFor size none = placed.Damaged
 placedFor size (some w) =
     placed.Word (size - (length (w .found) + 2 + length (w .rest))) (length (w .found)) (size - length (w .rest))
 
->>>>>>> origin/wire-done
 -- the word of a place
 unfoldable pub wordIn : List ℕ → ℕ → ℕ → Word
 wordIn s start size = part start size s

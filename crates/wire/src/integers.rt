@@ -95,18 +95,11 @@ pub fn write_natural(n: u64, out: &mut [u8]) -> usize
     requires { ⌜ length (naturalText n) ≤ length (now out) ⌝ }
     ensures { λ r. ⌜ Laid (naturalText n) (now (out .entry)) (now (out .exit)) r ⌝ }
 {
-<<<<<<< HEAD
-    let mut at = 0;
-    if 9 < n {
-        at = write_natural(n / 10, out);
-    }
-=======
     if n < 10 {
         out[0] = (48 + n) as u8;
         return 1;
     }
     let at = write_natural(n / 10, out);
->>>>>>> origin/wire-done
     out[at] = (48 + n % 10) as u8;
     at + 1
 }
@@ -173,15 +166,6 @@ fn bounded(negative: bool, magnitude: u64) -> Integer
 pub fn at_most(a: Signed, b: Signed) -> bool
     ensures { λ r. ⌜ r ≡ leZ (integerOf a) (integerOf b) ⌝ }
 {
-<<<<<<< HEAD
-    if a.magnitude == 0 && b.magnitude == 0 {
-        return true;
-    }
-    if a.negative {
-        return !b.negative || b.magnitude <= a.magnitude;
-    }
-    !b.negative && a.magnitude <= b.magnitude
-=======
     if a.negative != b.negative {
         return a.negative || (a.magnitude == 0 && b.magnitude == 0);
     }
@@ -189,5 +173,4 @@ pub fn at_most(a: Signed, b: Signed) -> bool
         return b.magnitude <= a.magnitude;
     }
     a.magnitude <= b.magnitude
->>>>>>> origin/wire-done
 }

@@ -47,11 +47,7 @@ pub fn find(table: &[u8], word: &[u8]) -> Row
     let rows = table.len() / ROW;
     let mut i = 0;
     while i < rows {
-<<<<<<< HEAD
-        let at = i * ROW;
-=======
         let at = ROW * i;
->>>>>>> origin/wire-done
         let start = at + 1;
         let end = start + table[at] as usize;
         if spells(word, &table[start..end]) {

@@ -10,17 +10,10 @@ pub fn read_le(s: &[u8]) -> u64
     ensures { λ r. ⌜ r ≡ fromLE (now (s .entry)) ⌝ }
 {
     let mut x: u64 = 0;
-<<<<<<< HEAD
-    let mut i = s.len();
-    while 0 < i {
-        i -= 1;
-        x = x * 256 + s[i] as u64;
-=======
     let mut i = 0;
     while i < s.len() {
         x += (s[i] as u64) << (8 * i);
         i += 1;
->>>>>>> origin/wire-done
     }
     x
 }

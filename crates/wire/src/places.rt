@@ -1,16 +1,10 @@
 // The words of a command: where each of them stands.
 ghost use mathlib.Core.Path.{_≡_};
-<<<<<<< HEAD
-ghost use Prim.Native.Nat.{_≤_};
-ghost use lib.ListN.{length};
-ghost use Rattle.wire.specs.Promises.{Places, nextOf};
-=======
 ghost use Prim.Native.Nat.{_+_, _≤_};
 ghost use lib.ListN.{length, drop};
 ghost use Rattle.wire.specs.Bytes.{part, same};
 ghost use Rattle.wire.specs.Words.{crlf, beforeCR, readCount, readWord};
 ghost use Rattle.wire.specs.Promises.{Places, nextOf, countedFor, placedFor};
->>>>>>> origin/wire-done
 
 // The next word of a command, by its number, or the end of its words.
 pub enum Next {
@@ -37,13 +31,9 @@ enum Placed {
 }
 
 // The place of the first CR from a place on, or the end.
-<<<<<<< HEAD
-fn line_end(s: &[u8], from: usize) -> usize {
-=======
 fn line_end(s: &[u8], from: usize) -> usize
     ensures { λ r. ⌜ r ≡ from + length (beforeCR (drop from (now (s .entry)))) ⌝ }
 {
->>>>>>> origin/wire-done
     let mut i = from;
     while i < s.len() {
         if s[i] == 13 {
@@ -54,10 +44,6 @@ fn line_end(s: &[u8], from: usize) -> usize
     i
 }
 
-<<<<<<< HEAD
-// A mark, a count of at most `most`, CR LF, from a place on.
-fn read_count(s: &[u8], at: usize, mark: u8, most: u64) -> Counted {
-=======
 // Whether CR LF stands at a place.
 fn ends_line(s: &[u8], at: usize) -> bool
     requires { ⌜ at ≤ length (now s) ⌝ }
@@ -76,7 +62,6 @@ fn ends_line(s: &[u8], at: usize) -> bool
 fn read_count(s: &[u8], at: usize, mark: u8, most: u64) -> Counted
     ensures { λ r. ⌜ r ≡ countedFor (length (now (s .entry))) (readCount mark most (drop at (now (s .entry)))) ⌝ }
 {
->>>>>>> origin/wire-done
     if s.len() <= at {
         return Counted::Damaged;
     }
@@ -85,14 +70,7 @@ fn read_count(s: &[u8], at: usize, mark: u8, most: u64) -> Counted
     }
     let from = at + 1;
     let end = line_end(s, from);
-<<<<<<< HEAD
-    if s.len() - end < 2 {
-        return Counted::Damaged;
-    }
-    if s[end + 1] != 10 {
-=======
     if !ends_line(s, end) {
->>>>>>> origin/wire-done
         return Counted::Damaged;
     }
     let read = crate::integers::read_natural(&s[from..end], most);
@@ -103,17 +81,10 @@ fn read_count(s: &[u8], at: usize, mark: u8, most: u64) -> Counted
 }
 
 // One word from a place on: `$len\r\n`, the bytes, `\r\n`.
-<<<<<<< HEAD
-fn read_word(s: &[u8], at: usize) -> Placed {
-    if s.len() < at {
-        return Placed::Damaged;
-    }
-=======
 fn read_word(s: &[u8], at: usize) -> Placed
     requires { ⌜ at ≤ length (now s) ⌝ }
     ensures { λ r. ⌜ r ≡ placedFor (length (now (s .entry))) (readWord (drop at (now (s .entry)))) ⌝ }
 {
->>>>>>> origin/wire-done
     let left = s.len() - at;
     let count = read_count(s, at, 36, left as u64);
     let Counted::Count(size, start) = count else {
@@ -123,14 +94,7 @@ fn read_word(s: &[u8], at: usize) -> Placed
         return Placed::Damaged;
     }
     let end = start + size;
-<<<<<<< HEAD
-    if s.len() - end < 2 {
-        return Placed::Damaged;
-    }
-    if s[end] != 13 || s[end + 1] != 10 {
-=======
     if !ends_line(s, end) {
->>>>>>> origin/wire-done
         return Placed::Damaged;
     }
     Placed::Word(start, size, end + 2)

@@ -3,16 +3,10 @@ use crate::integers::Signed;
 use crate::integers::write_integer;
 use crate::integers::write_natural;
 use crate::slices::copy;
-<<<<<<< HEAD
-ghost use mathlib.Core.List.{_++_};
-ghost use Prim.Native.Nat.{_≤_};
-ghost use lib.ListN.{length};
-=======
 ghost use mathlib.Core.List.{_∷_, _++_};
 ghost use Prim.Native.Nat.{_≤_};
 ghost use lib.ListN.{length};
 ghost use Rattle.wire.specs.Integer.{naturalText};
->>>>>>> origin/wire-done
 ghost use Rattle.wire.specs.Words.{crlf};
 ghost use Rattle.wire.specs.Reply.{nil, integer, number, bulk, header};
 ghost use Rattle.wire.specs.Promises.{integerOf, Laid};
@@ -45,14 +39,10 @@ pub fn put_nil(out: &mut [u8]) -> usize
 }
 
 // A mark, a number's text, CR LF.
-<<<<<<< HEAD
-fn put_count(mark: u8, n: u64, out: &mut [u8]) -> usize {
-=======
 fn put_count(mark: u8, n: u64, out: &mut [u8]) -> usize
     requires { ⌜ length (mark ∷ naturalText n ++ crlf) ≤ length (now out) ⌝ }
     ensures { λ r. ⌜ Laid (mark ∷ naturalText n ++ crlf) (now (out .entry)) (now (out .exit)) r ⌝ }
 {
->>>>>>> origin/wire-done
     out[0] = mark;
     let at = write_natural(n, &mut out[1..]) + 1;
     put_end(&mut out[at..]) + at
