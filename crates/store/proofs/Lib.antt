@@ -10,3 +10,11 @@ pub mod SlotBytes
 pub mod WellSlot
 pub mod Encode
 pub mod Places
+pub mod SlotParts
+pub mod SlotChecks
+pub mod StoreChecks
+pub mod Marks
+pub mod At
+pub mod Searches
+pub mod Writing
+pub mod Changes

@@ -12,7 +12,8 @@ use Rattle.store.specs.Store.{Store, decodeSlot, slotsIn, slotCount, slo
 use Rattle.store.proofs.Valid.{Valid}
 use Rattle.store.proofs.Encode.{count-encode, slots-encode}
 
-slotsIn-at : (n : ℕ) (t : List ℕ) (i : ℕ) (d : List ℕ) → i < n → getD (slotsIn n t) i d ≡ take slotSize (drop (slotSize * i) t)
+-- the bytes of slot i of the first n stand at 128 * i
+pub slotsIn-at : (n : ℕ) (t : List ℕ) (i : ℕ) (d : List ℕ) → i < n → getD (slotsIn n t) i d ≡ take slotSize (drop (slotSize * i) t)
 unfolding slotsIn
 slotsIn-at zero t i d l = absurd (omega arith)
 slotsIn-at (suc n) t zero d l = refl

@@ -1,18 +1,19 @@
 -- What the functions of the store ask and answer, in the terms of the other definitions.
 use mathlib.Core.Path.{_≡_}
-use mathlib.Core.Bool.{Bool, true, false, cond}
-use mathlib.Core.List.{List, [], _∷_}
+use mathlib.Core.Bool.{Bool, true, false, cond, _&&_, _||_}
+use mathlib.Core.List.{List, [], _∷_, map, _++_}
 use mathlib.Core.Option.{Option, none, some, Option·map}
-use Prim.Native.Nat.{ℕ, zero, suc, _+_, _≤_, _<_}
+use Prim.Native.Nat.{ℕ, zero, suc, _+_, _-_, _*_, _/_, _%_, _≤_, _<_}
+use lib.Dec.{leb, ltb, eqb}
 use lib.ListN.{length, drop, getD, set}
-use Rattle.wire.specs.Lists.{orElse}
-use Rattle.wire.specs.Bytes.{Bytes}
+use Rattle.wire.specs.Lists.{every, all, any, orElse}
+use Rattle.wire.specs.Bytes.{Bytes, fromLE, part, allZero, toLE}
 use Rattle.store.specs.declared.Expiry.{Expiry}
 use Rattle.store.specs.declared.Expiry.the-variants.{Never, At}
 use Rattle.store.specs.declared.Found.{Found}
 use Rattle.store.specs.declared.Found.the-variants as founds
-use Rattle.store.specs.Layout.{slotSize, keyMost, fieldMost, valueMost, versionMost, timeLimit, stateAt, emptyState}
-use Rattle.store.specs.Store.{Entry, Slot, Store, decode, slotCount, slotWell, wellFormed, instantOf, holds}
+use Rattle.store.specs.Layout.{headerSize, slotSize, mostSlots, clockSize, reservedSize, stateAt, keyLengthAt, fieldLengthAt, valueLengthAt, expiryAt, expirySize, keyAt, keyMost, fieldAt, fieldMost, valueAt, valueMost, emptyState, expiringState, versionMost, timeLimit, versionSize}
+use Rattle.store.specs.Store.{Entry, Slot, Store, decodeSlot, slotsIn, clockOf, decode, slotCount, zeroBeyond, slotWell, wellFormed, instantOf, holds, clash, stateOf}
 use Rattle.store.specs.Time.{lowestSlot, emptySlot}
 
 -- ---- one slot's bytes
@@ -26,6 +27,106 @@ pub record SlotBytes (t : List ℕ) : Type 0 where
 pub record HeldBytes (t : List ℕ) : Type 0 where
   pub slot : SlotBytes t
   pub held : getD t stateAt 0 ≡ emptyState → ⊥
+
+-- the tests of a held slot, in three parts
+unfoldable pub lengthTests : List ℕ → List Bool
+lengthTests t =
+    leb (getD t stateAt 0) expiringState
+    ∷ leb (getD t keyLengthAt 0) keyMost
+    ∷ leb (getD t fieldLengthAt 0) fieldMost
+    ∷ leb (getD t valueLengthAt 0) valueMost
+    ∷ []
+
+unfoldable pub expiryTests : List ℕ → List Bool
+expiryTests t =
+    (eqb (getD t stateAt 0) expiringState || allZero (part expiryAt expirySize t))
+    ∷ leb (fromLE (part expiryAt expirySize t)) timeLimit
+    ∷ []
+
+unfoldable pub placeTests : List ℕ → List Bool
+placeTests t =
+    zeroBeyond keyAt keyMost (getD t keyLengthAt 0) t
+    ∷ zeroBeyond fieldAt fieldMost (getD t fieldLengthAt 0) t
+    ∷ zeroBeyond valueAt valueMost (getD t valueLengthAt 0) t
+    ∷ []
+
+-- ---- which bytes are a store
+
+-- the tests of a size
+unfoldable pub sizeTests : ℕ → List Bool
+sizeTests size =
+    eqb size (headerSize + slotSize * ((size - headerSize) / slotSize))
+    ∷ leb 1 ((size - headerSize) / slotSize)
+    ∷ leb ((size - headerSize) / slotSize) mostSlots
+    ∷ []
+
+-- how many slots bytes of a size have, 0 where it is no store's
+unfoldable pub countFor : ℕ → ℕ
+countFor size = cond (every (sizeTests size)) ((size - headerSize) / slotSize) 0
+
+unfoldable pub headerWell : List ℕ → Bool
+headerWell b = ltb (clockOf b) timeLimit && allZero (part clockSize reservedSize b)
+
+-- what the first slots hold
+unfoldable pub slotsOf : ℕ → List ℕ → List Slot
+slotsOf count b = map decodeSlot (slotsIn count (drop headerSize b))
+
+-- bytes with well-formed slots
+pub record SlotsWell (count : ℕ) (b : List ℕ) : Type 0 where
+  pub size : headerSize + slotSize * count ≤ length b
+  pub bytes : Bytes b
+  pub well : all slotWell (slotsIn count (drop headerSize b)) ≡ true
+
+-- A number of a key and a field, padded to their places.
+unfoldable pub nameNumber : List ℕ → List ℕ → ℕ
+nameNumber k f =
+    fromLE (part 0 8 k) % 4294967291 * 3
+    + fromLE (part 8 8 k) % 4294967279 * 5
+    + fromLE (part 0 8 f) % 4294967231 * 7
+    + fromLE (part 8 8 f) % 4294967197 * 11
+    + fromLE (part 16 8 f) % 4294967189 * 13
+    + fromLE (part 24 8 f) % 4294967161 * 17
+
+unfoldable pub nameOf : List ℕ → ℕ
+nameOf t = nameNumber (part keyAt keyMost t) (part fieldAt fieldMost t)
+
+-- The marks of names are two tables, one after the other: each name has a place in both, with 1 where the name was seen.
+abbrev pub marksSize : ℕ
+marksSize = 8192
+
+unfoldable pub firstMark : ℕ → ℕ
+firstMark name = name % 4093
+
+unfoldable pub secondMark : ℕ → ℕ
+secondMark name = 4096 + name / 4093 % 4091
+
+unfoldable pub seen : ℕ → List ℕ → Bool
+seen name m = eqb (getD m (firstMark name) 0 + getD m (secondMark name) 0) 2
+
+unfoldable pub withMark : ℕ → List ℕ → List ℕ
+withMark name m = set (set m (firstMark name) 1) (secondMark name) 1
+
+-- the marks with those of a slot's name
+unfoldable pub withSlotMark : List ℕ → List ℕ → List ℕ
+withSlotMark t m = cond (eqb (getD t stateAt 0) emptyState) m (withMark (nameOf t) m)
+
+-- every slot from slot i on that holds an entry has its marks
+pub record Marked (count : ℕ) (b : List ℕ) (i : ℕ) (m : List ℕ) : Type 0 where
+  pub size : length m ≡ marksSize
+  pub marks : (j : ℕ) → i ≤ j → j < count → (getD (part (headerSize + slotSize * j) slotSize b) stateAt 0 ≡ emptyState → ⊥)
+      → (getD m (firstMark (nameOf (part (headerSize + slotSize * j) slotSize b))) 0 ≡ 1)
+      × (getD m (secondMark (nameOf (part (headerSize + slotSize * j) slotSize b))) 0 ≡ 1)
+
+-- slot i is to be looked at, with the marks of those after it
+pub record Turn (count : ℕ) (b : List ℕ) (i : ℕ) (m : List ℕ) : Type 0 where
+  pub slots : SlotsWell count b
+  pub inside : i < count
+  pub marked : Marked count b (i + 1) m
+
+-- whether slot i has the name of a later one, and the marks with its own
+pub record Turned (count : ℕ) (b : List ℕ) (i : ℕ) (before after : List ℕ) (r : Bool) : Type 0 where
+  pub answer : r ≡ any (clash (decodeSlot (part (headerSize + slotSize * i) slotSize b))) (drop (i + 1) (slotsOf count b))
+  pub marks : after ≡ withSlotMark (part (headerSize + slotSize * i) slotSize b) before
 
 -- ---- a store
 
@@ -68,6 +169,17 @@ entry k f v n x = record { key = k; field = f; value = v; version = n; expiry = 
 -- an entry with another version and expiry
 abbrev pub stamped : ℕ → Expiry → Entry → Entry
 stamped n x e = record { key = e .key; field = e .field; value = e .value; version = n; expiry = x }
+
+-- a slot's bytes with another state, version and expiry
+unfoldable pub stampedBytes : ℕ → Expiry → List ℕ → List ℕ
+stampedBytes n x t = (stateOf x ∷ part keyLengthAt 3 t) ++ (toLE versionSize n ++ (toLE expirySize (instantOf x) ++ drop keyAt t))
+
+-- a key, a field and a value fit a slot's bytes
+pub record Writable (t k f v : List ℕ) : Type 0 where
+  pub size : length t ≡ slotSize
+  pub key : length k ≤ keyMost
+  pub field : length f ≤ fieldMost
+  pub value : length v ≤ valueMost
 
 -- an entry fits a slot of a well-formed store, and no other slot holds its key and field
 pub record Placeable (b : List ℕ) (i : ℕ) (e : Entry) : Type 0 where

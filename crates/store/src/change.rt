@@ -22,10 +22,10 @@ ghost use mathlib.Core.Bool.{true};
 ghost use mathlib.Core.Option.{none, some};
 ghost use lib.ListN.{length};
 ghost use Prim.Native.Nat.{_≤_, _<_};
-ghost use Rattle.wire.specs.Bytes.{toLE, padded};
-ghost use Rattle.store.specs.Layout.{slotSize, timeLimit, versionMost, valueMost, versionSize, expirySize};
+ghost use Rattle.wire.specs.Bytes.{padded};
+ghost use Rattle.store.specs.Layout.{slotSize, timeLimit, versionMost};
 ghost use Rattle.store.specs.Store.{decode, wellFormed, slotCount, encodeEntry, stateOf, instantOf};
-ghost use Rattle.store.specs.Promises.{Held, Holds, Placeable, withClock, withSlot, entry, entryAt, stamped};
+ghost use Rattle.store.specs.Promises.{Held, Holds, Placeable, Writable, withClock, withSlot, entry, entryAt, stamped, stampedBytes};
 
 // Sets the clock.
 pub fn set_clock(store: &mut [u8], time: u64)
@@ -55,23 +55,41 @@ fn write_padded(from: &[u8], to: &mut [u8])
     clear(&mut to[end..]);
 }
 
-// Writes state, version and expiry of one slot's bytes.
-fn write_stamp(t: &mut [u8], version: u64, expiry: Expiry) {
-    write_le(&mut t[VERSION..EXPIRY], version);
+// The state of a slot that holds an entry.
+fn state_of(expiry: Expiry) -> u8
+    ensures { λ r. ⌜ r ≡ stateOf expiry ⌝ }
+{
     match expiry {
-        Expiry::Never => {
-            t[STATE] = HELD;
-            write_le(&mut t[EXPIRY..KEY], 0);
-        }
-        Expiry::At(instant) => {
-            t[STATE] = EXPIRING;
-            write_le(&mut t[EXPIRY..KEY], instant);
-        }
+        Expiry::Never => HELD,
+        Expiry::At(_) => EXPIRING,
     }
 }
 
+// The instant that is written for an expiry.
+fn instant_of(expiry: Expiry) -> u64
+    ensures { λ r. ⌜ r ≡ instantOf expiry ⌝ }
+{
+    match expiry {
+        Expiry::Never => 0,
+        Expiry::At(instant) => instant,
+    }
+}
+
+// Writes state, version and expiry of one slot's bytes.
+fn write_stamp(t: &mut [u8], version: u64, expiry: Expiry)
+    requires { ⌜ length (now t) ≡ slotSize ⌝ }
+    ensures { λ _. ⌜ now (t .exit) ≡ stampedBytes version expiry (now (t .entry)) ⌝ }
+{
+    t[STATE] = state_of(expiry);
+    write_le(&mut t[VERSION..EXPIRY], version);
+    write_le(&mut t[EXPIRY..KEY], instant_of(expiry));
+}
+
 // Writes an entry over one slot's bytes.
-fn write_entry(t: &mut [u8], key: &[u8], field: &[u8], value: &[u8], version: u64, expiry: Expiry) {
+fn write_entry(t: &mut [u8], key: &[u8], field: &[u8], value: &[u8], version: u64, expiry: Expiry)
+    requires { ⌜ Writable (now t) (now key) (now field) (now value) ⌝ }
+    ensures { λ _. ⌜ now (t .exit) ≡ encodeEntry (entry (now (key .entry)) (now (field .entry)) (now (value .entry)) version expiry) ⌝ }
+{
     t[KEY_LENGTH] = (key.len() % 256) as u8;
     t[FIELD_LENGTH] = (field.len() % 256) as u8;
     t[VALUE_LENGTH] = (value.len() % 256) as u8;

@@ -50,8 +50,7 @@ pub fn dead(store: &[u8], time: u64) -> Found
     let count = slots(store);
     let mut i = 0;
     while i < count {
-        let t = slot::bytes(store, i);
-        if !slot::is_empty(t) && !slot::is_live(t, time) {
+        if slot::is_dead(slot::bytes(store, i), time) {
             return Found::At(i);
         }
         i += 1;
@@ -67,8 +66,7 @@ pub fn next_live(store: &[u8], key: &[u8], time: u64, from: usize) -> Found
     let count = slots(store);
     let mut i = from;
     while i < count {
-        let t = slot::bytes(store, i);
-        if slot::is_live(t, time) && slot::of_key(t, key) {
+        if slot::is_live_of(slot::bytes(store, i), key, time) {
             return Found::At(i);
         }
         i += 1;
@@ -131,8 +129,7 @@ pub fn count_live(store: &[u8], key: &[u8], time: u64) -> usize
     let mut n = 0;
     let mut i = 0;
     while i < count {
-        let t = slot::bytes(store, i);
-        if slot::is_live(t, time) && slot::of_key(t, key) {
+        if slot::is_live_of(slot::bytes(store, i), key, time) {
             n += 1;
         }
         i += 1;

@@ -1,5 +1,6 @@
 // Reads stores from standard input, each after its size in 4 bytes, low first, and writes a line for each: 1 where it is well formed, else 0.
-use libc::{STDIN_FILENO, STDOUT_FILENO};
+use libc::STDIN_FILENO;
+use libc::STDOUT_FILENO;
 ghost use Prim.Native.Nat.{_≤_, _<_};
 ghost use lib.ListN.{length};
 

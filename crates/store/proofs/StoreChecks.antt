@@ -1,0 +1,211 @@
+-- Laws of the tests of a store's bytes, in the forms in which the code makes them.
+use mathlib.Core.Path.{_≡_, refl, sym, _∙_}
+use mathlib.Core.Bool.{Bool, true, false, cond, _&&_, and-true, and-false}
+use mathlib.Core.List.{List, [], _∷_, _++_, map}
+use mathlib.Core.Option.{none}
+use Prim.Native.Nat.{ℕ, _+_, _-_, _*_, _/_, _≤_, _<_}
+use native.Mathlib.Numerals.{add-one}
+use native.Mathlib.Omega.{arith}
+use lib.Dec.{leb, ltb, eqb}
+use lib.ListN.{length, drop, getD, length-map, List·getD-map, drop-of-length-le}
+use lib.Seq.{drop-drop, drop-cons}
+use lib.Pow.{areBytes}
+use borrow.Author.Tests.{eq-eqb, ne-eqb, le-leb, lt-leb, leb-true, leb-false, eqb-true}
+use Rattle.wire.specs.Lists.{every, all, any}
+use Rattle.wire.specs.Bytes.{Bytes, part, allZero}
+use Rattle.wire.proofs.Lists.{all-at, every-at}
+use Rattle.wire.proofs.Bytes.{bytes-part}
+use Rattle.store.specs.Layout.{headerSize, slotSize, mostSlots, clockSize, reservedSize, timeLimit}
+use Rattle.store.specs.Store.{Slot, decodeSlot, slotsIn, slotCount, slotBytes, clockOf, decode, slotWell, holds, distinct, wellFormed}
+use Rattle.store.specs.Promises.{SlotBytes, sizeTests, countFor, headerWell, slotsOf, SlotsWell}
+use Rattle.store.proofs.Pieces.{length-part}
+use Rattle.store.proofs.Encode.{length-slotsIn}
+use Rattle.store.proofs.Places.{slotsIn-at}
+use Rattle.store.proofs.SlotChecks.{every-append, every-fails}
+
+-- ---- slots by their number
+
+module _ (count : ℕ) (b : List ℕ) where
+  abbrev pieces : List (List ℕ)
+  pieces = slotsIn count (drop headerSize b)
+
+  piece-at : (i : ℕ) (d : List ℕ) → i < count → getD pieces i d ≡ part (headerSize + slotSize * i) slotSize b
+  unfolding part
+  piece-at i d l = rw (← drop-drop (slotSize * i) headerSize b) (slotsIn-at count (drop headerSize b) i d l)
+
+  pub slotsOf-at : (i : ℕ) → i < count → getD (slotsOf count b) i none ≡ decodeSlot (part (headerSize + slotSize * i) slotSize b)
+  unfolding slotsOf decodeSlot
+  slotsOf-at i l = List·getD-map decodeSlot pieces i [] ∙ rw (piece-at i [] l)
+
+  pub length-slotsOf : length (slotsOf count b) ≡ count
+  unfolding slotsOf
+  length-slotsOf = rw (length-map, length-slotsIn)
+
+  -- a slot's bytes are as long as a slot
+  pub slot-size : (i : ℕ) → headerSize + slotSize * count ≤ length b → i < count → length (part (headerSize + slotSize * i) slotSize b) ≡ slotSize
+  slot-size i h l = length-part (headerSize + slotSize * i) slotSize b (omega arith)
+
+  -- well-formed slots, one by one
+  pub slot-bytes : (i : ℕ) → SlotsWell count b → i < count → SlotBytes (part (headerSize + slotSize * i) slotSize b)
+  slot-bytes i w l =
+      let m : i < length pieces = rw length-slotsIn l in
+      record {
+        size = slot-size i (w .size) l;
+        bytes = bytes-part (headerSize + slotSize * i) slotSize b (w .bytes);
+        well = rw (piece-at i [] l) at (all-at slotWell pieces [] (w .well) i m);
+      }
+
+-- ---- one slot after the other
+
+-- What every slot is tested for is left to the slots from i on.
+pub record Judging (count : ℕ) (b : List ℕ) (i : ℕ) : Type 0 where
+  pub inside : i ≤ count
+  pub rest : all slotWell (slotsIn count (drop headerSize b)) ≡ all slotWell (drop i (slotsIn count (drop headerSize b)))
+
+module _ (count : ℕ) (b : List ℕ) where
+  pub judge-begins : Judging count b 0
+  judge-begins = record { inside = omega arith; rest = refl }
+
+  module _ (i : ℕ) (g : Judging count b i) where
+    judge-next : i < count → all slotWell (pieces count b) ≡ slotWell (part (headerSize + slotSize * i) slotSize b) && all slotWell (drop (i + 1) (pieces count b))
+    unfolding all
+    judge-next l =
+        let m : i < length (pieces count b) = rw length-slotsIn l in
+        rw (g .rest, drop-cons (pieces count b) i [] m, piece-at count b i [] l, add-one)
+
+    pub judge-fails : i < count → slotWell (part (headerSize + slotSize * i) slotSize b) ≡ false → all slotWell (slotsIn count (drop headerSize b)) ≡ false
+    judge-fails l h = rw (judge-next l, h)
+
+    pub judge-goes-on : i < count → slotWell (part (headerSize + slotSize * i) slotSize b) ≡ true → Judging count b (i + 1)
+    judge-goes-on l h = record { inside = omega arith; rest = judge-next l ∙ rw h }
+
+    pub judge-ends : count ≤ i → all slotWell (slotsIn count (drop headerSize b)) ≡ true
+    unfolding all
+    judge-ends h =
+        let m : length (pieces count b) ≤ i = rw length-slotsIn h in
+        rw (g .rest, drop-of-length-le (pieces count b) m)
+
+-- Whether a slot has a name is left to the slots from i on.
+pub record Seeking (k f : List ℕ) (count : ℕ) (b : List ℕ) (from i : ℕ) : Type 0 where
+  pub inside : i ≤ count
+  pub rest : any (holds k f) (drop from (slotsOf count b)) ≡ any (holds k f) (drop i (slotsOf count b))
+
+module _ (k f : List ℕ) (count : ℕ) (b : List ℕ) (from : ℕ) where
+  pub seek-begins : from ≤ count → Seeking k f count b from from
+  seek-begins h = record { inside = h; rest = refl }
+
+  module _ (i : ℕ) (g : Seeking k f count b from i) where
+    seek-rest : i < count → drop i (slotsOf count b) ≡ decodeSlot (part (headerSize + slotSize * i) slotSize b) ∷ drop (i + 1) (slotsOf count b)
+    seek-rest l =
+        let m : i < length (slotsOf count b) = rw length-slotsOf l in
+        rw (drop-cons (slotsOf count b) i none m, slotsOf-at count b i l, add-one)
+
+    pub seek-finds : i < count → holds k f (decodeSlot (part (headerSize + slotSize * i) slotSize b)) ≡ true → any (holds k f) (drop from (slotsOf count b)) ≡ true
+    unfolding any
+    seek-finds l h = rw (g .rest, seek-rest l, h)
+
+    pub seek-goes-on : i < count → holds k f (decodeSlot (part (headerSize + slotSize * i) slotSize b)) ≡ false → Seeking k f count b from (i + 1)
+    unfolding any
+    seek-goes-on l h = record { inside = omega arith; rest = rw (g .rest, seek-rest l, h) }
+
+    pub seek-ends : count ≤ i → any (holds k f) (drop from (slotsOf count b)) ≡ false
+    unfolding any
+    seek-ends h =
+        let m : length (slotsOf count b) ≤ i = rw length-slotsOf h in
+        rw (g .rest, drop-of-length-le (slotsOf count b) m)
+
+-- ---- the size
+
+module _ (size : ℕ) where
+  abbrev slots : ℕ
+  slots = (size - headerSize) / slotSize
+
+  count-failed : every (sizeTests size) ≡ false → 0 ≡ countFor size
+  unfolding countFor
+  count-failed h = rw h
+
+  pub count-short : size < headerSize → 0 ≡ countFor size
+  unfolding sizeTests
+  count-short h = count-failed (every-fails _ 0 (ne-eqb size (headerSize + slotSize * slots) (λ e. omega arith)))
+
+  pub count-many : mostSlots < slots → 0 ≡ countFor size
+  unfolding sizeTests
+  count-many h = count-failed (every-fails _ 2 (lt-leb slots mostSlots h))
+
+  pub count-uneven : (headerSize + slotSize * slots ≡ size → ⊥) → 0 ≡ countFor size
+  unfolding sizeTests
+  count-uneven h = count-failed (every-fails _ 0 (ne-eqb size (headerSize + slotSize * slots) (λ e. h (sym e))))
+
+  pub count-right : slots ≤ mostSlots → headerSize + slotSize * slots ≡ size → slots ≡ countFor size
+  unfolding countFor sizeTests every
+  count-right m e = rw (eq-eqb size (headerSize + slotSize * slots) (sym e), le-leb slots mostSlots m) (go (leb 1 slots) refl)
+    where
+      go : (x : Bool) → leb 1 slots ≡ x → slots ≡ cond (x && (true && true)) slots 0
+      go true q = refl
+      go false q = let l : slots < 1 = leb-false 1 slots q in omega arith
+
+  -- a count that is not 0 has passed the tests
+  counted : (countFor size ≡ 0 → ⊥) → every (sizeTests size) ≡ true
+  counted n = go (every (sizeTests size)) refl
+    where
+      go : (x : Bool) → every (sizeTests size) ≡ x → x ≡ true
+      go true q = refl
+      go false q = absurd (n (sym (count-failed q)))
+
+  count-is : (countFor size ≡ 0 → ⊥) → countFor size ≡ slots
+  unfolding countFor
+  count-is n = rw (counted n)
+
+  -- and no byte is left
+  pub count-fits : (countFor size ≡ 0 → ⊥) → headerSize + slotSize * countFor size ≡ size
+  unfolding sizeTests
+  count-fits n = rw (count-is n) (sym (eqb-true size (headerSize + slotSize * slots) (every-at _ (counted n) 0)))
+
+-- ---- all tests
+
+module _ (b : List ℕ) where
+  abbrev laterTests : List Bool
+  laterTests = ltb (clockOf b) timeLimit ∷ allZero (part clockSize reservedSize b) ∷ all slotWell (slotBytes b) ∷ distinct (decode b .slots) ∷ []
+
+  parts : wellFormed b ≡ areBytes b && (every (sizeTests (length b)) && every laterTests)
+  unfolding wellFormed slotCount sizeTests every
+  parts = every-append (areBytes b ∷ []) (sizeTests (length b) ++ laterTests) ∙ rw (and-true (areBytes b), every-append (sizeTests (length b)) laterTests)
+
+  later : every laterTests ≡ headerWell b && (all slotWell (slotBytes b) && distinct (decode b .slots))
+  unfolding every headerWell
+  later = go (ltb (clockOf b) timeLimit) (allZero (part clockSize reservedSize b)) (all slotWell (slotBytes b)) (distinct (decode b .slots))
+    where
+      go : (p q r s : Bool) → p && (q && (r && (s && true))) ≡ p && q && (r && s)
+      go true true true true = refl
+      go true true true false = refl
+      go true true false s = refl
+      go true false r s = refl
+      go false q r s = refl
+
+  module _ (n : ℕ) (e : n ≡ countFor (length b)) where
+    -- bytes of another size are no store
+    pub size-wrong : n ≡ 0 → wellFormed b ≡ false
+    unfolding countFor sizeTests
+    size-wrong z = rw parts (go (every (sizeTests (length b))) refl)
+      where
+        go : (x : Bool) → every (sizeTests (length b)) ≡ x → areBytes b && (x && every laterTests) ≡ false
+        go true q =
+            let s : countFor (length b) ≡ slots (length b) = rw q in
+            absurd (omega (arith, leb-true 1 (slots (length b)) (every-at _ q 1)))
+        go false q = and-false (areBytes b)
+
+    module _ (z : n ≡ 0 → ⊥) where
+      nonzero : countFor (length b) ≡ 0 → ⊥
+      nonzero y = z (e ∙ y)
+
+      -- header and slots are inside
+      pub header-inside : headerSize ≤ length b
+      header-inside = omega (arith, count-fits (length b) nonzero)
+
+      pub slots-inside : headerSize + slotSize * n ≤ length b
+      slots-inside = rw e (omega (arith, count-fits (length b) nonzero))
+
+      -- bytes of a store's size are one if header and slots are well formed and no two slots have the same name
+      pub size-right : Bytes b → wellFormed b ≡ headerWell b && (all slotWell (slotsIn n (drop headerSize b)) && distinct (slotsOf n b))
+      unfolding slotBytes slotCount decode slotsOf
+      size-right y = rw (parts, y, counted (length b) nonzero, e, count-is (length b) nonzero) later

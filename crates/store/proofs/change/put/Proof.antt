@@ -1,0 +1,47 @@
+use native.Mathlib.Omega.{arith}
+use denote.Ref.{now}
+use Rattle.store.proofs.Changes.{slot-inside, slot-placed}
+use borrow.Author.Needs.{needs}
+use Rattle.store.proofs.change.put.Statement.{statement}
+use Rattle.store.proofs.change.put.Tie as tie
+
+mul-start : tie.Need-mul-start
+mul-start c = omega (arith, slot-inside (now (c .before .before .before .before .args .store)) (c .before .before .before .before .pre .well) (c .before .before .before .before .args .i) (c .before .before .before .before .pre .inside))
+
+add-start : tie.Need-add-start
+add-start c = omega (arith, slot-inside (now (c .before .before .before .before .args .store)) (c .before .before .before .before .pre .well) (c .before .before .before .before .args .i) (c .before .before .before .before .pre .inside))
+
+add-end : tie.Need-add-end
+add-end c = omega (arith, slot-inside (now (c .before .before .before .before .args .store)) (c .before .before .before .before .pre .well) (c .before .before .before .before .args .i) (c .before .before .before .before .pre .inside))
+
+sub-write-entry : tie.Need-sub-write-entry
+sub-write-entry c = search needs
+
+part-write-entry-start : tie.Need-part-write-entry-start
+part-write-entry-start c = search needs
+
+part-write-entry-end : tie.Need-part-write-entry-end
+part-write-entry-end c = omega (arith, slot-inside (now (c .before .before .before .before .args .store)) (c .before .before .before .before .pre .well) (c .before .before .before .before .args .i) (c .before .before .before .before .pre .inside))
+
+write-entry-requires : tie.Need-write-entry-requires
+write-entry-requires c κs = search needs
+
+same-length : tie.Need-same-length
+same-length c = search needs
+
+returns : tie.Need-returns
+returns c = slot-placed (now (c .before .before .before .before .before .before .before .before .args .store)) (c .before .before .before .before .before .before .before .before .args .i) _ (c .before .before .write-entry .last .0) (c .before .before .before .before .before .before .before .before .pre) (c .before .before .write-entry .ensures)
+
+pub put-spec : {M : Type 1} → statement M
+put-spec =
+    tie.close
+    (tie.spec
+    mul-start
+    add-start
+    add-end
+    sub-write-entry
+    part-write-entry-start
+    part-write-entry-end
+    write-entry-requires
+    same-length
+    returns)

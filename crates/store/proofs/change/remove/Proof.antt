@@ -1,0 +1,47 @@
+use native.Mathlib.Omega.{arith}
+use denote.Ref.{now}
+use Rattle.store.proofs.Changes.{slot-inside, slot-cleared}
+use borrow.Author.Needs.{needs}
+use Rattle.store.proofs.change.remove.Statement.{statement}
+use Rattle.store.proofs.change.remove.Tie as tie
+
+mul-start : tie.Need-mul-start
+mul-start c = omega (arith, slot-inside (now (c .before .args .store)) (c .before .pre .0) (c .before .args .i) (c .before .pre .1))
+
+add-start : tie.Need-add-start
+add-start c = omega (arith, slot-inside (now (c .before .args .store)) (c .before .pre .0) (c .before .args .i) (c .before .pre .1))
+
+add-end : tie.Need-add-end
+add-end c = omega (arith, slot-inside (now (c .before .args .store)) (c .before .pre .0) (c .before .args .i) (c .before .pre .1))
+
+sub-clear : tie.Need-sub-clear
+sub-clear c = search needs
+
+part-clear-start : tie.Need-part-clear-start
+part-clear-start c = search needs
+
+part-clear-end : tie.Need-part-clear-end
+part-clear-end c = omega (arith, slot-inside (now (c .before .args .store)) (c .before .pre .0) (c .before .args .i) (c .before .pre .1))
+
+clear-requires : tie.Need-clear-requires
+clear-requires c κs = search needs
+
+same-length : tie.Need-same-length
+same-length c = search needs
+
+returns : tie.Need-returns
+returns c = slot-cleared (now (c .before .before .before .before .before .args .store)) (c .before .before .before .before .before .pre .0) (c .before .before .before .before .before .args .i) (c .before .before .before .before .before .pre .1) (c .before .before .clear .last .0) (c .before .before .clear .ensures)
+
+pub remove-spec : {M : Type 1} → statement M
+remove-spec =
+    tie.close
+    (tie.spec
+    mul-start
+    add-start
+    add-end
+    sub-clear
+    part-clear-start
+    part-clear-end
+    clear-requires
+    same-length
+    returns)

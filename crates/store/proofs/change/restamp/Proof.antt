@@ -1,0 +1,47 @@
+use native.Mathlib.Omega.{arith}
+use denote.Ref.{now}
+use Rattle.store.proofs.Changes.{slot-inside, slot-stamped}
+use borrow.Author.Needs.{needs}
+use Rattle.store.proofs.change.restamp.Statement.{statement}
+use Rattle.store.proofs.change.restamp.Tie as tie
+
+mul-start : tie.Need-mul-start
+mul-start c = omega (arith, slot-inside (now (c .before .args .store)) (c .before .pre .0 .well) (c .before .args .i) (c .before .pre .0 .inside))
+
+add-start : tie.Need-add-start
+add-start c = omega (arith, slot-inside (now (c .before .args .store)) (c .before .pre .0 .well) (c .before .args .i) (c .before .pre .0 .inside))
+
+add-end : tie.Need-add-end
+add-end c = omega (arith, slot-inside (now (c .before .args .store)) (c .before .pre .0 .well) (c .before .args .i) (c .before .pre .0 .inside))
+
+sub-write-stamp : tie.Need-sub-write-stamp
+sub-write-stamp c = search needs
+
+part-write-stamp-start : tie.Need-part-write-stamp-start
+part-write-stamp-start c = search needs
+
+part-write-stamp-end : tie.Need-part-write-stamp-end
+part-write-stamp-end c = omega (arith, slot-inside (now (c .before .args .store)) (c .before .pre .0 .well) (c .before .args .i) (c .before .pre .0 .inside))
+
+write-stamp-requires : tie.Need-write-stamp-requires
+write-stamp-requires c κs = search needs
+
+same-length : tie.Need-same-length
+same-length c = search needs
+
+returns : tie.Need-returns
+returns c = slot-stamped (now (c .before .before .before .before .before .args .store)) (c .before .before .before .before .before .args .i) (c .before .before .before .before .before .args .version) (c .before .before .before .before .before .args .expiry) (c .before .before .write-stamp .last .0) (c .before .before .before .before .before .pre .0) (c .before .before .before .before .before .pre .1) (c .before .before .before .before .before .pre .2) (c .before .before .write-stamp .ensures)
+
+pub restamp-spec : {M : Type 1} → statement M
+restamp-spec =
+    tie.close
+    (tie.spec
+    mul-start
+    add-start
+    add-end
+    sub-write-stamp
+    part-write-stamp-start
+    part-write-stamp-end
+    write-stamp-requires
+    same-length
+    returns)

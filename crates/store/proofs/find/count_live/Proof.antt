@@ -1,0 +1,62 @@
+use mathlib.Core.Logic.{⊎-elim}
+use Prim.Native.Nat.{_-_}
+use native.Mathlib.Omega.{arith}
+use denote.Ref.{now}
+use borrow.Author.Needs.{needs}
+use Rattle.store.specs.Time.{liveOfKey}
+use Rattle.store.proofs.Searches.{Count, count-begins, walk-inside, walk-bytes, count-adds, count-goes-on, count-ends}
+use Rattle.store.proofs.find.count_live.Statement.{statement}
+use Rattle.store.proofs.find.count_live.Tie as tie
+
+abbrev Inv-loop : tie.InvT-loop
+Inv-loop store key time count n₀ i₀ n i = Count (liveOfKey time key) store count n i
+
+abbrev μ-loop : tie.MeasureT-loop
+μ-loop store key time count n₀ i₀ n i = count - i
+
+slots-requires : tie.Need-slots-requires Inv-loop μ-loop
+slots-requires c κs = search needs
+
+loop-holds : tie.Need-loop-holds Inv-loop μ-loop
+loop-holds c = count-begins (liveOfKey (c .before .before .before .args .time) (now (c .before .before .before .args .key))) (now (c .before .before .before .args .store)) (c .before .before .before .pre) (c .slots .ensures)
+
+bytes-requires : tie.Need-bytes-requires Inv-loop μ-loop
+bytes-requires c κs = walk-inside (c .before .loop .inv .walk) (c .loop-test .taken)
+
+is-live-of-requires : tie.Need-is-live-of-requires Inv-loop μ-loop
+is-live-of-requires c κs = walk-bytes (c .before .before .loop .inv .walk) (c .before .loop-test .taken) (c .bytes .ensures)
+
+add-n : tie.Need-add-n Inv-loop μ-loop
+add-n c = search needs
+
+add-i : tie.Need-add-i Inv-loop μ-loop
+add-i c = search needs
+
+loop-less : tie.Need-loop-less Inv-loop μ-loop
+loop-less c = omega arith
+
+loop-again : tie.Need-loop-again Inv-loop μ-loop
+loop-again c =
+    ⊎-elim
+    (λ w. rw (w .1) (count-adds (c .before .before .before .before .loop .inv) (c .before .before .before .loop-test .taken) (c .before .before .bytes .ensures) (c .before .is-live-of .ensures) (w .0 .taken)))
+    (λ w. rw (w .1) (count-goes-on (c .before .before .before .before .loop .inv) (c .before .before .before .loop-test .taken) (c .before .before .bytes .ensures) (c .before .is-live-of .ensures) (w .0 .left)))
+    (c .if1 .came)
+
+returns : tie.Need-returns Inv-loop μ-loop
+returns c = count-ends (c .before .loop .inv) (c .loop-test .left)
+
+pub count-live-spec : {M : Type 1} → statement M
+count-live-spec =
+    tie.close
+    (tie.spec
+    Inv-loop
+    μ-loop
+    slots-requires
+    loop-holds
+    bytes-requires
+    is-live-of-requires
+    add-n
+    add-i
+    loop-less
+    loop-again
+    returns)

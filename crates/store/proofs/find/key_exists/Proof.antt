@@ -1,0 +1,28 @@
+use mathlib.Core.Path.{sym, _∙_}
+use denote.Ref.{now}
+use borrow.Author.Needs.{needs}
+use Rattle.store.specs.Store.{decode}
+use Rattle.store.specs.Time.{liveOfKey, keyExists}
+use Rattle.store.proofs.Searches.{found-any, nothing-any}
+use Rattle.store.proofs.find.key_exists.Statement.{statement}
+use Rattle.store.proofs.find.key_exists.Tie as tie
+
+next-live-requires : tie.Need-next-live-requires
+next-live-requires c κs = search needs
+
+enum-told : tie.Need-enum-told
+enum-told c = search needs
+
+enum-told-2 : tie.Need-enum-told-2
+enum-told-2 c = search needs
+
+returns : tie.Need-returns
+unfolding keyExists
+returns c = sym (found-any (liveOfKey (c .before .before .before .before .before .args .time) (now (c .before .before .before .before .before .args .key))) (decode (now (c .before .before .before .before .before .args .store)) .slots) (c .enum-told .given .0 .0) (sym (c .enum-told .given .1) ∙ c .before .before .next-live .ensures))
+
+returns-2 : tie.Need-returns-2
+unfolding keyExists
+returns-2 c = sym (nothing-any (liveOfKey (c .before .before .before .before .before .args .time) (now (c .before .before .before .before .before .args .key))) (decode (now (c .before .before .before .before .before .args .store)) .slots) (sym (c .enum-told2 .given .1) ∙ c .before .before .next-live .ensures))
+
+pub key-exists-spec : {M : Type 1} → statement M
+key-exists-spec = tie.close (tie.spec next-live-requires enum-told enum-told-2 returns returns-2)

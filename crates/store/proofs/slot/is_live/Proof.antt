@@ -1,0 +1,53 @@
+use Rattle.wire.specs.Lists.{orElse}
+use Rattle.store.specs.Time.{before, liveSlot}
+use denote.Ref.{now}
+use Rattle.store.proofs.SlotParts.{state-empty, live-held}
+use borrow.Author.Needs.{needs}
+use Rattle.store.proofs.slot.is_live.Statement.{statement}
+use Rattle.store.proofs.slot.is_live.Tie as tie
+use Rattle.store.proofs.slot.is_live.Reads as reads
+use Rattle.store.proofs.slot.is_live.Lts as lts
+use Rattle.store.proofs.slot.expiry.Reads as expiry-reads
+
+-- src/slot.rt:97:8
+shared-slice-read-if1 : tie.Need-shared-slice-read-if1
+shared-slice-read-if1 c = search needs
+
+-- src/slot.rt:98:9
+returns : tie.Need-returns
+unfolding liveSlot orElse
+returns c = rw (state-empty (now (c .before .before .before .args .t)) (c .if1 .taken))
+
+-- src/slot.rt:100:9
+expiry-requires : tie.Need-expiry-requires
+expiry-requires c κs = search needs
+
+-- src/slot.rt:102:26
+enum-told : tie.Need-enum-told
+enum-told c = search needs
+
+-- src/slot.rt:103:20
+enum-known-expires : tie.Need-enum-known-expires
+enum-known-expires c = search needs
+
+-- src/slot.rt:93:1
+returns-2 : tie.Need-returns-2
+unfolding before
+returns-2 c = rw (live-held (now (c .before .before .before .before .before .before .args .t)) (c .before .before .before .before .before .before .args .time) (c .before .before .before .if1 .left), ← (c .before .before .expiry .ensures)) (rw (c .enum-told .given .1))
+
+-- src/slot.rt:93:1
+returns-3 : tie.Need-returns-3
+unfolding before
+returns-3 c = rw (live-held (now (c .before .before .before .before .before .before .before .args .t)) (c .before .before .before .before .before .before .before .args .time) (c .before .before .before .before .if1 .left), ← (c .before .before .before .expiry .ensures)) (rw (c .before .expires .given .1))
+
+pub is-live-spec : {M : Type 1} → statement M
+is-live-spec =
+    tie.close
+    (tie.spec
+    shared-slice-read-if1
+    returns
+    expiry-requires
+    enum-told
+    enum-known-expires
+    returns-2
+    returns-3)
