@@ -1,22 +1,21 @@
 -- Laws of the marks of names: a name that was seen has its marks, so that a slot whose name has none clashes with no slot seen before.
 use mathlib.Core.Path.{_≡_, refl, sym, ap, subst, _∙_}
-use mathlib.Core.Bool.{Bool, true, false, cond, not, _&&_, and-true}
+use mathlib.Core.Bool.{Bool, true, false, cond, not, and-true}
 use mathlib.Core.List.{List, [], _∷_}
 use mathlib.Core.Option.{Option, none, some, Option·none-ne-some}
-use Prim.Native.Nat.{ℕ, zero, suc, _+_, _-_, _*_, _≤_, _<_}
+use Prim.Native.Nat.{ℕ, zero, suc, _+_, _-_, _≤_, _<_}
 use native.Mathlib.Omega.{arith}
-use native.Mathlib.Numerals.{add-one}
 use lib.Dec.{eqb}
-use lib.ListN.{length, drop, getD, set, replicate, length-set, length-drop, length-replicate, drop-of-length-le}
+use lib.ListN.{length, drop, getD, set, length-set, length-drop, drop-of-length-le}
 use lib.Seq.{drop-cons, getD-drop, getD-set-same}
 use borrow.Author.Tests.{eq-eqb, ne-eqb, eqb-true, eqb-false}
 use Rattle.wire.specs.Lists.{any, orElse}
-use Rattle.wire.specs.Bytes.{part, padded}
-use Rattle.wire.proofs.Lists.{any-none, and-left, and-right, both-ways}
-use Rattle.store.specs.Layout.{headerSize, slotSize, stateAt, emptyState, keyAt, keyMost, fieldAt, fieldMost}
+use Rattle.wire.specs.Bytes.{padded}
+use Rattle.wire.proofs.Lists.{any-none, and-right, both-ways}
+use Rattle.store.specs.Layout.{stateAt, emptyState, keyMost, fieldMost}
 use Rattle.store.specs.Store.{Entry, Slot, decodeEntry, decodeSlot, encodeEntry, encodeSlot, holds, clash, distinct}
 use Rattle.store.specs.Time.{emptySlot}
-use Rattle.store.specs.Promises.{SlotBytes, HeldBytes, slotsOf, SlotsWell, nameNumber, nameOf, marksSize, firstMark, secondMark, seen, withMark, withSlotMark, Marked, Turn, Turned}
+use Rattle.store.specs.Promises.{SlotBytes, HeldBytes, slotAt, slotsOf, SlotsWell, nameNumber, nameOf, marksSize, firstMark, secondMark, seen, withMark, withSlotMark, HasMarks, Marked, Turn, Turned}
 use Rattle.store.proofs.Valid.{Fits, FitsSlot}
 use Rattle.store.proofs.Slots.{Named, holds-named, none-clash, clash-none}
 use Rattle.store.proofs.SlotBytes.{key-bytes, field-bytes}
@@ -27,6 +26,7 @@ use Rattle.store.proofs.StoreChecks.{slotsOf-at, length-slotsOf, slot-b
 -- ---- names
 
 module _ (t : List ℕ) (w : SlotBytes t) (e : Entry) (h : decodeSlot t ≡ some e) where
+  -- its entry fits, and its bytes are the entry's
   entry-fits : Fits e
   entry-fits = subst FitsSlot h (decode-fitsSlot t (w .size) (w .bytes) (w .well))
 
@@ -49,6 +49,7 @@ clash-name t u v w d e p q h =
 
 -- ---- one mark more
 
+-- a 1 stays where a 1 is set
 set-keeps : (m : List ℕ) (i j : ℕ) → getD m j 0 ≡ 1 → getD (set m i 1) j 0 ≡ 1
 set-keeps [] i j h = h
 set-keeps (a ∷ m) zero zero h = refl
@@ -56,6 +57,7 @@ set-keeps (a ∷ m) zero (suc j) h = h
 set-keeps (a ∷ m) (suc i) zero h = h
 set-keeps (a ∷ m) (suc i) (suc j) h = set-keeps m i j h
 
+-- both places are inside
 pub first-inside : (name : ℕ) → firstMark name < marksSize
 unfolding firstMark
 first-inside name = omega arith
@@ -65,10 +67,10 @@ unfolding secondMark
 second-inside name = omega arith
 
 module _ (name : ℕ) (m : List ℕ) where
-  -- what a name's marks are
-  seen-marks : getD m (firstMark name) 0 ≡ 1 → getD m (secondMark name) 0 ≡ 1 → seen name m ≡ true
+  -- a name with its marks was seen
+  seen-marks : HasMarks name m → seen name m ≡ true
   unfolding seen
-  seen-marks p q = rw (p, q)
+  seen-marks h = rw (h .first, h .second)
 
   -- marks stay
   mark-keeps : (i : ℕ) → getD m i 0 ≡ 1 → getD (withMark name m) i 0 ≡ 1
@@ -76,18 +78,17 @@ module _ (name : ℕ) (m : List ℕ) where
   mark-keeps i h = set-keeps (set m (firstMark name) 1) (secondMark name) i (set-keeps m (firstMark name) i h)
 
   -- the name has its own
-  mark-first : length m ≡ marksSize → getD (withMark name m) (firstMark name) 0 ≡ 1
+  mark-has : length m ≡ marksSize → HasMarks name (withMark name m)
   unfolding withMark
-  mark-first e =
+  mark-has e =
       let l : firstMark name < length m = omega (arith, first-inside name) in
-      set-keeps (set m (firstMark name) 1) (secondMark name) (firstMark name) (getD-set-same m (firstMark name) 1 0 l)
+      let k : secondMark name < length (set m (firstMark name) 1) = rw length-set (omega (arith, second-inside name)) in
+      record {
+        first = set-keeps (set m (firstMark name) 1) (secondMark name) (firstMark name) (getD-set-same m (firstMark name) 1 0 l);
+        second = getD-set-same (set m (firstMark name) 1) (secondMark name) 1 0 k;
+      }
 
-  mark-second : length m ≡ marksSize → getD (withMark name m) (secondMark name) 0 ≡ 1
-  unfolding withMark
-  mark-second e =
-      let l : secondMark name < length (set m (firstMark name) 1) = rw length-set (omega (arith, second-inside name)) in
-      getD-set-same (set m (firstMark name) 1) (secondMark name) 1 0 l
-
+  -- and the marks are as many
   pub length-mark : length (withMark name m) ≡ length m
   unfolding withMark
   length-mark = rw (length-set, length-set)
@@ -98,10 +99,12 @@ module _ (t m : List ℕ) where
   unfolding withSlotMark
   mark-empty h = rw (eq-eqb (getD t stateAt 0) emptyState h)
 
+  -- another has that of its name
   pub mark-held : (getD t stateAt 0 ≡ emptyState → ⊥) → withMark (nameOf t) m ≡ withSlotMark t m
   unfolding withSlotMark
   mark-held h = rw (ne-eqb (getD t stateAt 0) emptyState h)
 
+  -- what holds with the marks as they were and with one more
   mark-either : (P : List ℕ → Type 0) → P m → P (withMark (nameOf t) m) → P (withSlotMark t m)
   unfolding withSlotMark
   mark-either P p q = go (eqb (getD t stateAt 0) emptyState)
@@ -112,10 +115,8 @@ module _ (t m : List ℕ) where
 
 -- ---- a turn
 
-abbrev slotAt : List ℕ → ℕ → List ℕ
-slotAt b i = part (headerSize + slotSize * i) slotSize b
-
 module _ (count : ℕ) (b : List ℕ) (i : ℕ) (m : List ℕ) (c : Turn count b i m) where
+  -- a later slot of another name does not clash
   apart-go : (j : ℕ) → i < j → j < count → seen (nameOf (slotAt b i)) m ≡ false
       → (s u : Slot) → decodeSlot (slotAt b i) ≡ s → decodeSlot (slotAt b j) ≡ u → (x : Bool) → clash s u ≡ x → clash s u ≡ false
   apart-go j l n f none u p q x h = none-clash u
@@ -125,9 +126,7 @@ module _ (count : ℕ) (b : List ℕ) (i : ℕ) (m : List ℕ) (c : Turn count b
       let same-name : nameOf (slotAt b i) ≡ nameOf (slotAt b j)
       = clash-name (slotAt b i) (slotAt b j) (slot-bytes count b i (c .slots) (c .inside)) (slot-bytes count b j (c .slots) n) d e p q h in
       let held : getD (slotAt b j) stateAt 0 ≡ emptyState → ⊥ = λ z. Option·none-ne-some e (sym (state-empty (slotAt b j) z) ∙ q) in
-      let at : (getD m (firstMark (nameOf (slotAt b j))) 0 ≡ 1) × (getD m (secondMark (nameOf (slotAt b j))) 0 ≡ 1)
-      = c .marked .marks j (omega arith) n held in
-      both-ways (rw same-name (seen-marks (nameOf (slotAt b j)) m (at .0) (at .1))) f
+      both-ways (rw same-name (seen-marks (nameOf (slotAt b j)) m (c .marked .marks j (omega arith) n held))) f
 
   -- a slot whose name was not seen clashes with no later one
   pub unseen-apart : seen (nameOf (slotAt b i)) m ≡ false → any (clash (decodeSlot (slotAt b i))) (drop (i + 1) (slotsOf count b)) ≡ false
@@ -153,23 +152,18 @@ module _ (count : ℕ) (b : List ℕ) (i : ℕ) (m : List ℕ) (c : Turn count b
       keeps : (j : ℕ) → getD m j 0 ≡ 1 → getD (withSlotMark (slotAt b i) m) j 0 ≡ 1
       keeps j h = mark-either (slotAt b i) m (λ (l : List ℕ). getD l j 0 ≡ 1) h (mark-keeps (nameOf (slotAt b i)) m j h)
 
-      own : (getD (slotAt b i) stateAt 0 ≡ emptyState → ⊥)
-          → (getD (withSlotMark (slotAt b i) m) (firstMark (nameOf (slotAt b i))) 0 ≡ 1) × (getD (withSlotMark (slotAt b i) m) (secondMark (nameOf (slotAt b i))) 0 ≡ 1)
-      own h = rw (← mark-held (slotAt b i) m h) (mark-first (nameOf (slotAt b i)) m (c .marked .size), mark-second (nameOf (slotAt b i)) m (c .marked .size))
+      own : (getD (slotAt b i) stateAt 0 ≡ emptyState → ⊥) → HasMarks (nameOf (slotAt b i)) (withSlotMark (slotAt b i) m)
+      own h = rw (← mark-held (slotAt b i) m h) (mark-has (nameOf (slotAt b i)) m (c .marked .size))
 
       go : (j : ℕ) → i ≤ j → j < count → (getD (slotAt b j) stateAt 0 ≡ emptyState → ⊥) → (x : Bool) → eqb i j ≡ x
-          → (getD (withSlotMark (slotAt b i) m) (firstMark (nameOf (slotAt b j))) 0 ≡ 1) × (getD (withSlotMark (slotAt b i) m) (secondMark (nameOf (slotAt b j))) 0 ≡ 1)
+          → HasMarks (nameOf (slotAt b j)) (withSlotMark (slotAt b i) m)
       go j l n h true q =
-          let e : i ≡ j = eqb-true i j q in
-          subst (λ (k : ℕ). (getD (slotAt b k) stateAt 0 ≡ emptyState → ⊥)
-          → (getD (withSlotMark (slotAt b i) m) (firstMark (nameOf (slotAt b k))) 0 ≡ 1) × (getD (withSlotMark (slotAt b i) m) (secondMark (nameOf (slotAt b k))) 0 ≡ 1)) e own h
+          subst (λ (k : ℕ). (getD (slotAt b k) stateAt 0 ≡ emptyState → ⊥) → HasMarks (nameOf (slotAt b k)) (withSlotMark (slotAt b i) m)) (eqb-true i j q) own h
       go j l n h false q =
-          let at : (getD m (firstMark (nameOf (slotAt b j))) 0 ≡ 1) × (getD m (secondMark (nameOf (slotAt b j))) 0 ≡ 1)
-          = c .marked .marks j (omega (arith, eqb-false i j q)) n h in
-          (keeps (firstMark (nameOf (slotAt b j))) (at .0), keeps (secondMark (nameOf (slotAt b j))) (at .1))
+          let has : HasMarks (nameOf (slotAt b j)) m = c .marked .marks j (omega (arith, eqb-false i j q)) n h in
+          record { first = keeps (firstMark (nameOf (slotAt b j))) (has .first); second = keeps (secondMark (nameOf (slotAt b j))) (has .second) }
 
-      marks : (j : ℕ) → i ≤ j → j < count → (getD (slotAt b j) stateAt 0 ≡ emptyState → ⊥)
-          → (getD (withSlotMark (slotAt b i) m) (firstMark (nameOf (slotAt b j))) 0 ≡ 1) × (getD (withSlotMark (slotAt b i) m) (secondMark (nameOf (slotAt b j))) 0 ≡ 1)
+      marks : (j : ℕ) → i ≤ j → j < count → (getD (slotAt b j) stateAt 0 ≡ emptyState → ⊥) → HasMarks (nameOf (slotAt b j)) (withSlotMark (slotAt b i) m)
       marks j l n h = go j l n h (eqb i j) refl
 
 -- a held slot clashes with those that hold its name
@@ -207,6 +201,7 @@ module _ (count : ℕ) (b : List ℕ) (i : ℕ) (m : List ℕ) (c : Turn count b
 
 -- ---- all turns, from the last slot to the first
 
+-- of distinct slots the later ones are
 distinct-drop : (ss : List Slot) (i : ℕ) → distinct ss ≡ true → distinct (drop i ss) ≡ true
 unfolding distinct
 distinct-drop ss zero h = h
@@ -236,6 +231,7 @@ module _ (count : ℕ) (b : List ℕ) where
         let e : i - 1 + 1 ≡ i = omega arith in
         record { slots = w; inside = omega (arith, f .inside); marked = rw e (f .marked) }
 
+    -- the slots from the turn's on are distinct if its slot clashes with none after it
     sift-next : distinct (drop (i - 1) (slotsOf count b)) ≡ not (any (clash (decodeSlot (slotAt b (i - 1)))) (drop (i - 1 + 1) (slotsOf count b)))
     unfolding distinct
     sift-next =

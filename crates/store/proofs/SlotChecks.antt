@@ -1,17 +1,17 @@
 -- Laws of the tests of a slot's bytes, in the forms in which the code makes them.
-use mathlib.Core.Path.{_≡_, refl, sym, ap, _∙_}
-use mathlib.Core.Bool.{Bool, true, false, cond, _&&_, _||_, and-true}
+use mathlib.Core.Path.{_≡_, refl, sym, _∙_}
+use mathlib.Core.Bool.{Bool, true, false, _&&_, and-true}
 use mathlib.Core.List.{List, [], _∷_, _++_}
-use Prim.Native.Nat.{ℕ, zero, suc, _+_, _-_, _*_, _≤_, _<_}
+use Prim.Native.Nat.{ℕ, zero, suc, _+_, _-_, _*_, _≤_}
 use native.Mathlib.Omega.{arith}
 use lib.Dec.{leb, eqb}
-use lib.ListN.{length, take, drop, getD}
-use lib.Seq.{drop-drop, drop-nil, take-nil}
-use borrow.Author.Tests.{eq-eqb, ne-eqb, le-leb, lt-leb, leb-true, eqb-true}
+use lib.ListN.{take, drop, getD}
+use lib.Seq.{drop-drop, take-nil}
+use borrow.Author.Tests.{eq-eqb, ne-eqb, le-leb, leb-true}
 use Rattle.wire.specs.Lists.{every, all}
 use Rattle.wire.specs.Bytes.{fromLE, part, allZero}
-use Rattle.wire.proofs.Lists.{every-at, and-left, and-right}
-use Rattle.store.specs.Layout.{slotSize, stateAt, keyLengthAt, fieldLengthAt, valueLengthAt, emptyState, expiringState, expiryAt, expirySize, keyAt, keyMost, fieldAt, fieldMost, valueAt, valueMost, timeLimit}
+use Rattle.wire.proofs.Lists.{every-at}
+use Rattle.store.specs.Layout.{stateAt, keyLengthAt, fieldLengthAt, valueLengthAt, emptyState, expiringState, expiryAt, expirySize, keyAt, keyMost, fieldAt, fieldMost, valueAt, valueMost, timeLimit}
 use Rattle.store.specs.Store.{zeroBeyond, heldWell, slotWell}
 use Rattle.store.specs.Promises.{lengthTests, expiryTests, placeTests}
 

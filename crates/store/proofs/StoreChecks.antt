@@ -1,12 +1,12 @@
 -- Laws of the tests of a store's bytes, in the forms in which the code makes them.
 use mathlib.Core.Path.{_≡_, refl, sym, _∙_}
 use mathlib.Core.Bool.{Bool, true, false, cond, _&&_, and-true, and-false}
-use mathlib.Core.List.{List, [], _∷_, _++_, map}
+use mathlib.Core.List.{List, [], _∷_, _++_}
 use mathlib.Core.Option.{none}
 use Prim.Native.Nat.{ℕ, _+_, _-_, _*_, _/_, _≤_, _<_}
 use native.Mathlib.Numerals.{add-one}
 use native.Mathlib.Omega.{arith}
-use lib.Dec.{leb, ltb, eqb}
+use lib.Dec.{leb, ltb}
 use lib.ListN.{length, drop, getD, length-map, List·getD-map, drop-of-length-le}
 use lib.Seq.{drop-drop, drop-cons}
 use lib.Pow.{areBytes}
@@ -16,8 +16,8 @@ use Rattle.wire.specs.Bytes.{Bytes, part, allZero}
 use Rattle.wire.proofs.Lists.{all-at, every-at}
 use Rattle.wire.proofs.Bytes.{bytes-part}
 use Rattle.store.specs.Layout.{headerSize, slotSize, mostSlots, clockSize, reservedSize, timeLimit}
-use Rattle.store.specs.Store.{Slot, decodeSlot, slotsIn, slotCount, slotBytes, clockOf, decode, slotWell, holds, distinct, wellFormed}
-use Rattle.store.specs.Promises.{SlotBytes, sizeTests, countFor, headerWell, slotsOf, SlotsWell}
+use Rattle.store.specs.Store.{decodeSlot, slotsIn, slotCount, slotBytes, clockOf, decode, slotWell, holds, distinct, wellFormed}
+use Rattle.store.specs.Promises.{SlotBytes, slotAt, sizeTests, countFor, headerWell, slotsOf, SlotsWell}
 use Rattle.store.proofs.Pieces.{length-part}
 use Rattle.store.proofs.Encode.{length-slotsIn}
 use Rattle.store.proofs.Places.{slotsIn-at}
@@ -29,24 +29,27 @@ module _ (count : ℕ) (b : List ℕ) where
   abbrev pieces : List (List ℕ)
   pieces = slotsIn count (drop headerSize b)
 
-  piece-at : (i : ℕ) (d : List ℕ) → i < count → getD pieces i d ≡ part (headerSize + slotSize * i) slotSize b
+  -- the piece at a number is the slot's bytes
+  piece-at : (i : ℕ) (d : List ℕ) → i < count → getD pieces i d ≡ slotAt b i
   unfolding part
   piece-at i d l = rw (← drop-drop (slotSize * i) headerSize b) (slotsIn-at count (drop headerSize b) i d l)
 
-  pub slotsOf-at : (i : ℕ) → i < count → getD (slotsOf count b) i none ≡ decodeSlot (part (headerSize + slotSize * i) slotSize b)
+  -- what a slot holds is what its bytes mean
+  pub slotsOf-at : (i : ℕ) → i < count → getD (slotsOf count b) i none ≡ decodeSlot (slotAt b i)
   unfolding slotsOf decodeSlot
   slotsOf-at i l = List·getD-map decodeSlot pieces i [] ∙ rw (piece-at i [] l)
 
+  -- there are so many
   pub length-slotsOf : length (slotsOf count b) ≡ count
   unfolding slotsOf
   length-slotsOf = rw (length-map, length-slotsIn)
 
   -- a slot's bytes are as long as a slot
-  pub slot-size : (i : ℕ) → headerSize + slotSize * count ≤ length b → i < count → length (part (headerSize + slotSize * i) slotSize b) ≡ slotSize
+  pub slot-size : (i : ℕ) → headerSize + slotSize * count ≤ length b → i < count → length (slotAt b i) ≡ slotSize
   slot-size i h l = length-part (headerSize + slotSize * i) slotSize b (omega arith)
 
   -- well-formed slots, one by one
-  pub slot-bytes : (i : ℕ) → SlotsWell count b → i < count → SlotBytes (part (headerSize + slotSize * i) slotSize b)
+  pub slot-bytes : (i : ℕ) → SlotsWell count b → i < count → SlotBytes (slotAt b i)
   slot-bytes i w l =
       let m : i < length pieces = rw length-slotsIn l in
       record {
@@ -67,16 +70,16 @@ module _ (count : ℕ) (b : List ℕ) where
   judge-begins = record { inside = omega arith; rest = refl }
 
   module _ (i : ℕ) (g : Judging count b i) where
-    judge-next : i < count → all slotWell (pieces count b) ≡ slotWell (part (headerSize + slotSize * i) slotSize b) && all slotWell (drop (i + 1) (pieces count b))
+    judge-next : i < count → all slotWell (pieces count b) ≡ slotWell (slotAt b i) && all slotWell (drop (i + 1) (pieces count b))
     unfolding all
     judge-next l =
         let m : i < length (pieces count b) = rw length-slotsIn l in
         rw (g .rest, drop-cons (pieces count b) i [] m, piece-at count b i [] l, add-one)
 
-    pub judge-fails : i < count → slotWell (part (headerSize + slotSize * i) slotSize b) ≡ false → all slotWell (slotsIn count (drop headerSize b)) ≡ false
+    pub judge-fails : i < count → slotWell (slotAt b i) ≡ false → all slotWell (slotsIn count (drop headerSize b)) ≡ false
     judge-fails l h = rw (judge-next l, h)
 
-    pub judge-goes-on : i < count → slotWell (part (headerSize + slotSize * i) slotSize b) ≡ true → Judging count b (i + 1)
+    pub judge-goes-on : i < count → slotWell (slotAt b i) ≡ true → Judging count b (i + 1)
     judge-goes-on l h = record { inside = omega arith; rest = judge-next l ∙ rw h }
 
     pub judge-ends : count ≤ i → all slotWell (slotsIn count (drop headerSize b)) ≡ true
@@ -95,16 +98,16 @@ module _ (k f : List ℕ) (count : ℕ) (b : List ℕ) (from : ℕ) where
   seek-begins h = record { inside = h; rest = refl }
 
   module _ (i : ℕ) (g : Seeking k f count b from i) where
-    seek-rest : i < count → drop i (slotsOf count b) ≡ decodeSlot (part (headerSize + slotSize * i) slotSize b) ∷ drop (i + 1) (slotsOf count b)
+    seek-rest : i < count → drop i (slotsOf count b) ≡ decodeSlot (slotAt b i) ∷ drop (i + 1) (slotsOf count b)
     seek-rest l =
         let m : i < length (slotsOf count b) = rw length-slotsOf l in
         rw (drop-cons (slotsOf count b) i none m, slotsOf-at count b i l, add-one)
 
-    pub seek-finds : i < count → holds k f (decodeSlot (part (headerSize + slotSize * i) slotSize b)) ≡ true → any (holds k f) (drop from (slotsOf count b)) ≡ true
+    pub seek-finds : i < count → holds k f (decodeSlot (slotAt b i)) ≡ true → any (holds k f) (drop from (slotsOf count b)) ≡ true
     unfolding any
     seek-finds l h = rw (g .rest, seek-rest l, h)
 
-    pub seek-goes-on : i < count → holds k f (decodeSlot (part (headerSize + slotSize * i) slotSize b)) ≡ false → Seeking k f count b from (i + 1)
+    pub seek-goes-on : i < count → holds k f (decodeSlot (slotAt b i)) ≡ false → Seeking k f count b from (i + 1)
     unfolding any
     seek-goes-on l h = record { inside = omega arith; rest = rw (g .rest, seek-rest l, h) }
 
@@ -120,6 +123,7 @@ module _ (size : ℕ) where
   abbrev slots : ℕ
   slots = (size - headerSize) / slotSize
 
+  -- the count by the size, as the code finds it
   count-failed : every (sizeTests size) ≡ false → 0 ≡ countFor size
   unfolding countFor
   count-failed h = rw h
@@ -152,6 +156,7 @@ module _ (size : ℕ) where
       go true q = refl
       go false q = absurd (n (sym (count-failed q)))
 
+  -- and is the number of slots
   count-is : (countFor size ≡ 0 → ⊥) → countFor size ≡ slots
   unfolding countFor
   count-is n = rw (counted n)
@@ -167,6 +172,7 @@ module _ (b : List ℕ) where
   abbrev laterTests : List Bool
   laterTests = ltb (clockOf b) timeLimit ∷ allZero (part clockSize reservedSize b) ∷ all slotWell (slotBytes b) ∷ distinct (decode b .slots) ∷ []
 
+  -- the tests of a store: bytes, size, and the others
   parts : wellFormed b ≡ areBytes b && (every (sizeTests (length b)) && every laterTests)
   unfolding wellFormed slotCount sizeTests every
   parts = every-append (areBytes b ∷ []) (sizeTests (length b) ++ laterTests) ∙ rw (and-true (areBytes b), every-append (sizeTests (length b)) laterTests)

@@ -67,6 +67,10 @@ countFor size = cond (every (sizeTests size)) ((size - headerSize) / slotSize) 0
 unfoldable pub headerWell : List ℕ → Bool
 headerWell b = ltb (clockOf b) timeLimit && allZero (part clockSize reservedSize b)
 
+-- the bytes of slot i
+abbrev pub slotAt : List ℕ → ℕ → List ℕ
+slotAt b i = part (headerSize + slotSize * i) slotSize b
+
 -- what the first slots hold
 unfoldable pub slotsOf : ℕ → List ℕ → List Slot
 slotsOf count b = map decodeSlot (slotsIn count (drop headerSize b))
@@ -110,12 +114,14 @@ withMark name m = set (set m (firstMark name) 1) (secondMark name) 1
 unfoldable pub withSlotMark : List ℕ → List ℕ → List ℕ
 withSlotMark t m = cond (eqb (getD t stateAt 0) emptyState) m (withMark (nameOf t) m)
 
+pub record HasMarks (name : ℕ) (m : List ℕ) : Type 0 where
+  pub first : getD m (firstMark name) 0 ≡ 1
+  pub second : getD m (secondMark name) 0 ≡ 1
+
 -- every slot from slot i on that holds an entry has its marks
 pub record Marked (count : ℕ) (b : List ℕ) (i : ℕ) (m : List ℕ) : Type 0 where
   pub size : length m ≡ marksSize
-  pub marks : (j : ℕ) → i ≤ j → j < count → (getD (part (headerSize + slotSize * j) slotSize b) stateAt 0 ≡ emptyState → ⊥)
-      → (getD m (firstMark (nameOf (part (headerSize + slotSize * j) slotSize b))) 0 ≡ 1)
-      × (getD m (secondMark (nameOf (part (headerSize + slotSize * j) slotSize b))) 0 ≡ 1)
+  pub marks : (j : ℕ) → i ≤ j → j < count → (getD (slotAt b j) stateAt 0 ≡ emptyState → ⊥) → HasMarks (nameOf (slotAt b j)) m
 
 -- slot i is to be looked at, with the marks of those after it
 pub record Turn (count : ℕ) (b : List ℕ) (i : ℕ) (m : List ℕ) : Type 0 where
@@ -125,8 +131,8 @@ pub record Turn (count : ℕ) (b : List ℕ) (i : ℕ) (m : List ℕ) : Type 0 w
 
 -- whether slot i has the name of a later one, and the marks with its own
 pub record Turned (count : ℕ) (b : List ℕ) (i : ℕ) (before after : List ℕ) (r : Bool) : Type 0 where
-  pub answer : r ≡ any (clash (decodeSlot (part (headerSize + slotSize * i) slotSize b))) (drop (i + 1) (slotsOf count b))
-  pub marks : after ≡ withSlotMark (part (headerSize + slotSize * i) slotSize b) before
+  pub answer : r ≡ any (clash (decodeSlot (slotAt b i))) (drop (i + 1) (slotsOf count b))
+  pub marks : after ≡ withSlotMark (slotAt b i) before
 
 -- ---- a store
 
