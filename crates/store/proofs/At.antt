@@ -7,13 +7,12 @@ use Prim.Native.Nat.{ℕ, _+_, _-_, _*_, _/_, _≤_, _<_}
 use native.Mathlib.Omega.{arith}
 use lib.ListN.{length, getD}
 use Rattle.wire.specs.Lists.{orElse}
-use Rattle.wire.specs.Bytes.{part}
 use Rattle.wire.proofs.Lists.{all-at, both-ways}
 use Rattle.wire.proofs.Bytes.{bytes-part}
 use Rattle.store.specs.Layout.{headerSize, slotSize, stateAt, emptyState}
 use Rattle.store.specs.Store.{decodeSlot, decodeEntry, slotCount, slotBytes, slotWell, decode, wellFormed}
 use Rattle.store.specs.Time.{emptySlot}
-use Rattle.store.specs.Promises.{SlotBytes, HeldBytes, Held, entryAt}
+use Rattle.store.specs.Promises.{SlotBytes, HeldBytes, Held, entryAt, slotAt}
 use Rattle.store.proofs.Pieces.{length-part}
 use Rattle.store.proofs.Encode.{well-formed, length-decode, length-slotsIn}
 use Rattle.store.proofs.Places.{slot-part, decode-at}
@@ -30,23 +29,19 @@ header-inside b h = omega (arith, well-formed b h .size)
 
 -- ---- a slot
 
--- a slot's place
-abbrev pub slotPart : List ℕ → ℕ → List ℕ
-slotPart b i = part (headerSize + slotSize * i) slotSize b
-
 module _ (b : List ℕ) (i : ℕ) (h : wellFormed b ≡ true) (l : i < slotCount b) where
   -- the place of a slot stands in a store
   pub slot-inside : headerSize + slotSize * i + slotSize ≤ length b
   slot-inside = omega (arith, well-formed b h .size)
 
-  slot-well : slotWell (slotPart b i) ≡ true
+  slot-well : slotWell (slotAt b i) ≡ true
   unfolding slotBytes
   slot-well =
       let m : i < length (slotBytes b) = rw length-slotsIn l in
       rw (slot-part b i [] l) at (all-at slotWell (slotBytes b) [] (well-formed b h .slots) i m)
 
   -- its bytes are a slot's
-  pub slot-bytes : {t : List ℕ} → t ≡ slotPart b i → SlotBytes t
+  pub slot-bytes : {t : List ℕ} → t ≡ slotAt b i → SlotBytes t
   slot-bytes e =
       rw e
       (record {
@@ -56,12 +51,12 @@ module _ (b : List ℕ) (i : ℕ) (h : wellFormed b ≡ true) (l : i < slotCount
       })
 
 -- they mean what the store's slot holds
-pub slot-means : (b : List ℕ) (i : ℕ) {t : List ℕ} → i < slotCount b → t ≡ slotPart b i → decodeSlot t ≡ getD (decode b .slots) i none
+pub slot-means : (b : List ℕ) (i : ℕ) {t : List ℕ} → i < slotCount b → t ≡ slotAt b i → decodeSlot t ≡ getD (decode b .slots) i none
 slot-means b i l e = rw (e, decode-at b i l)
 
 -- ---- a slot that holds an entry
 
-module _ {b t : List ℕ} {i : ℕ} (h : Held b i) (e : t ≡ slotPart b i) where
+module _ {b t : List ℕ} {i : ℕ} (h : Held b i) (e : t ≡ slotAt b i) where
   not-empty : getD t stateAt 0 ≡ emptyState → ⊥
   unfolding emptySlot orElse
   not-empty z = both-ways {t = emptySlot none} refl (rw (← slot-means b i (h .inside) e, state-empty t z) at (h .held))

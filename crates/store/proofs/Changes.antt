@@ -20,6 +20,7 @@ use Rattle.store.specs.Promises.{Held, Holds, Placeable, entryAt, withCl
 use Rattle.store.proofs.Valid.{Fits, FitsSlot, AllFit, Valid}
 use Rattle.store.proofs.Put.{getD-set, apart-set}
 use Rattle.store.proofs.SlotBytes.{length-encodeSlot}
+use Rattle.store.proofs.At.{header-inside}
 use Rattle.store.proofs.Encode.{well-formed, length-decode, decode-valid, encode-decode, decode-encode, encode-well}
 use Rattle.store.proofs.Places.{encode-at}
 use Rattle.store.proofs.Slots.{none-clash, apart-at}
@@ -97,10 +98,6 @@ encode-holds : {b : List ℕ} {s : Store} → b ≡ encode s → Valid s → Hol
 encode-holds {b} {s} e v = record { means = rw e (decode-encode s v); well = rw e (encode-well s v) }
 
 module _ (b : List ℕ) (h : wellFormed b ≡ true) where
-  -- there is a header
-  pub header-inside : headerSize ≤ length b
-  header-inside = omega (arith, well-formed b h .size)
-
   -- the clock's bytes written anew
   pub clock-written : (t : ℕ) → t < timeLimit → Holds (putMid 0 clockSize b (toLE clockSize t)) (withClock t (decode b))
   clock-written t l =
@@ -110,14 +107,10 @@ module _ (b : List ℕ) (h : wellFormed b ≡ true) where
   -- as the code has them
   pub clock-laid : (t : ℕ) (y : List ℕ) → t < timeLimit → y ≡ toLE (length (midOf 0 clockSize b)) t → Holds (putMid 0 clockSize b y) (withClock t (decode b))
   clock-laid t y l q =
-      let e : length (midOf 0 clockSize b) ≡ clockSize = length-take-le clockSize b (omega (arith, header-inside)) in
+      let e : length (midOf 0 clockSize b) ≡ clockSize = length-take-le clockSize b (omega (arith, header-inside b h)) in
       rw (q, e) (clock-written t l)
 
   module _ (i : ℕ) (l : i < slotCount b) where
-    -- the slot ends within the store
-    pub slot-inside : headerSize + slotSize * i + slotSize ≤ length b
-    slot-inside = omega (arith, well-formed b h .size)
-
     -- there is such a slot
     inside : i < length (decode b .slots)
     inside = rw (length-decode b) l

@@ -14,10 +14,10 @@ use Rattle.store.specs.declared.Found.the-variants as founds
 use Rattle.store.specs.Layout.{headerSize, slotSize}
 use Rattle.store.specs.Store.{Slot, decodeSlot, slotCount, decode, wellFormed}
 use Rattle.store.specs.Time.{lowestSlot, emptySlot}
-use Rattle.store.specs.Promises.{SlotBytes, Held, foundFor, lowestFrom}
+use Rattle.store.specs.Promises.{SlotBytes, Held, foundFor, lowestFrom, slotAt}
 use Rattle.store.proofs.Slots.{Lowest, lowest-some}
 use Rattle.store.proofs.Encode.{length-decode}
-use Rattle.store.proofs.At.{slotPart, slot-inside, slot-bytes, slot-means}
+use Rattle.store.proofs.At.{slot-inside, slot-bytes, slot-means}
 
 -- ---- lists of slots
 
@@ -136,7 +136,7 @@ module _ {b : List ℕ} {n i : ℕ} (w : Walk b n) (l : i < n) where
   pub walk-inside : headerSize + slotSize * i + slotSize ≤ length b
   walk-inside = slot-inside b i (w .well) counted
 
-  module _ {t : List ℕ} (e : t ≡ slotPart b i) where
+  module _ {t : List ℕ} (e : t ≡ slotAt b i) where
     -- its bytes are a slot's
     pub walk-bytes : SlotBytes t
     walk-bytes = slot-bytes b i (w .well) counted e
@@ -160,7 +160,7 @@ module _ {p : Slot → Bool} {b : List ℕ} {n i : ℕ} {o : Option ℕ} (s : Se
   unfolding foundFor
   seek-ends l = rw (← (s .rest), lowest-end p (decode b .slots) i (rw (← (s .walk .slots)) l))
 
-  module _ {t : List ℕ} {r : Bool} (l : i < n) (e : t ≡ slotPart b i) (q : r ≡ p (decodeSlot t)) where
+  module _ {t : List ℕ} {r : Bool} (l : i < n) (e : t ≡ slotAt b i) (q : r ≡ p (decodeSlot t)) where
     pub seek-finds : r ≡ true → founds.At i ≡ foundFor o
     unfolding foundFor
     seek-finds h = rw (← (s .rest), lowest-hit p (decode b .slots) i (within (s .walk) l) (walk-test (s .walk) l e p q h))
@@ -189,7 +189,7 @@ module _ {p : Slot → Bool} {b : List ℕ} {n m i : ℕ} (s : Count p b n m i) 
       let z : length (keep p (drop i (decode b .slots))) ≡ 0 = keep-end p (decode b .slots) i (rw (← (s .walk .slots)) l) in
       omega (arith, s .total)
 
-  module _ {t : List ℕ} {r : Bool} (l : i < n) (e : t ≡ slotPart b i) (q : r ≡ p (decodeSlot t)) where
+  module _ {t : List ℕ} {r : Bool} (l : i < n) (e : t ≡ slotAt b i) (q : r ≡ p (decodeSlot t)) where
     pub count-adds : r ≡ true → Count p b n (m + 1) (i + 1)
     count-adds h =
         record {

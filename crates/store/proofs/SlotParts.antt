@@ -1,19 +1,18 @@
 -- What a slot's parts are, in the forms in which the code takes them.
-use mathlib.Core.Path.{_≡_, refl, ap}
-use mathlib.Core.Bool.{Bool, true, false, cond, not, _&&_, _||_}
+use mathlib.Core.Path.{_≡_, refl}
+use mathlib.Core.Bool.{Bool, true, false, cond, not, _&&_}
 use mathlib.Core.List.{List}
 use mathlib.Core.Option.{none, some}
 use Prim.Native.Nat.{ℕ, _+_, _-_, _≤_}
 use native.Mathlib.Omega.{arith}
-use lib.Dec.{eqb, ltb}
+use lib.Dec.{eqb}
 use lib.ListN.{length, take, drop, getD}
-use borrow.Author.Tests.{eq-eqb, ne-eqb, eqb-true, eqb-false}
+use borrow.Author.Tests.{eq-eqb, ne-eqb}
 use Rattle.wire.specs.Lists.{orElse}
 use Rattle.wire.specs.Bytes.{part, same, fromLE}
-use Rattle.store.specs.declared.Expiry.{Expiry}
 use Rattle.store.specs.declared.Expiry.the-variants.{Never, At}
 use Rattle.store.specs.Layout.{stateAt, emptyState, expiringState, expiryAt, expirySize}
-use Rattle.store.specs.Store.{Slot, decodeExpiry, decodeEntry, decodeSlot, slotWell, heldWell, holds}
+use Rattle.store.specs.Store.{Slot, decodeExpiry, decodeEntry, decodeSlot, slotWell, holds}
 use Rattle.store.specs.Promises.{HeldBytes}
 use Rattle.store.proofs.WellSlot.{Held, held-well}
 use Rattle.store.specs.Time.{before, live, liveSlot, deadSlot, emptySlot, ofKey, liveOfKey}

@@ -1,18 +1,19 @@
 use native.Mathlib.Omega.{arith}
 use denote.Ref.{now}
-use Rattle.store.proofs.Changes.{slot-inside, slot-placed}
+use Rattle.store.proofs.Changes.{slot-placed}
+use Rattle.store.proofs.At.{slot-inside}
 use borrow.Author.Needs.{needs}
 use Rattle.store.proofs.change.put.Statement.{statement}
 use Rattle.store.proofs.change.put.Tie as tie
 
 mul-start : tie.Need-mul-start
-mul-start c = omega (arith, slot-inside (now (c .before .before .before .before .args .store)) (c .before .before .before .before .pre .well) (c .before .before .before .before .args .i) (c .before .before .before .before .pre .inside))
+mul-start c = omega (arith, slot-inside (now (c .before .before .before .before .args .store)) (c .before .before .before .before .args .i) (c .before .before .before .before .pre .well) (c .before .before .before .before .pre .inside))
 
 add-start : tie.Need-add-start
-add-start c = omega (arith, slot-inside (now (c .before .before .before .before .args .store)) (c .before .before .before .before .pre .well) (c .before .before .before .before .args .i) (c .before .before .before .before .pre .inside))
+add-start c = omega (arith, slot-inside (now (c .before .before .before .before .args .store)) (c .before .before .before .before .args .i) (c .before .before .before .before .pre .well) (c .before .before .before .before .pre .inside))
 
 add-end : tie.Need-add-end
-add-end c = omega (arith, slot-inside (now (c .before .before .before .before .args .store)) (c .before .before .before .before .pre .well) (c .before .before .before .before .args .i) (c .before .before .before .before .pre .inside))
+add-end c = omega (arith, slot-inside (now (c .before .before .before .before .args .store)) (c .before .before .before .before .args .i) (c .before .before .before .before .pre .well) (c .before .before .before .before .pre .inside))
 
 sub-write-entry : tie.Need-sub-write-entry
 sub-write-entry c = search needs
@@ -21,7 +22,7 @@ part-write-entry-start : tie.Need-part-write-entry-start
 part-write-entry-start c = search needs
 
 part-write-entry-end : tie.Need-part-write-entry-end
-part-write-entry-end c = omega (arith, slot-inside (now (c .before .before .before .before .args .store)) (c .before .before .before .before .pre .well) (c .before .before .before .before .args .i) (c .before .before .before .before .pre .inside))
+part-write-entry-end c = omega (arith, slot-inside (now (c .before .before .before .before .args .store)) (c .before .before .before .before .args .i) (c .before .before .before .before .pre .well) (c .before .before .before .before .pre .inside))
 
 write-entry-requires : tie.Need-write-entry-requires
 write-entry-requires c κs = search needs

@@ -1,18 +1,19 @@
 use native.Mathlib.Omega.{arith}
 use denote.Ref.{now}
-use Rattle.store.proofs.Changes.{slot-inside, slot-cleared}
+use Rattle.store.proofs.Changes.{slot-cleared}
+use Rattle.store.proofs.At.{slot-inside}
 use borrow.Author.Needs.{needs}
 use Rattle.store.proofs.change.remove.Statement.{statement}
 use Rattle.store.proofs.change.remove.Tie as tie
 
 mul-start : tie.Need-mul-start
-mul-start c = omega (arith, slot-inside (now (c .before .args .store)) (c .before .pre .0) (c .before .args .i) (c .before .pre .1))
+mul-start c = omega (arith, slot-inside (now (c .before .args .store)) (c .before .args .i) (c .before .pre .0) (c .before .pre .1))
 
 add-start : tie.Need-add-start
-add-start c = omega (arith, slot-inside (now (c .before .args .store)) (c .before .pre .0) (c .before .args .i) (c .before .pre .1))
+add-start c = omega (arith, slot-inside (now (c .before .args .store)) (c .before .args .i) (c .before .pre .0) (c .before .pre .1))
 
 add-end : tie.Need-add-end
-add-end c = omega (arith, slot-inside (now (c .before .args .store)) (c .before .pre .0) (c .before .args .i) (c .before .pre .1))
+add-end c = omega (arith, slot-inside (now (c .before .args .store)) (c .before .args .i) (c .before .pre .0) (c .before .pre .1))
 
 sub-clear : tie.Need-sub-clear
 sub-clear c = search needs
@@ -21,7 +22,7 @@ part-clear-start : tie.Need-part-clear-start
 part-clear-start c = search needs
 
 part-clear-end : tie.Need-part-clear-end
-part-clear-end c = omega (arith, slot-inside (now (c .before .args .store)) (c .before .pre .0) (c .before .args .i) (c .before .pre .1))
+part-clear-end c = omega (arith, slot-inside (now (c .before .args .store)) (c .before .args .i) (c .before .pre .0) (c .before .pre .1))
 
 clear-requires : tie.Need-clear-requires
 clear-requires c κs = search needs

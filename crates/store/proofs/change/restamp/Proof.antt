@@ -1,18 +1,19 @@
 use native.Mathlib.Omega.{arith}
 use denote.Ref.{now}
-use Rattle.store.proofs.Changes.{slot-inside, slot-stamped}
+use Rattle.store.proofs.Changes.{slot-stamped}
+use Rattle.store.proofs.At.{slot-inside}
 use borrow.Author.Needs.{needs}
 use Rattle.store.proofs.change.restamp.Statement.{statement}
 use Rattle.store.proofs.change.restamp.Tie as tie
 
 mul-start : tie.Need-mul-start
-mul-start c = omega (arith, slot-inside (now (c .before .args .store)) (c .before .pre .0 .well) (c .before .args .i) (c .before .pre .0 .inside))
+mul-start c = omega (arith, slot-inside (now (c .before .args .store)) (c .before .args .i) (c .before .pre .0 .well) (c .before .pre .0 .inside))
 
 add-start : tie.Need-add-start
-add-start c = omega (arith, slot-inside (now (c .before .args .store)) (c .before .pre .0 .well) (c .before .args .i) (c .before .pre .0 .inside))
+add-start c = omega (arith, slot-inside (now (c .before .args .store)) (c .before .args .i) (c .before .pre .0 .well) (c .before .pre .0 .inside))
 
 add-end : tie.Need-add-end
-add-end c = omega (arith, slot-inside (now (c .before .args .store)) (c .before .pre .0 .well) (c .before .args .i) (c .before .pre .0 .inside))
+add-end c = omega (arith, slot-inside (now (c .before .args .store)) (c .before .args .i) (c .before .pre .0 .well) (c .before .pre .0 .inside))
 
 sub-write-stamp : tie.Need-sub-write-stamp
 sub-write-stamp c = search needs
@@ -21,7 +22,7 @@ part-write-stamp-start : tie.Need-part-write-stamp-start
 part-write-stamp-start c = search needs
 
 part-write-stamp-end : tie.Need-part-write-stamp-end
-part-write-stamp-end c = omega (arith, slot-inside (now (c .before .args .store)) (c .before .pre .0 .well) (c .before .args .i) (c .before .pre .0 .inside))
+part-write-stamp-end c = omega (arith, slot-inside (now (c .before .args .store)) (c .before .args .i) (c .before .pre .0 .well) (c .before .pre .0 .inside))
 
 write-stamp-requires : tie.Need-write-stamp-requires
 write-stamp-requires c κs = search needs
