@@ -17,3 +17,9 @@ pub mod Room
 pub mod Names
 pub mod Ready
 pub mod AllOrNone
+pub mod Lines
+pub mod RowNumbers
+pub mod WordPlaces
+pub mod Scanning
+pub mod Acts
+pub mod Answers

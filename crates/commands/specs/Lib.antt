@@ -5,4 +5,5 @@ pub mod Options
 pub mod Parse
 pub mod Effect
 pub mod Execute
+pub mod Promises
 pub mod Examples

@@ -1,4 +1,10 @@
 // Commands: what a command asks, and what it says of a version, an expiry and a condition.
+pub mod act;
+pub mod answer;
+pub mod errors;
+pub mod options;
+pub mod table;
+pub mod words;
 
 // What decides an entry's version: nothing is given, VER v, ABS v.
 pub enum Versioning {

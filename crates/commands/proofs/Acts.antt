@@ -1,0 +1,192 @@
+-- What the acts on a store leave in it: the sweep of one name, the slot for an entry, the entry put there.
+use mathlib.Core.Path.{_≡_, refl, sym, ap, _∙_}
+use mathlib.Core.Bool.{Bool, true, false, cond, not, _&&_, and-false}
+use mathlib.Core.List.{List}
+use mathlib.Core.Option.{Option, none, some}
+use Prim.Native.Nat.{ℕ, _<_}
+use lib.Dec.{eqb}
+use borrow.Author.Tests.{eqb-true, eqb-false}
+use lib.ListN.{getD, set, length-set}
+use lib.Seq.{set-getD, ext-getD}
+use Rattle.wire.specs.Lists.{orElse}
+use Rattle.wire.specs.Bytes.{same}
+use Rattle.store.specs.declared.Found.{Found}
+use Rattle.store.specs.declared.Found.the-variants as founds
+use Rattle.store.specs.Store.{Entry, Slot, slotCount, decode, wellFormed, holds}
+use Rattle.store.specs.Time.{live, liveSlot, deadSlot, emptySlot, lowestSlot, slotFor, put, without}
+use Rattle.store.specs.Promises.{Holds, Placeable, foundFor, withSlot}
+use Rattle.store.proofs.Valid.{Apart}
+use Rattle.store.proofs.Slots.{Lowest, lowest-some, lowest-nowhere, holds-none, holds-once}
+use Rattle.store.proofs.Put.{Place, slot-place, getD-set, put-nowhere}
+use Rattle.store.proofs.Without.{emptied, length-without, getD-without}
+use Rattle.store.proofs.Encode.{length-decode, decode-valid}
+use Rattle.commands.specs.Promises.{lookFor, withSwept, withPut, Fitting}
+
+-- ---- what was found
+
+-- a slot was found
+pub found-at : (o : Option ℕ) (i : ℕ) → founds.At i ≡ foundFor o → o ≡ some i
+unfolding foundFor
+found-at none i h = cc
+found-at (some j) i h = cc
+
+-- none was
+pub found-nothing : (o : Option ℕ) → founds.Nothing ≡ foundFor o → o ≡ none
+unfolding foundFor
+found-nothing none h = refl
+found-nothing (some j) h = cc
+
+-- ---- the slots without the dead entry of a name
+
+unfoldable deadOf : ℕ → List ℕ → List ℕ → Entry → Bool
+deadOf time k f e = same (e .key) k && same (e .field) f && not (live time e)
+
+module _ (time : ℕ) (k f : List ℕ) where
+  abbrev sweptSlot : Slot → Slot
+  sweptSlot = emptied (deadOf time k f)
+
+  abbrev swept : List Slot → List Slot
+  swept = without (deadOf time k f)
+
+  -- a slot of another name stays
+  other-stays : (s : Slot) → holds k f s ≡ false → sweptSlot s ≡ s
+  unfolding emptied deadOf holds orElse
+  other-stays none h = refl
+  other-stays (some e) h = rw h
+
+  -- a live one stays
+  live-stays : (s : Slot) → liveSlot time s ≡ true → sweptSlot s ≡ s
+  unfolding emptied deadOf liveSlot orElse
+  live-stays none h = refl
+  live-stays (some e) h = simp (h, and-false)
+
+  -- a dead one of that name is emptied
+  dead-goes : (s : Slot) → holds k f s ≡ true → liveSlot time s ≡ false → sweptSlot s ≡ none
+  unfolding emptied deadOf holds liveSlot orElse
+  dead-goes none h d = refl
+  dead-goes (some e) h d = rw (h, d)
+
+  module _ (ss : List Slot) where
+    -- no slot holds the name
+    swept-nowhere : lowestSlot (holds k f) ss ≡ none → swept ss ≡ ss
+    swept-nowhere h =
+        ext-getD none (swept ss) ss (length-without (deadOf time k f) ss) λ j l.
+        getD-without (deadOf time k f) ss j ∙ other-stays (getD ss j none) (lowest-nowhere (holds k f) ss (holds-none k f) h j)
+
+    module _ (a : Apart ss) (i : ℕ) (h : lowestSlot (holds k f) ss ≡ some i) where
+      lowest : Lowest (holds k f) ss i
+      lowest = lowest-some (holds k f) ss i h
+
+      -- one slot holds it, and only that may change
+      swept-one : swept ss ≡ set ss i (sweptSlot (getD ss i none))
+      swept-one =
+          ext-getD none (swept ss) (set ss i new) (length-without (deadOf time k f) ss ∙ sym (length-set ss i new)) λ j l.
+          getD-without (deadOf time k f) ss j ∙ go j (eqb j i) refl ∙ sym (getD-set ss i new (lowest .inside) j)
+        where
+          new : Slot
+          new = sweptSlot (getD ss i none)
+
+          go : (j : ℕ) (t : Bool) → eqb j i ≡ t → sweptSlot (getD ss j none) ≡ cond t new (getD ss j none)
+          go j true q = rw (eqb-true j i q)
+          go j false q = other-stays (getD ss j none) (holds-once k f ss a i j (λ e. eqb-false j i q (sym e)) (lowest .here))
+
+      -- it is live
+      swept-live : liveSlot time (getD ss i none) ≡ true → swept ss ≡ ss
+      swept-live l = swept-one ∙ ap (set ss i) (live-stays (getD ss i none) l) ∙ set-getD ss i none
+
+      -- it is dead
+      swept-dead : liveSlot time (getD ss i none) ≡ false → swept ss ≡ set ss i none
+      swept-dead d = swept-one ∙ ap (set ss i) (dead-goes (getD ss i none) (lowest .here) d)
+
+-- ---- a store's bytes
+
+-- bytes that hold slots hold equal ones
+holds-slots : {d : List ℕ} {n : ℕ} {ss ts : List Slot} → ts ≡ ss → Holds d (record { clock = n; slots = ss }) → Holds d (record { clock = n; slots = ts })
+holds-slots e h = rw e h
+
+-- well-formed bytes hold what they mean
+holds-self : {b : List ℕ} → wellFormed b ≡ true → Holds b (decode b)
+holds-self w = record { means = refl; well = w }
+
+module _ (b : List ℕ) (w : wellFormed b ≡ true) (k f : List ℕ) where
+  -- no entry of a name was found: the sweep changes nothing
+  pub sweeps-nothing : (time : ℕ) → founds.Nothing ≡ foundFor (lowestSlot (holds k f) (decode b .slots)) → Holds b (withSwept time k f (decode b))
+  unfolding withSwept deadOf
+  sweeps-nothing time h =
+      holds-slots (swept-nowhere time k f (decode b .slots) (found-nothing (lowestSlot (holds k f) (decode b .slots)) h)) (holds-self w)
+
+  module _ (i : ℕ) (h : founds.At i ≡ foundFor (lowestSlot (holds k f) (decode b .slots))) where
+    named : lowestSlot (holds k f) (decode b .slots) ≡ some i
+    named = found-at (lowestSlot (holds k f) (decode b .slots)) i h
+
+    -- the slot that was found is a store's
+    pub found-slot : (wellFormed b ≡ true) × (i < slotCount b)
+    found-slot = (w, rw (← length-decode b) (lowest-some (holds k f) (decode b .slots) i named .inside))
+
+    -- its entry is live: the sweep changes nothing
+    pub sweeps-live : (time : ℕ) → liveSlot time (getD (decode b .slots) i none) ≡ true → Holds b (withSwept time k f (decode b))
+    unfolding withSwept deadOf
+    sweeps-live time l = holds-slots (swept-live time k f (decode b .slots) (decode-valid b w .apart) i named l) (holds-self w)
+
+    -- its entry is dead: the sweep empties the slot
+    pub sweeps-dead : (time : ℕ) → liveSlot time (getD (decode b .slots) i none) ≡ false → {d : List ℕ} → Holds d (withSlot i none (decode b))
+        → Holds d (withSwept time k f (decode b))
+    unfolding withSwept deadOf
+    sweeps-dead time n x = holds-slots (swept-dead time k f (decode b .slots) (decode-valid b w .apart) i named n) x
+
+-- ---- the slot for an entry
+
+module _ (time : ℕ) (k f : List ℕ) (ss : List Slot) where
+  -- its own
+  pub looks-own : (i : ℕ) → founds.At i ≡ foundFor (lowestSlot (holds k f) ss) → founds.At i ≡ lookFor time k f ss
+  unfolding lookFor slotFor foundFor orElse
+  looks-own i h = rw (found-at (lowestSlot (holds k f) ss) i h)
+
+  module _ (h : founds.Nothing ≡ foundFor (lowestSlot (holds k f) ss)) where
+    -- an empty one
+    pub looks-empty : (i : ℕ) → founds.At i ≡ foundFor (lowestSlot emptySlot ss) → founds.At i ≡ lookFor time k f ss
+    unfolding lookFor slotFor foundFor orElse
+    looks-empty i e = rw (found-nothing (lowestSlot (holds k f) ss) h, found-at (lowestSlot emptySlot ss) i e)
+
+    -- a dead one, or none
+    pub looks-dead : {r : Found} → founds.Nothing ≡ foundFor (lowestSlot emptySlot ss) → r ≡ foundFor (lowestSlot (deadSlot time) ss)
+        → r ≡ lookFor time k f ss
+    unfolding lookFor slotFor orElse
+    looks-dead e d = rw (found-nothing (lowestSlot (holds k f) ss) h, found-nothing (lowestSlot emptySlot ss) e) d
+
+-- ---- an entry in its place
+
+module _ (b : List ℕ) (time : ℕ) (e : Entry) (x : Fitting b e) where
+  -- there is no place: nothing changes
+  pub places-nothing : founds.Nothing ≡ lookFor time (e .key) (e .field) (decode b .slots) → Holds b (withPut time e (decode b))
+  unfolding withPut lookFor
+  places-nothing h =
+      holds-slots (put-nowhere time e (decode b .slots) (found-nothing (slotFor time (e .key) (e .field) (decode b .slots)) h)) (holds-self (x .well))
+
+  module _ (i : ℕ) (h : founds.At i ≡ lookFor time (e .key) (e .field) (decode b .slots)) where
+    given : slotFor time (e .key) (e .field) (decode b .slots) ≡ some i
+    unfolding lookFor
+    given = found-at (slotFor time (e .key) (e .field) (decode b .slots)) i h
+
+    -- the entry may be put there
+    pub may-place : Placeable b i e
+    may-place =
+        let p : Place time (e .key) (e .field) (decode b .slots) i = slot-place time (e .key) (e .field) (decode b .slots) i given in
+        record {
+          well = x .well;
+          inside = rw (← length-decode b) (p .inside);
+          key = x .key;
+          field = x .field;
+          value = x .value;
+          version = x .version;
+          expiry = x .expiry;
+          keyBytes = x .keyBytes;
+          fieldBytes = x .fieldBytes;
+          valueBytes = x .valueBytes;
+          alone = p .alone (decode-valid b (x .well) .apart);
+        }
+
+    -- it is put there
+    pub places : {d : List ℕ} → Holds d (withSlot i (some e) (decode b)) → Holds d (withPut time e (decode b))
+    unfolding withPut put orElse
+    places h = rw given h

@@ -1,0 +1,65 @@
+-- The line is the part of all lines between two ends.
+use native.Mathlib.Omega.{arith}
+use denote.Ref.{now}
+use mathlib.Core.List.{flatMap}
+use lib.ListN.{length}
+use Rattle.wire.specs.Bytes.{text}
+use Rattle.commands.specs.Refusal.{table}
+use Rattle.commands.proofs.Lines.{lines, ends, lineOf, line-at, line-room, line-laid}
+use borrow.Author.Needs.{needs}
+use Rattle.commands.proofs.errors.put_error.Statement.{statement}
+use Rattle.commands.proofs.errors.put_error.Tie as tie
+
+sub-start : tie.Need-sub-start
+sub-start c = line-at (c .before .args .n) (c .before .pre .0) .first
+
+mul-start : tie.Need-mul-start
+mul-start c = search needs
+
+array-read-start : tie.Need-array-read-start
+array-read-start c = omega (arith, line-at (c .before .args .n) (c .before .pre .0) .last)
+
+mul-end : tie.Need-mul-end
+mul-end c = search needs
+
+array-read-end : tie.Need-array-read-end
+array-read-end c = line-at (c .before .args .n) (c .before .pre .0) .last
+
+sub-put-line : tie.Need-sub-put-line
+unfolding ends
+sub-put-line c = line-at (c .before .args .n) (c .before .pre .0) .order
+
+part-put-line-start : tie.Need-part-put-line-start
+unfolding ends
+part-put-line-start c = line-at (c .before .before .args .n) (c .before .before .pre .0) .order
+
+part-put-line-end : tie.Need-part-put-line-end
+unfolding ends
+part-put-line-end c = line-at (c .before .before .args .n) (c .before .before .pre .0) .inside
+
+put-line-requires : tie.Need-put-line-requires
+unfolding lines ends lineOf flatMap text table
+put-line-requires c κs = line-room (c .before .before .before .before .args .n) (length (now (c .before .before .before .before .args .out))) (c .before .before .before .before .pre .0) (c .before .before .before .before .pre .1)
+
+same-length : tie.Need-same-length
+same-length c = search needs
+
+returns : tie.Need-returns
+unfolding lines ends lineOf flatMap text table
+returns c = line-laid (c .before .before .before .before .before .before .before .args .n) (c .before .before .before .before .before .before .before .pre .0) (c .before .before .put-line .ensures)
+
+pub put-error-spec : {M : Type 1} → statement M
+put-error-spec =
+    tie.close
+    (tie.spec
+    sub-start
+    mul-start
+    array-read-start
+    mul-end
+    array-read-end
+    sub-put-line
+    part-put-line-start
+    part-put-line-end
+    put-line-requires
+    same-length
+    returns)

@@ -1,0 +1,21 @@
+-- The bytes of the code are those of the definition, computed.
+use Rattle.commands.specs.Promises.{nameRow, commandTable}
+use Rattle.commands.proofs.Computing.{computing}
+use Rattle.commands.proofs.RowNumbers.{command-table}
+use borrow.Author.Needs.{needs}
+use Rattle.commands.proofs.table.command_named.Statement.{statement}
+use Rattle.commands.proofs.table.command_named.Tie as tie
+
+slice-aggregate-find : tie.Need-slice-aggregate-find
+slice-aggregate-find c = search needs
+
+find-requires : tie.Need-find-requires
+unfolding computing nameRow commandTable
+find-requires c κs = command-table
+
+returns : tie.Need-returns
+unfolding computing nameRow commandTable
+returns c = c .find .ensures
+
+pub command-named-spec : {M : Type 1} → statement M
+command-named-spec = tie.close (tie.spec slice-aggregate-find find-requires returns)

@@ -1,0 +1,21 @@
+-- The bytes of the code are those of the definition, computed.
+use Rattle.commands.specs.Promises.{nameRow, optionTable}
+use Rattle.commands.proofs.Computing.{computing}
+use Rattle.commands.proofs.RowNumbers.{option-table}
+use borrow.Author.Needs.{needs}
+use Rattle.commands.proofs.table.option_named.Statement.{statement}
+use Rattle.commands.proofs.table.option_named.Tie as tie
+
+slice-aggregate-find : tie.Need-slice-aggregate-find
+slice-aggregate-find c = search needs
+
+find-requires : tie.Need-find-requires
+unfolding computing nameRow optionTable
+find-requires c κs = option-table
+
+returns : tie.Need-returns
+unfolding computing nameRow optionTable
+returns c = c .find .ensures
+
+pub option-named-spec : {M : Type 1} → statement M
+option-named-spec = tie.close (tie.spec slice-aggregate-find find-requires returns)

@@ -1,0 +1,62 @@
+// What every command does with the store: the clock, the named dead entries, an entry's place.
+use store::Expiry;
+use store::Found;
+use store::change;
+use store::find;
+use store::read;
+ghost use mathlib.Core.Path.{_≡_};
+ghost use mathlib.Core.Bool.{true};
+ghost use Rattle.store.specs.Store.{decode, wellFormed};
+ghost use Rattle.store.specs.Promises.{Holds, entry};
+ghost use Rattle.commands.specs.Promises.{lookFor, withSwept, withPut, Fitting};
+
+// Removes the entry of a key and a field if it is dead at a time.
+pub fn sweep(bytes: &mut [u8], key: &[u8], field: &[u8], time: u64)
+    requires { ⌜ wellFormed (now bytes) ≡ true ⌝ }
+    ensures { λ _. ⌜ Holds (now (bytes .exit)) (withSwept time (now (key .entry)) (now (field .entry)) (decode (now (bytes .entry)))) ⌝ }
+{
+    let found = find::named(bytes, key, field);
+    let Found::At(i) = found else {
+        return;
+    };
+    if read::is_live(bytes, i, time) {
+        return;
+    }
+    change::remove(bytes, i);
+}
+
+// The slot of an entry of a key and a field: its own, else the lowest empty one, else the lowest dead one.
+fn slot_for(bytes: &[u8], key: &[u8], field: &[u8], time: u64) -> Found
+    requires { ⌜ wellFormed (now bytes) ≡ true ⌝ }
+    ensures { λ r. ⌜ r ≡ lookFor time (now (key .entry)) (now (field .entry)) (decode (now (bytes .entry)) .slots) ⌝ }
+{
+    let own = find::named(bytes, key, field);
+    if let Found::At(i) = own {
+        return Found::At(i);
+    }
+    let empty = find::empty(bytes);
+    if let Found::At(i) = empty {
+        return Found::At(i);
+    }
+    find::dead(bytes, time)
+}
+
+// Writes an entry in its place; where there is none for it, nothing changes.
+pub fn place(
+    bytes: &mut [u8],
+    key: &[u8],
+    field: &[u8],
+    value: &[u8],
+    version: u64,
+    expiry: Expiry,
+    time: u64,
+)
+    requires { ⌜ Fitting (now bytes) (entry (now key) (now field) (now value) version expiry) ⌝ }
+    ensures { λ _. ⌜ Holds (now (bytes .exit)) (withPut time (entry (now (key .entry)) (now (field .entry)) (now (value .entry)) version expiry) (decode (now (bytes .entry)))) ⌝ }
+{
+    let found = slot_for(bytes, key, field, time);
+    let Found::At(i) = found else {
+        return;
+    };
+    change::put(bytes, i, key, field, value, version, expiry);
+}
