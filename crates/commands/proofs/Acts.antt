@@ -2,7 +2,7 @@
 use mathlib.Core.Path.{_≡_, refl, sym, ap, _∙_}
 use mathlib.Core.Bool.{Bool, true, false, cond, not, _&&_, and-false}
 use mathlib.Core.List.{List}
-use mathlib.Core.Option.{Option, none, some}
+use mathlib.Core.Option.{none, some}
 use Prim.Native.Nat.{ℕ, _<_}
 use lib.Dec.{eqb}
 use borrow.Author.Tests.{eqb-true, eqb-false}
@@ -20,21 +20,10 @@ use Rattle.store.proofs.Slots.{Lowest, lowest-some, lowest-nowhere, holds-none,
 use Rattle.store.proofs.Put.{Place, slot-place, getD-set, put-nowhere}
 use Rattle.store.proofs.Without.{emptied, length-without, getD-without}
 use Rattle.store.proofs.Encode.{length-decode, decode-valid}
+use Rattle.store.proofs.Searches.{found-at, found-nothing}
 use Rattle.commands.specs.Promises.{lookFor, withSwept, withPut, Fitting}
 
 -- ---- what was found
-
--- a slot was found
-pub found-at : (o : Option ℕ) (i : ℕ) → founds.At i ≡ foundFor o → o ≡ some i
-unfolding foundFor
-found-at none i h = cc
-found-at (some j) i h = cc
-
--- none was
-pub found-nothing : (o : Option ℕ) → founds.Nothing ≡ foundFor o → o ≡ none
-unfolding foundFor
-found-nothing none h = refl
-found-nothing (some j) h = cc
 
 -- ---- the slots without the dead entry of a name
 

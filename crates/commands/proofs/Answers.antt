@@ -1,13 +1,13 @@
 -- The replies about one field, as they are written: what each question is answered with, and that there is room for it.
 use mathlib.Core.Path.{_≡_, refl, sym, ap, subst, _∙_}
-use mathlib.Core.Bool.{Bool, true, false, false≢true}
+use mathlib.Core.Bool.{Bool, true, false}
 use mathlib.Core.List.{List, [], _∷_, _++_, flatten, append-assoc, append-nil}
-use mathlib.Core.Option.{Option, none, some}
+use mathlib.Core.Option.{none, some}
 use Prim.Native.Nat.{ℕ, _-_, _/_, _≤_}
 use native.Mathlib.Omega.{arith}
 use native.Mathlib.Nat.{zero-div}
 use lib.IntN.{ℤ, pos, negsuc}
-use lib.ListN.{length, getD}
+use lib.ListN.{length}
 use Rattle.wire.specs.Lists.{orElse}
 use Rattle.wire.specs.Reply.{nil, integer, number, bulk, header, array}
 use Rattle.wire.specs.declared.integers.Signed.{Signed}
@@ -17,12 +17,13 @@ use Rattle.store.specs.declared.Expiry.the-variants.{Never, At}
 use Rattle.store.specs.declared.Found.{Found}
 use Rattle.store.specs.declared.Found.the-variants as founds
 use Rattle.store.specs.Store.{Entry, Slot, decode, wellFormed, holds}
-use Rattle.store.specs.Time.{keyExists, lowestSlot, emptySlot, entryOf}
-use Rattle.store.specs.Promises.{Held, entryAt, foundFor}
+use Rattle.store.specs.Time.{keyExists, lowestSlot, entryOf}
+use Rattle.store.specs.Promises.{Held, entryAt}
 use Rattle.store.proofs.Valid.{Fits, FitsSlot}
 use Rattle.store.proofs.Encode.{decode-valid}
 use Rattle.store.proofs.Slots.{entry-at-lowest, lowest-entry-none}
-use Rattle.store.proofs.Searches.{named-held}
+use Rattle.store.proofs.Searches.{named-held, found-at, found-nothing}
+use Rattle.store.proofs.Changes.{held-entry}
 use Rattle.commands.specs.declared.Question.{Question}
 use Rattle.commands.specs.declared.Question.the-variants.{Value, Length, Exists, Versioned, Version, Seconds, Milliseconds}
 use Rattle.commands.specs.Effect.{timeLeft, reply}
@@ -67,16 +68,8 @@ key-missing now k ss h g = rw (← h, g) refl
 
 -- ---- the entry of a slot
 
-held-some : (ss : List Slot) (i : ℕ) → emptySlot (getD ss i none) ≡ false → getD ss i none ≡ some (entryAt ss i)
-unfolding entryAt emptySlot orElse
-held-some ss i h = go (getD ss i none) refl
-  where
-    go : (o : Slot) → getD ss i none ≡ o → getD ss i none ≡ some (entryAt ss i)
-    go none q = let z : _≡_ {A = Bool} true false = rw q at h in absurd (false≢true (sym z))
-    go (some e) q = q ∙ rw q
-
 held-fits : {b : List ℕ} {i : ℕ} → Held b i → Fits (entryAt (decode b .slots) i)
-held-fits {b} {i} h = subst FitsSlot (held-some (decode b .slots) i (h .held)) (decode-valid b (h .well) .fits i)
+held-fits {b} {i} h = subst FitsSlot (held-entry (decode b .slots) i (h .held)) (decode-valid b (h .well) .fits i)
 
 -- ---- room
 
@@ -174,16 +167,6 @@ holds-none : (k f : List ℕ) → holds k f none ≡ false
 unfolding holds orElse
 holds-none k f = refl
 
-lowest-found : (o : Option ℕ) (i : ℕ) → founds.At i ≡ foundFor o → o ≡ some i
-unfolding foundFor
-lowest-found none i h = cc
-lowest-found (some j) i h = cc
-
-lowest-nothing : (o : Option ℕ) → founds.Nothing ≡ foundFor o → o ≡ none
-unfolding foundFor
-lowest-nothing none h = refl
-lowest-nothing (some j) h = cc
-
 -- The reply about an entry does not look at the slots.
 reply-found : (time : ℕ) (ss : List Slot) (k : List ℕ) (q : Question) (e : Entry) → reply time ss k q (some e) ≡ reply time [] [] q (some e)
 unfolding reply orElse
@@ -203,12 +186,12 @@ module _ (b k f : List ℕ) {r : Found} (h : Looked b k f r) where
   -- that of the key and the field;
   pub looked-entry : {i : ℕ} → wellFormed b ≡ true → r ≡ founds.At i → entryOf k f (decode b .slots) ≡ some (entryAt (decode b .slots) i)
   looked-entry {i} w e =
-      entry-at-lowest k f (decode b .slots) i (lowest-found (lowestSlot (holds k f) (decode b .slots)) i (sym e ∙ h))
-      ∙ held-some (decode b .slots) i (looked-held w e .held)
+      entry-at-lowest k f (decode b .slots) i (found-at (lowestSlot (holds k f) (decode b .slots)) i (sym e ∙ h))
+      ∙ held-entry (decode b .slots) i (looked-held w e .held)
 
   -- where none was found, there is none.
   pub looked-missing : r ≡ founds.Nothing → entryOf k f (decode b .slots) ≡ none
-  looked-missing e = lowest-entry-none k f (decode b .slots) (lowest-nothing (lowestSlot (holds k f) (decode b .slots)) (sym e ∙ h))
+  looked-missing e = lowest-entry-none k f (decode b .slots) (found-nothing (lowestSlot (holds k f) (decode b .slots)) (sym e ∙ h))
 
   -- The reply to a question about the field, in both cases
   pub found-reply : (time : ℕ) (q : Question) {i : ℕ} → wellFormed b ≡ true → r ≡ founds.At i

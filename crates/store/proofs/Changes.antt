@@ -165,7 +165,7 @@ slot-placed b i e y p q =
     q
 
 -- a slot that is not empty holds its entry
-held-entry : (ss : List Slot) (i : ℕ) → emptySlot (getD ss i none) ≡ false → getD ss i none ≡ some (entryAt ss i)
+pub held-entry : (ss : List Slot) (i : ℕ) → emptySlot (getD ss i none) ≡ false → getD ss i none ≡ some (entryAt ss i)
 unfolding entryAt emptySlot orElse
 held-entry ss i h = go (getD ss i none) refl
   where

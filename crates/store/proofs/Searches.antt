@@ -205,3 +205,17 @@ module _ {p : Slot → Bool} {b : List ℕ} {n m i : ℕ} (s : Count p b n m i) 
           most = omega (arith, s .most);
           total = omega (arith, s .total, keep-skip p (decode b .slots) i (within (s .walk) l) (walk-test (s .walk) l e p q h));
         }
+
+-- ---- what an answer of a search says
+
+-- a slot was found
+pub found-at : (o : Option ℕ) (i : ℕ) → founds.At i ≡ foundFor o → o ≡ some i
+unfolding foundFor
+found-at none i h = cc
+found-at (some j) i h = cc
+
+-- none was
+pub found-nothing : (o : Option ℕ) → founds.Nothing ≡ foundFor o → o ≡ none
+unfolding foundFor
+found-nothing none h = refl
+found-nothing (some j) h = cc
