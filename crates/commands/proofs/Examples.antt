@@ -1,13 +1,13 @@
 -- The definitions give every row of the paper's worked cases.
 use mathlib.Core.Path.{_≡_, refl}
 use mathlib.Core.List.{map}
-use Rattle.commands.specs.Examples.{given, expected, markedPresses, workedCases}
+use Rattle.commands.specs.Examples.{given, expected, markedExamples, workedCases}
 use Rattle.commands.proofs.Computing.{computing}
 
 -- P1 to P14: each reply, and what the two slots then hold
-pub marked-presses : map given markedPresses ≡ map expected markedPresses
+pub marked-examples : map given markedExamples ≡ map expected markedExamples
 unfolding computing
-marked-presses = refl
+marked-examples = refl
 
 -- the EXHGETALL example, and the mistakes about commands under "What trainees' programs got away with"
 pub worked-cases : map given workedCases ≡ map expected workedCases

@@ -27,7 +27,7 @@ use Rattle.commands.specs.Parse.{parse}
 use Rattle.commands.specs.Parse.Parsed.{accepted}
 use Rattle.commands.specs.Effect.{effect}
 use Rattle.commands.specs.Execute.{sweep, room, added, exec, execBytes}
-use Rattle.commands.specs.Examples.{given, expected, markedPresses}
+use Rattle.commands.specs.Examples.{given, expected, markedExamples}
 use Rattle.commands.proofs.Examples as commandExamples
 use Rattle.commands.proofs.Refused.{refused-reply, late-refusal, refused-keeps-live}
 use Rattle.commands.proofs.Sweep.{room-sweep}
@@ -131,8 +131,8 @@ pub buffer-stays : (f : Feeder) (piece b buffer : List ℕ) → length (feed f p
 buffer-stays = refusals.buffer-length
 
 -- P1 to P14.
-pub marked-presses : map given markedPresses ≡ map expected markedPresses
-marked-presses = commandExamples.marked-presses
+pub marked-examples : map given markedExamples ≡ map expected markedExamples
+marked-examples = commandExamples.marked-examples
 
 -- ════ Demand 3: any list of calls
 
