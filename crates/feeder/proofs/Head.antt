@@ -39,81 +39,91 @@ told wait = false
 short : (k : ℕ) (s u : List ℕ) → ltb (length s) k ≡ false → ltb (length (s ++ u)) k ≡ false
 short k s u h = le-ltb (length (s ++ u)) k (rw (length-append s u) (omega (arith, ltb-false (length s) k h)))
 
--- the last tests of headOf, where the length of the command is known
+-- the tests of headOf by their order: where the length of the command is known, after the mark, after the first byte
 lastTests : ℕ → ℕ → Head
 lastTests size n = cond (ltb n 1 || ltb commandMost n) skip (cond (ltb size (commandAt + n)) wait (whole n))
+
+afterMark : List ℕ → Head
+afterMark s = cond (ltb (length s) commandAt) wait (lastTests (length s) (commandLength s))
+
+afterFirst : List ℕ → Head
+afterFirst s = cond (not (eqb (getD s 1 0) secondMark)) skip (afterMark s)
 
 -- a head that can be told stays as it is
 module _ (s u : List ℕ) where
   last-more : (n : ℕ) → told (lastTests (length s) n) ≡ true → lastTests (length (s ++ u)) n ≡ lastTests (length s) n
   unfolding lastTests told
-  last-more n = outer (ltb n 1 || ltb commandMost n) (ltb (length s) (commandAt + n)) refl
+  last-more n = go (ltb n 1 || ltb commandMost n) (ltb (length s) (commandAt + n)) refl
     where
-      outer : (e f : Bool) → ltb (length s) (commandAt + n) ≡ f → told (cond e skip (cond f wait (whole n))) ≡ true
+      go : (e f : Bool) → ltb (length s) (commandAt + n) ≡ f → told (cond e skip (cond f wait (whole n))) ≡ true
           → cond e skip (cond (ltb (length (s ++ u)) (commandAt + n)) wait (whole n)) ≡ cond e skip (cond f wait (whole n))
-      outer true f p h = refl
-      outer false true p h = absurd (false≢true h)
-      outer false false p h = rw (short (commandAt + n) s u p)
+      go true f p h = refl
+      go false true p h = absurd (false≢true h)
+      go false false p h = rw (short (commandAt + n) s u p)
 
-  pub head-more : 1 ≤ length s → told (headOf s) ≡ true → headOf (s ++ u) ≡ headOf s
-  unfolding headOf told lastTests
-  head-more l = rw (List·getD-append s u 0 0 l) (first (not (eqb (getD s 0 0) firstMark)) (ltb (length s) 2) refl)
+  mark-more : told (afterMark s) ≡ true → afterMark (s ++ u) ≡ afterMark s
+  unfolding afterMark told
+  mark-more = go (ltb (length s) commandAt) refl
     where
-      third : (d : Bool) → ltb (length s) commandAt ≡ d → told (cond d wait (lastTests (length s) (commandLength s))) ≡ true
+      go : (d : Bool) → ltb (length s) commandAt ≡ d → told (cond d wait (lastTests (length s) (commandLength s))) ≡ true
           → cond (ltb (length (s ++ u)) commandAt) wait (lastTests (length (s ++ u)) (commandLength (s ++ u)))
           ≡ cond d wait (lastTests (length s) (commandLength s))
-      third true p h = absurd (false≢true h)
-      third false p h =
+      go true p h = absurd (false≢true h)
+      go false p h =
           rw (short commandAt s u p, length-more s u (ltb-false (length s) commandAt p)) (last-more (commandLength s) h)
 
-      second : (c d : Bool) → ltb (length s) commandAt ≡ d → told (cond c skip (cond d wait (lastTests (length s) (commandLength s)))) ≡ true
-          → cond c skip (cond (ltb (length (s ++ u)) commandAt) wait (lastTests (length (s ++ u)) (commandLength (s ++ u))))
-          ≡ cond c skip (cond d wait (lastTests (length s) (commandLength s)))
-      second true d p h = refl
-      second false d p h = third d p h
+  second-more : 1 < length s → told (afterFirst s) ≡ true → afterFirst (s ++ u) ≡ afterFirst s
+  unfolding afterFirst told
+  second-more l = rw (List·getD-append s u 0 1 l) (go (not (eqb (getD s 1 0) secondMark)))
+    where
+      go : (c : Bool) → told (cond c skip (afterMark s)) ≡ true → cond c skip (afterMark (s ++ u)) ≡ cond c skip (afterMark s)
+      go true h = refl
+      go false h = mark-more h
 
-      first : (a b : Bool) → ltb (length s) 2 ≡ b
-          → told (cond a skip (cond b wait (cond (not (eqb (getD s 1 0) secondMark)) skip (cond (ltb (length s) commandAt) wait (lastTests (length s) (commandLength s)))))) ≡ true
-          → cond a skip (cond (ltb (length (s ++ u)) 2) wait (cond (not (eqb (getD (s ++ u) 1 0) secondMark)) skip (cond (ltb (length (s ++ u)) commandAt) wait (lastTests (length (s ++ u)) (commandLength (s ++ u))))))
-          ≡ cond a skip (cond b wait (cond (not (eqb (getD s 1 0) secondMark)) skip (cond (ltb (length s) commandAt) wait (lastTests (length s) (commandLength s)))))
-      first true b p h = refl
-      first false true p h = absurd (false≢true h)
-      first false false p h =
-          let two : 1 < length s = ltb-false (length s) 2 p in
-          rw (short 2 s u p, List·getD-append s u 0 1 two) (second (not (eqb (getD s 1 0) secondMark)) (ltb (length s) commandAt) refl h)
+  pub head-more : 1 ≤ length s → told (headOf s) ≡ true → headOf (s ++ u) ≡ headOf s
+  unfolding headOf told afterFirst afterMark lastTests
+  head-more l = rw (List·getD-append s u 0 0 l) (go (not (eqb (getD s 0 0) firstMark)) (ltb (length s) 2) refl)
+    where
+      go : (a b : Bool) → ltb (length s) 2 ≡ b → told (cond a skip (cond b wait (afterFirst s))) ≡ true
+          → cond a skip (cond (ltb (length (s ++ u)) 2) wait (afterFirst (s ++ u))) ≡ cond a skip (cond b wait (afterFirst s))
+      go true b p h = refl
+      go false true p h = absurd (false≢true h)
+      go false false p h = rw (short 2 s u p) (second-more (ltb-false (length s) 2 p) h)
 
 -- ---- which heads there are
 
--- a head is one to skip, waits for want of bytes, or is a record that lies whole in s
-pub head-cases : (P : Head → Type 0) (s : List ℕ)
-    → P skip
-    → (length s < commandAt + commandMost → P wait)
-    → (commandAt + commandLength s ≤ length s → P (whole (commandLength s)))
-    → P (headOf s)
-unfolding headOf
-head-cases P s skips waits wholes =
-    first (not (eqb (getD s 0 0) firstMark)) (ltb (length s) 2) refl
-  where
-    n : ℕ
-    n = commandLength s
+module _ (P : Head → Type 0) (s : List ℕ)
+    (skips : P skip)
+    (waits : length s < commandAt + commandMost → P wait)
+    (wholes : commandAt + commandLength s ≤ length s → P (whole (commandLength s))) where
+  last-cases : (n : ℕ) → n ≡ commandLength s → P (lastTests (length s) n)
+  unfolding lastTests
+  last-cases n e = go (ltb n 1 || ltb commandMost n) (ltb (length s) (commandAt + n)) refl refl
+    where
+      go : (x f : Bool) → ltb n 1 || ltb commandMost n ≡ x → ltb (length s) (commandAt + n) ≡ f → P (cond x skip (cond f wait (whole n)))
+      go true f p q = skips
+      go false true p q =
+          waits (omega (arith, ltb-true (length s) (commandAt + n) q, ltb-false commandMost n (or-right (ltb n 1) (ltb commandMost n) p)))
+      go false false p q = rw e (wholes (rw e at (ltb-false (length s) (commandAt + n) q)))
 
-    third : (e f : Bool) → ltb n 1 || ltb commandMost n ≡ e → ltb (length s) (commandAt + n) ≡ f → P (cond e skip (cond f wait (whole n)))
-    third true f p q = skips
-    third false true p q =
-        waits (omega (arith, ltb-true (length s) (commandAt + n) q, ltb-false commandMost n (or-right (ltb n 1) (ltb commandMost n) p)))
-    third false false p q = wholes (ltb-false (length s) (commandAt + n) q)
+  mark-cases : P (afterMark s)
+  unfolding afterMark
+  mark-cases = go (ltb (length s) commandAt) refl
+    where
+      go : (d : Bool) → ltb (length s) commandAt ≡ d → P (cond d wait (lastTests (length s) (commandLength s)))
+      go true p = waits (omega (arith, ltb-true (length s) commandAt p))
+      go false p = last-cases (commandLength s) refl
 
-    second : (c d : Bool) → ltb (length s) commandAt ≡ d
-        → P (cond c skip (cond d wait (cond (ltb n 1 || ltb commandMost n) skip (cond (ltb (length s) (commandAt + n)) wait (whole n)))))
-    second true d p = skips
-    second false true p = waits (omega (arith, ltb-true (length s) commandAt p))
-    second false false p = third (ltb n 1 || ltb commandMost n) (ltb (length s) (commandAt + n)) refl refl
-
-    first : (a b : Bool) → ltb (length s) 2 ≡ b
-        → P (cond a skip (cond b wait (cond (not (eqb (getD s 1 0) secondMark)) skip (cond (ltb (length s) commandAt) wait (cond (ltb n 1 || ltb commandMost n) skip (cond (ltb (length s) (commandAt + n)) wait (whole n)))))))
-    first true b p = skips
-    first false true p = waits (omega (arith, ltb-true (length s) 2 p))
-    first false false p = second (not (eqb (getD s 1 0) secondMark)) (ltb (length s) commandAt) refl
+  -- a head is one to skip, waits for want of bytes, or is a record that lies whole in s
+  pub head-cases : P (headOf s)
+  unfolding headOf afterFirst afterMark lastTests
+  head-cases = go (not (eqb (getD s 0 0) firstMark)) (ltb (length s) 2) refl (not (eqb (getD s 1 0) secondMark))
+    where
+      go : (a b : Bool) → ltb (length s) 2 ≡ b → (c : Bool) → P (cond a skip (cond b wait (cond c skip (afterMark s))))
+      go true b p c = skips
+      go false true p c = waits (omega (arith, ltb-true (length s) 2 p))
+      go false false p true = skips
+      go false false p false = mark-cases
 
 -- a whole record lies in s
 pub whole-fits : (s : List ℕ) (n : ℕ) → headOf s ≡ whole n → commandAt + n ≤ length s

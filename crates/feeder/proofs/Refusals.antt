@@ -25,7 +25,7 @@ use Rattle.feeder.specs.declared.Feeder.{Feeder}
 use Rattle.feeder.specs.Record.{Record, recordOf}
 use Rattle.feeder.specs.Calls.{Untouched}
 use Rattle.feeder.proofs.Call.{refusing-leaves}
-use Rattle.feeder.specs.Feed.{bufferLeast, waitingIn, isLeft, Place, firstRecord, refusing, absorbing, completing, offered, taking, feed}
+use Rattle.feeder.specs.Feed.{bufferLeast, waitingIn, isLeft, Answer, Place, firstRecord, refusing, absorbing, completing, offered, taking, feed}
 
 -- bytes are taken with no refusal
 taking-answers : (w piece b buffer : List ℕ) → taking w piece b buffer .fed .refusal ≡ 0
@@ -38,13 +38,16 @@ taking-answers w piece b buffer = go (firstRecord (w ++ offered piece))
     go none = refl
     go (some p) = refl
 
+-- a call's answer by its three tests: the state, the store and the buffer are refused
+abbrev answerBy : Feeder → List ℕ → List ℕ → List ℕ → Bool → Bool → Bool → Answer
+answerBy f piece b buffer x y z =
+    cond x (refusing 1 f b buffer) (cond y (refusing 2 f b buffer) (cond z (refusing 3 f b buffer) (taking (waitingIn f) piece b buffer)))
+
 pub refused-call : (f : Feeder) (piece b buffer : List ℕ) → feed f piece b buffer .fed .refusal ≢ 0 → Untouched f b buffer (feed f piece b buffer)
 unfolding feed
 refused-call f piece b buffer = go (not (isLeft f)) (not (wellFormed b)) (ltb (length buffer) bufferLeast)
   where
-    go : (x y z : Bool)
-        → cond x (refusing 1 f b buffer) (cond y (refusing 2 f b buffer) (cond z (refusing 3 f b buffer) (taking (waitingIn f) piece b buffer))) .fed .refusal ≢ 0
-        → Untouched f b buffer (cond x (refusing 1 f b buffer) (cond y (refusing 2 f b buffer) (cond z (refusing 3 f b buffer) (taking (waitingIn f) piece b buffer))))
+    go : (x y z : Bool) → answerBy f piece b buffer x y z .fed .refusal ≢ 0 → Untouched f b buffer (answerBy f piece b buffer x y z)
     go true y z h = refusing-leaves 1 f b buffer
     go false true z h = refusing-leaves 2 f b buffer
     go false false true h = refusing-leaves 3 f b buffer
@@ -74,17 +77,15 @@ taking-length w piece b buffer well large = go (firstRecord (w ++ offered piece)
         over-length (execBytes (r .clock) (r .command) b .reply) buffer (omega (arith, reply-short (r .clock) (r .command) b well))
 
 pub buffer-length : (f : Feeder) (piece b buffer : List ℕ) → length (feed f piece b buffer .buffer) ≡ length buffer
-unfolding feed refusing
-buffer-length f piece b buffer =
-    go (isLeft f) (wellFormed b) refl (ltb (length buffer) bufferLeast) refl
+unfolding feed
+buffer-length f piece b buffer = go (not (isLeft f)) (wellFormed b) refl (ltb (length buffer) bufferLeast) refl
   where
     go : (x y : Bool) → wellFormed b ≡ y → (z : Bool) → ltb (length buffer) bufferLeast ≡ z
-        → length (cond (not x) (refusing 1 f b buffer) (cond (not y) (refusing 2 f b buffer) (cond z (refusing 3 f b buffer) (taking (waitingIn f) piece b buffer))) .buffer)
-        ≡ length buffer
-    go false y p z q = refl
-    go true false p z q = refl
-    go true true p true q = refl
-    go true true p false q = taking-length (waitingIn f) piece b buffer p (ltb-false (length buffer) bufferLeast q)
+        → length (answerBy f piece b buffer x (not y) z .buffer) ≡ length buffer
+    go true y p z q = ap length (refusing-leaves 1 f b buffer .same)
+    go false false p z q = ap length (refusing-leaves 2 f b buffer .same)
+    go false true p true q = ap length (refusing-leaves 3 f b buffer .same)
+    go false true p false q = taking-length (waitingIn f) piece b buffer p (ltb-false (length buffer) bufferLeast q)
 
 -- ---- a refused command, in the store's bytes
 
