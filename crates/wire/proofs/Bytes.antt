@@ -1,6 +1,6 @@
 -- Laws of bytes, of numbers in them, and of lists that are the same.
 use mathlib.Core.Path.{_≡_, refl, sym, ap, ap₂}
-use mathlib.Core.Bool.{Bool, true, false, false≢true}
+use mathlib.Core.Bool.{Bool, true, false, false≢true, _&&_}
 use mathlib.Core.List.{List, [], _∷_, _++_, flatten}
 use Prim.Native.Nat.{ℕ, zero, suc, _+_, _-_, _*_, _/_, _%_, _^_, _≤_, _<_}
 use native.Mathlib.Nat.{pow-suc}
@@ -148,6 +148,29 @@ unfolding allZero all
 zero-is [] h = refl
 zero-is (b ∷ s) h =
     ap₂ (λ (a : ℕ) (l : List ℕ). a ∷ l) (sym (eqb-true 0 b (and-left (eqb 0 b) (all (eqb 0) s) h))) (zero-is s (and-right (eqb 0 b) (all (eqb 0) s) h))
+
+pub zero-drop : (m : ℕ) (s : List ℕ) → allZero s ≡ true → allZero (drop m s) ≡ true
+unfolding allZero all
+zero-drop zero s h = h
+zero-drop (suc m) [] h = h
+zero-drop (suc m) (b ∷ s) h = zero-drop m s (and-right (eqb 0 b) (allZero s) h)
+
+pub zero-take : (m : ℕ) (s : List ℕ) → allZero s ≡ true → allZero (take m s) ≡ true
+unfolding allZero all
+zero-take zero s h = refl
+zero-take (suc m) [] h = refl
+zero-take (suc m) (b ∷ s) h =
+    and-both (and-left (eqb 0 b) (allZero s) h) (zero-take m s (and-right (eqb 0 b) (allZero s) h))
+
+pub zero-split : (m : ℕ) (s : List ℕ) → allZero s ≡ allZero (take m s) && allZero (drop m s)
+unfolding allZero all
+zero-split zero s = refl
+zero-split (suc m) [] = refl
+zero-split (suc m) (b ∷ s) = go (eqb 0 b) (allZero s) (allZero (take m s)) (allZero (drop m s)) (zero-split m s)
+  where
+    go : (t x y z : Bool) → x ≡ y && z → t && x ≡ (t && y) && z
+    go true x y z e = e
+    go false x y z e = refl
 
 pub fromLE-zero : (n : ℕ) → fromLE (replicate n 0) ≡ 0
 unfolding fromLE

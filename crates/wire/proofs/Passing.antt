@@ -1,19 +1,20 @@
--- Laws of loops that pass over bytes: two lists compared, a sum that tells whether all are zero, a number read and written.
+-- Laws of loops that pass over bytes: two lists compared, bits and blocks that tell whether all are zero, a number read and written.
 use mathlib.Core.Path.{_≡_, refl, sym, ap, _∙_}
-use mathlib.Core.Bool.{Bool, true, false, _&&_}
+use mathlib.Core.Bool.{Bool, true, false, false≢true, _&&_}
 use mathlib.Core.List.{List, [], _∷_, _++_}
 use Prim.Native.Nat.{ℕ, zero, suc, _+_, _-_, _*_, _/_, _%_, _^_, _≤_, _<_}
 use native.Mathlib.Nat.{mul-le-mul-right}
 use native.Mathlib.Numerals.{add-one}
 use native.Mathlib.Omega.{arith}
+use lib.Bits.{bitOr, or-zero-l, or-add-and, and-le-r}
 use lib.Dec.{eqb}
-use lib.ListN.{length, take, drop, getD, drop-of-length-le}
+use lib.ListN.{length, take, drop, getD, length-drop, drop-of-length-le}
 use lib.Pow.{pow-add, pow-mono, shl-exact}
-use lib.Seq.{take-all, take-suc, drop-cons, length-take-le}
+use lib.Seq.{take-all, take-suc, drop-cons, drop-length, drop-drop, length-take-le}
 use borrow.Author.Tests.{eq-eqb, ne-eqb}
 use Rattle.wire.specs.Lists.{all}
 use Rattle.wire.specs.Bytes.{fromLE, toLE, allZero, same}
-use Rattle.wire.proofs.Bytes.{same-true, same-refl, length-toLE}
+use Rattle.wire.proofs.Bytes.{same-true, same-refl, zero-take, zero-drop, zero-split, length-toLE}
 
 -- ---- two lists compared
 
@@ -49,37 +50,104 @@ compare-ends a b i f h =
     let m : length b ≤ i = omega (arith, f .sizes) in
     rw (f .rest, drop-of-length-le a h, drop-of-length-le b m) (same-refl [])
 
--- ---- a sum that tells whether all are zero
+-- The elements from i on are the same.
+pub record Matching (a b : List ℕ) (i : ℕ) : Type 0 where
+  pub inside : i ≤ length a
+  pub sizes : length a ≡ length b
+  pub rest : drop i a ≡ drop i b
 
--- The sum of the first i bytes is at most 255 a byte, and 0 only where all of them are.
-pub record Summing (s : List ℕ) (sum i : ℕ) : Type 0 where
+pub match-begins : (a b : List ℕ) → length a ≡ length b → Matching a b (length a)
+match-begins a b e =
+    let m : length b ≤ length a = omega (arith, e) in
+    record { inside = omega arith; sizes = e; rest = drop-length a ∙ sym (drop-of-length-le b m) }
+
+pub match-goes-on : (a b : List ℕ) (i : ℕ) → Matching a b i → 0 < i → getD a (i - 1) 0 ≡ getD b (i - 1) 0 → Matching a b (i - 1)
+match-goes-on a b i f l e =
+    let m : i - 1 < length a = omega (arith, f .inside) in
+    let n : i - 1 < length b = omega (arith, f .inside, f .sizes) in
+    let k : suc (i - 1) ≡ i = omega arith in
+    record {
+      inside = omega (arith, f .inside);
+      sizes = f .sizes;
+      rest = rw (drop-cons a (i - 1) 0 m, drop-cons b (i - 1) 0 n, k, e, f .rest);
+    }
+
+pub match-ends : (a b : List ℕ) (i : ℕ) → Matching a b i → i ≤ 0 → same a b ≡ true
+match-ends a b zero f h = rw (f .rest) (same-refl b)
+match-ends a b (suc i) f h = absurd (omega arith)
+
+-- ---- bits that tell whether all are zero
+
+-- Whether all are zero is whether the bits of the first i bytes and the other bytes are.
+pub record Gathering (s : List ℕ) (bits i : ℕ) : Type 0 where
   pub inside : i ≤ length s
-  pub most : sum ≤ 255 * i
-  pub zeros : allZero s ≡ eqb sum 0 && allZero (drop i s)
+  pub zeros : allZero s ≡ eqb bits 0 && allZero (drop i s)
 
-pub sum-begins : (s : List ℕ) → Summing s 0 0
-sum-begins s = record { inside = omega arith; most = omega arith; zeros = refl }
+pub gather-begins : (s : List ℕ) → Gathering s 0 0
+gather-begins s = record { inside = omega arith; zeros = refl }
 
-sum-zero : (m n : ℕ) (t : Bool) → eqb m 0 && (eqb 0 n && t) ≡ eqb (m + n) 0 && t
-sum-zero zero zero t = refl
-sum-zero zero (suc n) t = rw (ne-eqb 0 (suc n) (λ e. omega arith), ne-eqb (0 + suc n) 0 (λ e. omega arith))
-sum-zero (suc m) n t = rw (ne-eqb (suc m) 0 (λ e. omega arith), ne-eqb (suc m + n) 0 (λ e. omega arith))
+or-none : (m n : ℕ) (t : Bool) → eqb m 0 && (eqb 0 n && t) ≡ eqb (bitOr m n) 0 && t
+or-none zero zero t = refl
+or-none zero (suc n) t =
+    let some : bitOr 0 (suc n) ≡ 0 → ⊥ = λ e. omega (arith, e, or-zero-l (suc n)) in
+    rw (ne-eqb 0 (suc n) (λ e. omega arith), ne-eqb (bitOr 0 (suc n)) 0 some)
+or-none (suc m) n t =
+    let some : bitOr (suc m) n ≡ 0 → ⊥ = λ e. omega (arith, e, or-add-and (suc m) n, and-le-r (suc m) n) in
+    rw (ne-eqb (suc m) 0 (λ e. omega arith), ne-eqb (bitOr (suc m) n) 0 some)
 
-pub sum-goes-on : (s : List ℕ) (sum i : ℕ) → Summing s sum i → i < length s → getD s i 0 < 256 → Summing s (sum + getD s i 0) (i + 1)
+pub gather-goes-on : (s : List ℕ) (bits i : ℕ) → Gathering s bits i → i < length s → Gathering s (bitOr bits (getD s i 0)) (i + 1)
 unfolding allZero all
-sum-goes-on s sum i f l b = record {
+gather-goes-on s bits i f l = record {
   inside = omega arith;
-  most = omega (arith, f .most);
-  zeros = rw (f .zeros, drop-cons s i 0 l, add-one) (sum-zero sum (getD s i 0) (all (eqb 0) (drop (suc i) s)));
+  zeros = rw (f .zeros, drop-cons s i 0 l, add-one) (or-none bits (getD s i 0) (all (eqb 0) (drop (suc i) s)));
 }
 
-pub sum-ends : (s : List ℕ) (sum i : ℕ) → Summing s sum i → length s ≤ i → eqb sum 0 ≡ allZero s
+pub gather-ends : (s : List ℕ) (bits i : ℕ) → Gathering s bits i → length s ≤ i → eqb bits 0 ≡ allZero s
 unfolding allZero all
-sum-ends s sum i f h = rw (f .zeros, drop-of-length-le s h) (go (eqb sum 0))
+gather-ends s bits i f h = rw (f .zeros, drop-of-length-le s h) (go (eqb bits 0))
   where
     go : (t : Bool) → t ≡ t && true
     go true = refl
     go false = refl
+
+-- ---- blocks that tell whether all are zero
+
+-- Whether all are zero is left to the bytes from i on.
+pub record Blocking (s : List ℕ) (i : ℕ) : Type 0 where
+  pub zeros : allZero s ≡ allZero (drop i s)
+
+pub block-begins : (s : List ℕ) → Blocking s 0
+block-begins s = record { zeros = refl }
+
+-- A block from i on is zero.
+pub block-goes-on : (s : List ℕ) (i e : ℕ) → Blocking s i → i ≤ e → allZero (take (e - i) (drop i s)) ≡ true → Blocking s e
+block-goes-on s i e f l h =
+    let k : i + (e - i) ≡ e = omega arith in
+    record { zeros = f .zeros ∙ zero-split (e - i) (drop i s) ∙ rw (h, drop-drop (e - i) i s, k) }
+
+-- A block is not.
+pub block-fails : (s : List ℕ) (i n : ℕ) → allZero (take n (drop i s)) ≡ false → allZero s ≡ false
+block-fails s i n h = go (allZero s) refl
+  where
+    go : (t : Bool) → allZero s ≡ t → t ≡ false
+    go true p = absurd (false≢true (sym h ∙ zero-take n (drop i s) (zero-drop i s p)))
+    go false p = refl
+
+-- The last block, which may begin before i, tells it.
+pub block-ends : (s : List ℕ) (i last e : ℕ) → Blocking s i → last ≤ i → length s ≤ e → allZero (take (e - last) (drop last s)) ≡ allZero s
+block-ends s i last e f l h = go (allZero (take (e - last) (drop last s))) refl
+  where
+    whole : take (e - last) (drop last s) ≡ drop last s
+    whole = take-all (e - last) (drop last s) (rw length-drop (omega arith))
+
+    later : drop (i - last) (drop last s) ≡ drop i s
+    later =
+        let k : last + (i - last) ≡ i = omega arith in
+        drop-drop (i - last) last s ∙ ap (λ (m : ℕ). drop m s) k
+
+    go : (t : Bool) → allZero (take (e - last) (drop last s)) ≡ t → t ≡ allZero s
+    go true p = sym (f .zeros ∙ rw (← later) (zero-drop (i - last) (drop last s) (rw (← whole) p)))
+    go false p = sym (block-fails s last (e - last) p)
 
 -- ---- a number, low byte first
 

@@ -1,0 +1,43 @@
+use Prim.Native.Nat.{_-_}
+use native.Mathlib.Omega.{arith}
+use lib.ListN.{length}
+use Rattle.wire.proofs.Passing.{Gathering, gather-begins, gather-goes-on, gather-ends}
+use Rattle.wire.proofs.slices.no_bits.Statement.{statement}
+use Rattle.wire.proofs.slices.no_bits.Tie as tie
+
+abbrev Inv-loop : tie.InvT-loop
+Inv-loop s bits₀ i₀ bits i = Gathering s bits i
+
+abbrev μ-loop : tie.MeasureT-loop
+μ-loop s bits₀ i₀ bits i = length s - i
+
+loop-holds : tie.Need-loop-holds Inv-loop μ-loop
+loop-holds c = gather-begins (c .args .s .now)
+
+shared-slice-read-bits : tie.Need-shared-slice-read-bits Inv-loop μ-loop
+shared-slice-read-bits c = omega arith
+
+add-i : tie.Need-add-i Inv-loop μ-loop
+add-i c = omega arith
+
+loop-less : tie.Need-loop-less Inv-loop μ-loop
+loop-less c = omega arith
+
+loop-again : tie.Need-loop-again Inv-loop μ-loop
+loop-again c = gather-goes-on _ _ _ (c .before .before .loop .inv) (c .before .loop-test .taken)
+
+returns : tie.Need-returns Inv-loop μ-loop
+returns c = gather-ends _ _ _ (c .before .loop .inv) (c .loop-test .left)
+
+pub no-bits-spec : {M : Type 1} → statement M
+no-bits-spec =
+    tie.close
+    (tie.spec
+    Inv-loop
+    μ-loop
+    loop-holds
+    shared-slice-read-bits
+    add-i
+    loop-less
+    loop-again
+    returns)
