@@ -2,7 +2,7 @@
 use mathlib.Core.Path.{_≡_, refl, sym, ap, _∙_}
 use mathlib.Core.Bool.{Bool, true, false, cond, not, _&&_, and-false}
 use mathlib.Core.List.{List}
-use mathlib.Core.Option.{none, some}
+use mathlib.Core.Option.{Option, none, some}
 use Prim.Native.Nat.{ℕ, _<_}
 use lib.Dec.{eqb}
 use borrow.Author.Tests.{eqb-true, eqb-false}
@@ -10,6 +10,7 @@ use lib.ListN.{getD, set, length-set}
 use lib.Seq.{set-getD, ext-getD}
 use Rattle.wire.specs.Lists.{orElse}
 use Rattle.wire.specs.Bytes.{same}
+use Rattle.wire.proofs.Lists.{both-ways}
 use Rattle.store.specs.declared.Found.{Found}
 use Rattle.store.specs.declared.Found.the-variants as founds
 use Rattle.store.specs.Store.{Entry, Slot, slotCount, decode, wellFormed, holds}
@@ -21,9 +22,7 @@ use Rattle.store.proofs.Put.{Place, slot-place, getD-set, put-nowhere}
 use Rattle.store.proofs.Without.{emptied, length-without, getD-without}
 use Rattle.store.proofs.Encode.{length-decode, decode-valid}
 use Rattle.store.proofs.Searches.{found-at, found-nothing}
-use Rattle.commands.specs.Promises.{lookFor, withSwept, withPut, Fitting}
-
--- ---- what was found
+use Rattle.commands.specs.Promises.{Looked, lookFor, slotAfter, withSwept, withPut, Fitting}
 
 -- ---- the slots without the dead entry of a name
 
@@ -87,14 +86,30 @@ module _ (time : ℕ) (k f : List ℕ) where
       swept-dead : liveSlot time (getD ss i none) ≡ false → swept ss ≡ set ss i none
       swept-dead d = swept-one ∙ ap (set ss i) (dead-goes (getD ss i none) (lowest .here) d)
 
+-- a name whose one slot is emptied has none
+gone-lowest : (k f : List ℕ) (ss : List Slot) → Apart ss → (i : ℕ) → lowestSlot (holds k f) ss ≡ some i → lowestSlot (holds k f) (set ss i none) ≡ none
+gone-lowest k f ss a i h = go (lowestSlot (holds k f) (set ss i none)) refl
+  where
+    l : Lowest (holds k f) ss i
+    l = lowest-some (holds k f) ss i h
+
+    each : (j : ℕ) (t : Bool) → eqb j i ≡ t → holds k f (cond t none (getD ss j none)) ≡ false
+    each j true q = holds-none k f
+    each j false q = holds-once k f ss a i j (λ e. eqb-false j i q (sym e)) (l .here)
+
+    go : (o : Option ℕ) → lowestSlot (holds k f) (set ss i none) ≡ o → lowestSlot (holds k f) (set ss i none) ≡ none
+    go none q = q
+    go (some j) q =
+        both-ways (lowest-some (holds k f) (set ss i none) j q .here) (rw (getD-set ss i none (l .inside) j) (each j (eqb j i) refl))
+
 -- ---- a store's bytes
 
 -- bytes that hold slots hold equal ones
-holds-slots : {d : List ℕ} {n : ℕ} {ss ts : List Slot} → ts ≡ ss → Holds d (record { clock = n; slots = ss }) → Holds d (record { clock = n; slots = ts })
+pub holds-slots : {d : List ℕ} {n : ℕ} {ss ts : List Slot} → ts ≡ ss → Holds d (record { clock = n; slots = ss }) → Holds d (record { clock = n; slots = ts })
 holds-slots e h = rw e h
 
 -- well-formed bytes hold what they mean
-holds-self : {b : List ℕ} → wellFormed b ≡ true → Holds b (decode b)
+pub holds-self : {b : List ℕ} → wellFormed b ≡ true → Holds b (decode b)
 holds-self w = record { means = refl; well = w }
 
 module _ (b : List ℕ) (w : wellFormed b ≡ true) (k f : List ℕ) where
@@ -123,25 +138,43 @@ module _ (b : List ℕ) (w : wellFormed b ≡ true) (k f : List ℕ) where
     unfolding withSwept deadOf
     sweeps-dead time n x = holds-slots (swept-dead time k f (decode b .slots) (decode-valid b w .apart) i named n) x
 
+    -- and after that there is none.
+    pub looked-gone : {d : List ℕ} → Holds d (withSlot i none (decode b)) → Looked d k f founds.Nothing
+    unfolding foundFor
+    looked-gone x = rw (x .means) (sym (ap foundFor (gone-lowest k f (decode b .slots) (decode-valid b w .apart) i named)))
+
 -- ---- the slot for an entry
 
-module _ (time : ℕ) (k f : List ℕ) (ss : List Slot) where
+module _ (time : ℕ) (ss : List Slot) {own : Found} where
   -- its own
-  pub looks-own : (i : ℕ) → founds.At i ≡ foundFor (lowestSlot (holds k f) ss) → founds.At i ≡ lookFor time k f ss
-  unfolding lookFor slotFor foundFor orElse
-  looks-own i h = rw (found-at (lowestSlot (holds k f) ss) i h)
+  pub after-own : {i : ℕ} → own ≡ founds.At i → founds.At i ≡ slotAfter time own ss
+  unfolding slotAfter
+  after-own h = rw h refl
 
-  module _ (h : founds.Nothing ≡ foundFor (lowestSlot (holds k f) ss)) where
+  module _ (h : own ≡ founds.Nothing) where
     -- an empty one
-    pub looks-empty : (i : ℕ) → founds.At i ≡ foundFor (lowestSlot emptySlot ss) → founds.At i ≡ lookFor time k f ss
-    unfolding lookFor slotFor foundFor orElse
-    looks-empty i e = rw (found-nothing (lowestSlot (holds k f) ss) h, found-at (lowestSlot emptySlot ss) i e)
+    pub after-empty : (i : ℕ) → founds.At i ≡ foundFor (lowestSlot emptySlot ss) → founds.At i ≡ slotAfter time own ss
+    unfolding slotAfter foundFor orElse
+    after-empty i e = rw (h, found-at (lowestSlot emptySlot ss) i e) refl
 
     -- a dead one, or none
-    pub looks-dead : {r : Found} → founds.Nothing ≡ foundFor (lowestSlot emptySlot ss) → r ≡ foundFor (lowestSlot (deadSlot time) ss)
-        → r ≡ lookFor time k f ss
-    unfolding lookFor slotFor orElse
-    looks-dead e d = rw (found-nothing (lowestSlot (holds k f) ss) h, found-nothing (lowestSlot emptySlot ss) e) d
+    pub after-dead : {r : Found} → founds.Nothing ≡ foundFor (lowestSlot emptySlot ss) → r ≡ foundFor (lowestSlot (deadSlot time) ss)
+        → r ≡ slotAfter time own ss
+    unfolding slotAfter orElse
+    after-dead e d = rw (h, found-nothing (lowestSlot emptySlot ss) e) d
+
+-- After a look for a key and a field it is the slot for their entry.
+pub after-look : (time : ℕ) (b k f : List ℕ) {own r : Found} → Looked b k f own → r ≡ slotAfter time own (decode b .slots)
+    → r ≡ lookFor time k f (decode b .slots)
+unfolding lookFor slotFor slotAfter foundFor orElse
+after-look time b k f {own} {r} h e = go (lowestSlot (holds k f) (decode b .slots)) h
+  where
+    free : Option ℕ
+    free = orElse (lowestSlot emptySlot (decode b .slots)) (lowestSlot (deadSlot time) (decode b .slots)) some
+
+    go : (o : Option ℕ) → own ≡ foundFor o → r ≡ foundFor (orElse o free some)
+    go none q = e ∙ ap (λ x. slotAfter time x (decode b .slots)) q
+    go (some i) q = e ∙ ap (λ x. slotAfter time x (decode b .slots)) q
 
 -- ---- an entry in its place
 

@@ -68,7 +68,7 @@ key-missing now k ss h g = rw (← h, g) refl
 
 -- ---- the entry of a slot
 
-held-fits : {b : List ℕ} {i : ℕ} → Held b i → Fits (entryAt (decode b .slots) i)
+pub held-fits : {b : List ℕ} {i : ℕ} → Held b i → Fits (entryAt (decode b .slots) i)
 held-fits {b} {i} h = subst FitsSlot (held-entry (decode b .slots) i (h .held)) (decode-valid b (h .well) .fits i)
 
 -- ---- room

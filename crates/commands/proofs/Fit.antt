@@ -59,7 +59,7 @@ unfolding listedSlot orElse flatten
 listed-slot l none h = record { count = omega arith; sum = loosen 110 (omega arith) empty-short }
 listed-slot l (some e) h = listed-entry l e h
 
-flatten-append : (xs ys : List (List ℕ)) → flatten (xs ++ ys) ≡ flatten xs ++ flatten ys
+pub flatten-append : (xs ys : List (List ℕ)) → flatten (xs ++ ys) ≡ flatten xs ++ flatten ys
 unfolding flatten
 flatten-append [] ys = refl
 flatten-append (x ∷ xs) ys = rw (flatten-append xs ys, append-assoc)

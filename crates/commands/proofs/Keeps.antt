@@ -33,7 +33,7 @@ exec-count clock command s = go (went clock command s)
         length-changes (nowAt clock s) (effectOn (nowAt clock s) c s .changes) (sweptBy (nowAt clock s) c s)
         ∙ length-sweep (nowAt clock s) c (s .slots)
 
-now-early : (clock : ℕ) (s : Store) → s .clock < timeLimit → clock < timeLimit → nowAt clock s < timeLimit
+pub now-early : (clock : ℕ) (s : Store) → s .clock < timeLimit → clock < timeLimit → nowAt clock s < timeLimit
 unfolding nowAt
 now-early clock s h k = omega arith
 

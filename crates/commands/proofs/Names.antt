@@ -15,6 +15,7 @@ use Rattle.commands.specs.declared.Lifetime.the-variants.{Clear}
 use Rattle.commands.specs.Command.{Pair}
 use Rattle.commands.specs.Effect.{written, writesOf}
 use Rattle.commands.specs.Execute.{writes, adds, added}
+use Rattle.commands.specs.Promises.{missing}
 
 -- whether a field is among some, and whether it is held
 abbrev pub named : Word → List Word → Bool
@@ -28,11 +29,6 @@ pub named-flip : (f : Word) (fs : List Word) → any (same f) fs ≡ named f fs
 unfolding any
 named-flip f [] = refl
 named-flip f (g ∷ gs) = rw (same-sym f g, named-flip f gs)
-
--- how many fields are not held, a repeated one counted once
-unfoldable pub missing : Word → List Word → List Slot → ℕ
-missing k [] ss = 0
-missing k (f ∷ fs) ss = cond (not (heldIn k f ss || named f fs)) (suc (missing k fs ss)) (missing k fs ss)
 
 writes-named : (now : ℕ) (k f : Word) (ps : List Pair) (ss : List Slot) → any (writes k f) (writesOf now k ps ss) ≡ named f (map (λ p. p .field) ps)
 unfolding writesOf any writes written holds orElse

@@ -21,7 +21,8 @@ use Rattle.store.proofs.Slots.{holds-own, holds-named}
 use Rattle.store.proofs.Put.{Place, slot-place, getD-set, apart-set}
 use Rattle.commands.specs.Execute.{room}
 use Rattle.commands.proofs.Room.{any-set, keep-set, keep-set-less, slot-none}
-use Rattle.commands.proofs.Names.{named, heldIn, missing, missing-same, missing-less}
+use Rattle.commands.specs.Promises.{missing}
+use Rattle.commands.proofs.Names.{named, heldIn, missing-same, missing-less}
 
 -- slots on which fields of a key can be written: there is room for those that are not held, and those that are held are live
 pub record Ready (now : ℕ) (k : Word) (fs : List Word) (ss : List Slot) : Type 0 where

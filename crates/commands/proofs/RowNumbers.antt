@@ -172,6 +172,10 @@ pub command-row : (w : Word) (d : CommandRow) → commandNamed commands w ≡ Op
 unfolding tableOf commandTable
 command-row w d = command-named commands w ∙ sym (row-named (λ r. r .name) commands w d commands-short)
 
+pub command-below : (w : Word) (i : ℕ) → rowNamed commandTable w ≡ some i → i < 23
+unfolding tableOf commandTable computing
+command-below w i e = row-below (λ (r : CommandRow). r .name) commands w i commands-short e
+
 -- no name is another's
 unfoldable distinct : List OptionRow → Bool
 distinct [] = true

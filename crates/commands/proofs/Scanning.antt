@@ -23,12 +23,12 @@ use Rattle.wire.specs.Promises.{nextOf}
 use Rattle.commands.specs.declared.options.Given as code
 use Rattle.commands.specs.Options.{Meaning, Range, OptionRow, Given, _with_, options, group, operandRange, optionNamed, scan, conflicting, givenOf}
 use Rattle.commands.specs.Parse.{wordAt}
-use Rattle.commands.specs.Promises.{optionTable, meaningOf, groupOf, takesOperand, optionSize, groupsFrom, numbered, givenAt, Scanned}
+use Rattle.commands.specs.Promises.{optionTable, meaningOf, groupOf, takesOperand, optionSize, groupsFrom, numbered, optionAt, givenAt, Scanned}
 use Rattle.commands.proofs.RowNumbers.{option-row, option-below}
 
 -- ---- options by their number
 
-getD-inside : {A : Type 0} (l : List A) (i : ℕ) (d e : A) → i < length l → getD l i d ≡ getD l i e
+pub getD-inside : {A : Type 0} (l : List A) (i : ℕ) (d e : A) → i < length l → getD l i d ≡ getD l i e
 getD-inside [] i d e h = absurd (not-suc-le-zero h)
 getD-inside (x ∷ xs) zero d e h = refl
 getD-inside (x ∷ xs) (suc i) d e h = getD-inside xs i d e (omega arith)
@@ -257,22 +257,22 @@ pub record Scanning (ws : List Word) (allowed : List ℕ) (from i : ℕ) (r : co
 
 -- an entry of the code
 entry-none : (ws : List Word) (numbers operands : List ℕ) (g : ℕ) → 12 ≤ getD numbers g 0 → givenAt ws numbers operands g ≡ none
-unfolding givenAt
+unfolding givenAt optionAt
 entry-none ws numbers operands g h = rw (le-ltb (getD numbers g 0) 12 h)
 
 entry-some : (ws : List Word) (numbers operands : List ℕ) (g : ℕ) → getD numbers g 0 < 12
     → givenAt ws numbers operands g ≡ some (numbered ws (getD numbers g 0) (getD operands g 0))
-unfolding givenAt
+unfolding givenAt optionAt
 entry-some ws numbers operands g h = rw (lt-ltb (getD numbers g 0) 12 h)
 
 -- the entry of a group that is set, and those of the others
 module _ (ws : List Word) (numbers operands : List ℕ) (g k at : ℕ) where
   entry-set : g < length numbers → g < length operands → k < 12 → givenAt ws (set numbers g k) (set operands g at) g ≡ some (numbered ws k at)
-  unfolding givenAt
+  unfolding givenAt optionAt
   entry-set p q l = rw (getD-set-same numbers g k 0 p, getD-set-same operands g at 0 q, lt-ltb k 12 l)
 
   entry-other : (h : ℕ) → (h ≡ g → ⊥) → givenAt ws (set numbers g k) (set operands g at) h ≡ givenAt ws numbers operands h
-  unfolding givenAt
+  unfolding givenAt optionAt
   entry-other h ne = rw (getD-set-other numbers g h k 0 ne, getD-set-other operands g h at 0 ne)
 
 map-none : (o : Option (List Given)) → o ≡ Option·map (λ more. [] ++ more) o
@@ -326,14 +326,14 @@ module _ {ws : List Word} {allowed : List ℕ} {from i : ℕ} {r : code.Given} (
 
 -- ---- a turn of the loop
 
-row-nothing : (o : Option ℕ) → rowFor o ≡ rows.Nothing → o ≡ none
+pub row-nothing : (o : Option ℕ) → rowFor o ≡ rows.Nothing → o ≡ none
 unfolding rowFor
 row-nothing none h = refl
 row-nothing (some k) h =
     let z : _≡_ {A = ℕ} 0 1 = cc in
     absurd (omega arith)
 
-row-at : (o : Option ℕ) (k : ℕ) → rowFor o ≡ rows.At k → o ≡ some k
+pub row-at : (o : Option ℕ) (k : ℕ) → rowFor o ≡ rows.At k → o ≡ some k
 unfolding rowFor
 row-at none k h =
     let z : _≡_ {A = ℕ} 0 1 = cc in

@@ -17,7 +17,7 @@ length-words zero s starts sizes = refl
 length-words (suc n) s starts sizes = ap suc (length-words n s (drop 1 starts) (drop 1 sizes))
 
 -- a word is the part of its place
-words-at : (count : ℕ) (s starts sizes : List ℕ) (i : ℕ) → i < count → getD (wordsIn count s starts sizes) i [] ≡ part (getD starts i 0) (getD sizes i 0) s
+pub words-at : (count : ℕ) (s starts sizes : List ℕ) (i : ℕ) → i < count → getD (wordsIn count s starts sizes) i [] ≡ part (getD starts i 0) (getD sizes i 0) s
 unfolding wordsIn wordIn
 words-at zero s starts sizes i l = absurd (not-suc-le-zero l)
 words-at (suc n) s starts sizes zero l = refl

@@ -92,7 +92,8 @@ found-fits k f ss h = go (entryOf k f ss) refl
     go none e = tt
     go (some e) q = entry-fits k f ss e h q
 
-next-expiry : (t : Lifetime) (found : Option Entry) → beyond t ≡ false → FitsSlot found → instantOf (nextExpiry t found) ≤ timeLimit
+-- An expiry that a field is given lies within the limit.
+pub next-expiry : (t : Lifetime) (found : Option Entry) → beyond t ≡ false → FitsSlot found → instantOf (nextExpiry t found) ≤ timeLimit
 unfolding beyond nextExpiry orElse instantOf
 next-expiry Clear found b h = omega arith
 next-expiry Keep none b h = omega arith

@@ -8,29 +8,29 @@ ghost use mathlib.Core.Path.{_≡_};
 ghost use mathlib.Core.Bool.{true};
 ghost use Rattle.store.specs.Store.{decode, wellFormed};
 ghost use Rattle.store.specs.Promises.{Holds, entry};
-ghost use Rattle.commands.specs.Promises.{lookFor, withSwept, withPut, Fitting};
+ghost use Rattle.commands.specs.Promises.{Looked, slotAfter, withSwept, withPut, Fitting};
 
-// Removes the entry of a key and a field if it is dead at a time.
-pub fn sweep(bytes: &mut [u8], key: &[u8], field: &[u8], time: u64)
+// Looks for the entry of a key and a field. A dead one is removed, so what is found is live.
+pub fn look(bytes: &mut [u8], key: &[u8], field: &[u8], time: u64) -> Found
     requires { ⌜ wellFormed (now bytes) ≡ true ⌝ }
-    ensures { λ _. ⌜ Holds (now (bytes .exit)) (withSwept time (now (key .entry)) (now (field .entry)) (decode (now (bytes .entry)))) ⌝ }
+    ensures { λ r. ⌜ (Holds (now (bytes .exit)) (withSwept time (now (key .entry)) (now (field .entry)) (decode (now (bytes .entry))))) × (Looked (now (bytes .exit)) (now (key .entry)) (now (field .entry)) r) ⌝ }
 {
     let found = find::named(bytes, key, field);
     let Found::At(i) = found else {
-        return;
+        return Found::Nothing;
     };
     if read::is_live(bytes, i, time) {
-        return;
+        return Found::At(i);
     }
     change::remove(bytes, i);
+    Found::Nothing
 }
 
-// The slot of an entry of a key and a field: its own, else the lowest empty one, else the lowest dead one.
-fn slot_for(bytes: &[u8], key: &[u8], field: &[u8], time: u64) -> Found
+// The slot for an entry: its own, else the lowest empty one, else the lowest dead one.
+pub fn slot_for(bytes: &[u8], own: Found, time: u64) -> Found
     requires { ⌜ wellFormed (now bytes) ≡ true ⌝ }
-    ensures { λ r. ⌜ r ≡ lookFor time (now (key .entry)) (now (field .entry)) (decode (now (bytes .entry)) .slots) ⌝ }
+    ensures { λ r. ⌜ r ≡ slotAfter time own (decode (now (bytes .entry)) .slots) ⌝ }
 {
-    let own = find::named(bytes, key, field);
     if let Found::At(i) = own {
         return Found::At(i);
     }
@@ -41,9 +41,10 @@ fn slot_for(bytes: &[u8], key: &[u8], field: &[u8], time: u64) -> Found
     find::dead(bytes, time)
 }
 
-// Writes an entry in its place; where there is none for it, nothing changes.
+// Writes an entry in its place; where there is none for it, nothing changes. `own` is the slot that a look found.
 pub fn place(
     bytes: &mut [u8],
+    own: Found,
     key: &[u8],
     field: &[u8],
     value: &[u8],
@@ -51,10 +52,10 @@ pub fn place(
     expiry: Expiry,
     time: u64,
 )
-    requires { ⌜ Fitting (now bytes) (entry (now key) (now field) (now value) version expiry) ⌝ }
+    requires { ⌜ (Looked (now bytes) (now key) (now field) own) × (Fitting (now bytes) (entry (now key) (now field) (now value) version expiry)) ⌝ }
     ensures { λ _. ⌜ Holds (now (bytes .exit)) (withPut time (entry (now (key .entry)) (now (field .entry)) (now (value .entry)) version expiry) (decode (now (bytes .entry)))) ⌝ }
 {
-    let found = slot_for(bytes, key, field, time);
+    let found = slot_for(bytes, own, time);
     let Found::At(i) = found else {
         return;
     };

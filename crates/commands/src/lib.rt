@@ -1,10 +1,20 @@
 // Commands: what a command asks, and what it says of a version, an expiry and a condition.
 pub mod act;
 pub mod answer;
+pub mod counts;
 pub mod errors;
+pub mod execute;
+pub mod field;
+pub mod key;
+pub mod operands;
 pub mod options;
+pub mod pairs;
+pub mod parse;
 pub mod table;
+pub mod versions;
 pub mod words;
+
+use wire::integers::Signed;
 
 // What decides an entry's version: nothing is given, VER v, ABS v.
 pub enum Versioning {
@@ -43,4 +53,38 @@ pub enum Listing {
     Fields,
     Values,
     Both,
+}
+
+// What EXHINCRBY adds, and the least and the greatest sum that it allows.
+pub struct Sum {
+    pub amount: Signed,
+    pub least: Signed,
+    pub greatest: Signed,
+}
+
+// What is done with one field; key and field are words 1 and 2 of the command, the value is word 3.
+pub enum FieldDeed {
+    Assign(Condition, Versioning, Lifetime),
+    Increment(Sum, Versioning, Lifetime),
+    Expire(u64, Versioning),
+    Persist,
+    Renumber(u64),
+    Ask(Question),
+}
+
+// What is done with the fields of a key; the key is word 1, the fields or pairs follow it.
+pub enum KeyDeed {
+    SetMany,
+    GetMany(Question),
+    Delete,
+    CountHeld,
+    CountLive,
+    List(Listing),
+}
+
+// A parsed command, or the number of its refusal.
+pub enum Parsed {
+    Refused(u32),
+    OnField(FieldDeed),
+    OnKey(KeyDeed),
 }

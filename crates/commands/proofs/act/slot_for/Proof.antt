@@ -1,19 +1,16 @@
 use mathlib.Core.Path.{sym, _∙_}
 use denote.Ref.{now}
-use borrow.Author.Needs.{needs}
 use Rattle.store.specs.Store.{decode}
-use Rattle.commands.proofs.Acts.{looks-own, looks-empty, looks-dead}
+use Rattle.commands.proofs.Acts.{after-own, after-empty, after-dead}
+use borrow.Author.Needs.{needs}
 use Rattle.commands.proofs.act.slot_for.Statement.{statement}
 use Rattle.commands.proofs.act.slot_for.Tie as tie
-
-named-requires : tie.Need-named-requires
-named-requires c κs = search needs
 
 enum-known-own : tie.Need-enum-known-own
 enum-known-own c = search needs
 
 returns : tie.Need-returns
-returns c = looks-own (c .before .before .before .before .before .before .before .args .time) (now (c .before .before .before .before .before .before .before .args .key)) (now (c .before .before .before .before .before .before .before .args .field)) (decode (now (c .before .before .before .before .before .before .before .args .bytes)) .slots) (c .before .own .given .0 .0) (sym (c .before .own .given .1) ∙ c .before .before .before .named .ensures)
+returns c = after-own (c .before .before .before .before .args .time) (decode (now (c .before .before .before .before .args .bytes)) .slots) (c .before .own .given .1)
 
 enum-told : tie.Need-enum-told
 enum-told c = search needs
@@ -25,7 +22,7 @@ enum-known-empty : tie.Need-enum-known-empty
 enum-known-empty c = search needs
 
 returns-2 : tie.Need-returns-2
-returns-2 c = looks-empty (c .before .before .before .before .before .before .before .before .before .before .args .time) (now (c .before .before .before .before .before .before .before .before .before .before .args .key)) (now (c .before .before .before .before .before .before .before .before .before .before .args .field)) (decode (now (c .before .before .before .before .before .before .before .before .before .before .args .bytes)) .slots) (sym (c .before .before .before .before .enum-told .given .1) ∙ c .before .before .before .before .before .before .named .ensures) (c .before .empty2 .given .0 .0) (sym (c .before .empty2 .given .1) ∙ c .before .before .before .empty .ensures)
+returns-2 c = after-empty (c .before .before .before .before .before .before .before .args .time) (decode (now (c .before .before .before .before .before .before .before .args .bytes)) .slots) (c .before .before .before .before .enum-told .given .1) (c .before .empty2 .given .0 .0) (sym (c .before .empty2 .given .1) ∙ c .before .before .before .empty .ensures)
 
 enum-told-2 : tie.Need-enum-told-2
 enum-told-2 c = search needs
@@ -34,13 +31,12 @@ dead-requires : tie.Need-dead-requires
 dead-requires c κs = search needs
 
 returns-3 : tie.Need-returns-3
-returns-3 c = looks-dead (c .before .before .before .before .before .before .before .before .before .before .args .time) (now (c .before .before .before .before .before .before .before .before .before .before .args .key)) (now (c .before .before .before .before .before .before .before .before .before .before .args .field)) (decode (now (c .before .before .before .before .before .before .before .before .before .before .args .bytes)) .slots) (sym (c .before .before .before .before .enum-told .given .1) ∙ c .before .before .before .before .before .before .named .ensures) (sym (c .before .enum-told2 .given .1) ∙ c .before .before .before .empty .ensures) (c .dead .ensures)
+returns-3 c = after-dead (c .before .before .before .before .before .before .before .args .time) (decode (now (c .before .before .before .before .before .before .before .args .bytes)) .slots) (c .before .before .before .before .enum-told .given .1) (sym (c .before .enum-told2 .given .1) ∙ c .before .before .before .empty .ensures) (c .dead .ensures)
 
 pub slot-for-spec : {M : Type 1} → statement M
 slot-for-spec =
     tie.close
     (tie.spec
-    named-requires
     enum-known-own
     returns
     enum-told
