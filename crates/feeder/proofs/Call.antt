@@ -122,7 +122,7 @@ module _ (w piece : List ℕ) where
 
   module _ (waits : divide w ≡ ended w) (p : Place) (f : First (w ++ offered piece) p) where
     -- its end lies in the piece
-    beyond : length w < endOf p
+    pub beyond : length w < endOf p
     beyond = go (ltb (length w) (endOf p)) refl
       where
         go : (t : Bool) → ltb (length w) (endOf p) ≡ t → length w < endOf p

@@ -20,7 +20,8 @@ use Rattle.feeder.specs.Record.{Head, headOf, recordOf, commandAt}
 use Rattle.feeder.specs.Record.Head.{skip, whole, wait}
 use Rattle.feeder.specs.Stream.{dividedAt, divideAfter, divide, doAll, meaning}
 use Rattle.feeder.specs.Feed.{bufferLeast, stateOf, fresh, Answer, refusing, taking, feed, offered}
-use Rattle.feeder.specs.Calls.{Call, AllBytes, Total, begin, tally, answerTo, callAll, uncut, Uses, Answered, offering, offeringAll}
+use Rattle.feeder.specs.Calls.{Call, AllBytes, Total, Ran, begin, tally, answerTo, callAll, uncut, Uses, Answered, offering, offeringAll}
+use Rattle.feeder.specs.Calls.Ran.{ended, called}
 use Rattle.feeder.proofs.Divide.{divide-more, rest-waits, do-more}
 use Rattle.feeder.proofs.Call.{waiting-back, rest-left, refusing-leaves, Took, taken}
 
@@ -241,3 +242,11 @@ module _ (b : List ℕ) (well : wellFormed b ≡ true) where
         ∙ offeringAll-used ps (callAll t cs) (λ i. bs (suc i)) more
         ∙ ap (λ (s : List ℕ). s ++ flatten ps) (offering-used (length p) p t (omega arith) (bs 0) r)
         ∙ append-assoc (t .used) p (flatten ps)
+
+-- ---- calls as they ran
+
+-- calls whose answers are those that are promised come to what the definition says
+pub ran-as-called : {t u : Total} {cs : List Call} → Ran t cs u → u ≡ callAll t cs
+unfolding callAll answerTo
+ran-as-called ended = refl
+ran-as-called {t} {cs = c ∷ cs} (called a e r) = ran-as-called r ∙ ap (λ (x : Answer). callAll (tally t c x) cs) e

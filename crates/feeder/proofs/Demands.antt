@@ -1,7 +1,7 @@
 -- The customer's three demands over the definitions: the page to open first. Each theorem has one plain sentence above it; the proofs are laws
 -- of the other files. `exec` is one record on what a store holds, `execBytes` the same on its bytes, `meaning` demand 3's definition of a whole
 -- stream, `feed` one feeding call.
-use mathlib.Core.Path.{_≡_, ap, _∙_}
+use mathlib.Core.Path.{_≡_, sym, ap, _∙_}
 use mathlib.Core.Logic.{_≢_, _↔_}
 use mathlib.Core.Bool.{true, false}
 use mathlib.Core.List.{List, [], _∷_, map, flatten}
@@ -38,7 +38,7 @@ use Rattle.commands.proofs.Full.{Proper, full-exactly}
 use Rattle.commands.proofs.Keeps.{execBytes-well}
 use Rattle.feeder.specs.declared.Feeder.{Feeder}
 use Rattle.feeder.specs.Feed.{bufferLeast, feed}
-use Rattle.feeder.specs.Calls.{Call, AllBytes, begin, callAll, answerTo, uncut, Untouched, Answered, offeringAll}
+use Rattle.feeder.specs.Calls.{Call, AllBytes, Total, Ran, begin, callAll, answerTo, uncut, Untouched, Answered, offeringAll}
 use Rattle.feeder.proofs.Refusals as refusals
 use Rattle.feeder.proofs.Calls as calls
 
@@ -141,6 +141,14 @@ module _ (b : List ℕ) (well : wellFormed b ≡ true) where
   -- replies, the total skipped, the bytes left waiting and the whole store are those of the definition for the bytes used, joined.
   pub demand-3 : (cs : List Call) → AllBytes cs → callAll (begin b) cs ≡ uncut (callAll (begin b) cs .used) b
   demand-3 cs bytes = calls.agrees-uncut (calls.all-reached b well (begin b) cs bytes (calls.begin-reached b well) .agrees)
+
+  -- "For every list of feeding calls from there, refused ones included, whatever piece and whatever reply buffer each brings, this holds after
+  -- it." The same of the code: whatever calls of `Feeder::feed` a program makes, each with the state that the last one handed back and the store
+  -- as it left it, the joined replies, the total skipped, the bytes left waiting and the whole store are those of the definition.
+  pub demand-3-code : {cs : List Call} {t : Total} → AllBytes cs → Ran (begin b) cs t → t ≡ uncut (t .used) b
+  demand-3-code {cs} bytes r =
+      let e = calls.ran-as-called r in
+      e ∙ demand-3 cs bytes ∙ ap (λ (u : Total). uncut (u .used) b) (sym e)
 
   -- Each next call is refused only with 3, exactly if its buffer is under 56,000 bytes, and then changes nothing; 1 and 2 are never answered.
   -- Else it uses as many bytes as the paper says, and at least one if its piece isn't empty.

@@ -56,7 +56,7 @@ divide-more s u = divide-after-more 0 s u zero-le
 -- ---- what waits
 
 -- what is said of the rest of a division holds if it holds of no bytes, and of bytes of s whose head waits
-rest-is : (P : List ℕ → Type 0) → P [] → (k : ℕ) (s : List ℕ)
+pub rest-is : (P : List ℕ → Type 0) → P [] → (k : ℕ) (s : List ℕ)
     → ((i : ℕ) → headOf (drop i s) ≡ wait → P (drop i s)) → P (divideAfter k s .rest)
 unfolding divideAfter dividedAt
 rest-is P none k [] waits = none

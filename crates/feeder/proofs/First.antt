@@ -2,16 +2,16 @@
 use mathlib.Core.Path.{_≡_, refl, ap, _∙_}
 use mathlib.Core.List.{List, [], _∷_, _++_, cons-ne-nil}
 use mathlib.Core.Option.{Option, none, some}
-use Prim.Native.Nat.{ℕ, _+_, _≤_}
+use Prim.Native.Nat.{ℕ, suc, _+_, _≤_}
 use native.Mathlib.Omega.{arith}
 use lib.ListN.{length, drop}
-use Rattle.feeder.specs.Record.{Head, headOf, recordOf, commandAt}
+use Rattle.feeder.specs.Record.{Head, headOf, recordOf, commandAt, commandMost}
 use Rattle.feeder.specs.Record.Head.{skip, whole, wait}
 use Rattle.feeder.specs.Stream.{ended, skipping, dividedAt, divideAfter, divide}
 use Rattle.feeder.specs.Feed.{Place, later, placedAt, firstRecord}
-use Rattle.feeder.proofs.Head.{told, head-more, whole-fits, skip-fewer, whole-fewer}
+use Rattle.feeder.proofs.Head.{told, head-more, whole-fits, whole-most, skip-fewer, whole-fewer}
 
-zero≢one : _≡_ {A = ℕ} 0 1 → ⊥
+pub zero≢one : _≡_ {A = ℕ} 0 1 → ⊥
 zero≢one z = omega arith
 
 -- just past a record
@@ -59,10 +59,40 @@ first-none (b ∷ s) e = go (headOf (b ∷ s)) (firstRecord s) e (first-none s)
     go (whole n) m p ih = cc
     go wait m p ih = refl
 
+-- and it skips all up to its rest
+pub none-rest : (s : List ℕ) → firstRecord s ≡ none → divide s .rest ≡ drop (divide s .skipped) s
+unfolding firstRecord divide divideAfter dividedAt placedAt
+none-rest [] e = refl
+none-rest (b ∷ s) e = go (headOf (b ∷ s)) (firstRecord s) e (none-rest s)
+  where
+    go : (h : Head) (m : Option Place) → placedAt h m ≡ none → (m ≡ none → divideAfter 0 s .rest ≡ drop (divideAfter 0 s .skipped) s)
+        → dividedAt h (b ∷ s) (λ k. divideAfter k s) .rest ≡ drop (dividedAt h (b ∷ s) (λ k. divideAfter k s) .skipped) (b ∷ s)
+    go skip none p ih = ih refl
+    go skip (some q) p ih = cc
+    go (whole n) m p ih = cc
+    go wait m p ih = refl
+
+pub none-skipped : (s : List ℕ) → firstRecord s ≡ none → divide s .skipped ≤ length s
+unfolding firstRecord divide divideAfter dividedAt placedAt
+none-skipped [] e = omega arith
+none-skipped (b ∷ s) e = go (headOf (b ∷ s)) (firstRecord s) e (none-skipped s)
+  where
+    go : (h : Head) (m : Option Place) → placedAt h m ≡ none → (m ≡ none → divideAfter 0 s .skipped ≤ length s)
+        → dividedAt h (b ∷ s) (λ k. divideAfter k s) .skipped ≤ suc (length s)
+    go skip none p ih = omega (arith, ih refl)
+    go skip (some q) p ih = absurd (let z : _≡_ {A = ℕ} 0 1 = cc in zero≢one z)
+    go (whole n) m p ih = absurd (let z : _≡_ {A = ℕ} 0 1 = cc in zero≢one z)
+    go wait m p ih = omega arith
+
 -- the first record lies in s
 pub first-fits : {s : List ℕ} {p : Place} → First s p → endOf p ≤ length s
 first-fits (here {b = b} {s = s} {n = n} h) = omega (arith, whole-fits (b ∷ s) n h)
 first-fits (there h f) = omega (arith, first-fits f)
+
+-- its command is short
+pub first-most : {s : List ℕ} {p : Place} → First s p → p .size ≤ commandMost
+first-most (here {b = b} {s = s} {n = n} h) = whole-most (b ∷ s) n h
+first-most (there h f) = first-most f
 
 -- it stays the first whatever follows
 pub first-more : {s : List ℕ} {p : Place} (u : List ℕ) → First s p → First (s ++ u) p

@@ -95,7 +95,7 @@ module _ (s u : List ℕ) where
 module _ (P : Head → Type 0) (s : List ℕ)
     (skips : P skip)
     (waits : length s < commandAt + commandMost → P wait)
-    (wholes : commandAt + commandLength s ≤ length s → P (whole (commandLength s))) where
+    (wholes : commandAt + commandLength s ≤ length s → commandLength s ≤ commandMost → P (whole (commandLength s))) where
   last-cases : (n : ℕ) → n ≡ commandLength s → P (lastTests (length s) n)
   unfolding lastTests
   last-cases n e = go (ltb n 1 || ltb commandMost n) (ltb (length s) (commandAt + n)) refl refl
@@ -104,7 +104,8 @@ module _ (P : Head → Type 0) (s : List ℕ)
       go true f p q = skips
       go false true p q =
           waits (omega (arith, ltb-true (length s) (commandAt + n) q, ltb-false commandMost n (or-right (ltb n 1) (ltb commandMost n) p)))
-      go false false p q = rw e (wholes (rw e at (ltb-false (length s) (commandAt + n) q)))
+      go false false p q =
+          rw e (wholes (rw e at (ltb-false (length s) (commandAt + n) q)) (rw e at (ltb-false commandMost n (or-right (ltb n 1) (ltb commandMost n) p))))
 
   mark-cases : P (afterMark s)
   unfolding afterMark
@@ -131,7 +132,15 @@ whole-fits s n =
     head-cases (λ h. h ≡ whole n → commandAt + n ≤ length s) s
     (λ e. let z : _≡_ {A = ℕ} 0 1 = cc in omega arith)
     (λ l e. let z : _≡_ {A = ℕ} 0 1 = cc in omega arith)
-    (λ l e. let z : commandLength s ≡ n = cc in omega arith)
+    (λ l m e. let z : commandLength s ≡ n = cc in omega arith)
+
+-- its command is short
+pub whole-most : (s : List ℕ) (n : ℕ) → headOf s ≡ whole n → n ≤ commandMost
+whole-most s n =
+    head-cases (λ h. h ≡ whole n → n ≤ commandMost) s
+    (λ e. let z : _≡_ {A = ℕ} 0 1 = cc in omega arith)
+    (λ l e. let z : _≡_ {A = ℕ} 0 1 = cc in omega arith)
+    (λ l m e. let z : commandLength s ≡ n = cc in omega arith)
 
 -- what waits is short
 pub wait-short : (s : List ℕ) → headOf s ≡ wait → length s < commandAt + commandMost
@@ -139,7 +148,7 @@ wait-short s =
     head-cases (λ h. h ≡ wait → length s < commandAt + commandMost) s
     (λ e. let z : _≡_ {A = ℕ} 0 1 = cc in omega arith)
     (λ l e. l)
-    (λ l e. let z : _≡_ {A = ℕ} 0 1 = cc in omega arith)
+    (λ l m e. let z : _≡_ {A = ℕ} 0 1 = cc in omega arith)
 
 -- ---- what fewer bytes do, where they are at least 12
 

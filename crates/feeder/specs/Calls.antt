@@ -48,6 +48,12 @@ unfoldable pub callAll : Total → List Call → Total
 callAll t [] = t
 callAll t (c ∷ cs) = callAll (tally t c (answerTo t c)) cs
 
+-- calls as a program made them: each answer is one that `Feeder::feed` promises for the state, the piece, the store and the buffer that it got
+pub data Ran : Total → List Call → Total → Type 0 where
+  ended : {t : Total} → Ran t [] t
+  called : {t u : Total} {c : Call} {cs : List Call} (a : Answer) → a ≡ feed (t .feeder) (c .piece) (t .store) (c .buffer)
+      → Ran (tally t c a) cs u → Ran t (c ∷ cs) u
+
 -- what demand 3's definition gives for one uncut stream: "the joined replies, the total of bytes skipped, the bytes left waiting and the
 -- whole store"; the state holds the waiting bytes, with zero after them
 unfoldable pub uncut : List ℕ → List ℕ → Total

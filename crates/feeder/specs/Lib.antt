@@ -3,4 +3,5 @@ pub mod Record
 pub mod Stream
 pub mod Feed
 pub mod Calls
+pub mod Promises
 pub mod Examples

@@ -1,12 +1,20 @@
 // The feeder: records from a byte stream that arrives in pieces.
 
+pub mod absorb;
+mod feeding;
+mod heads;
+mod scan;
+mod state;
+
 // The bytes that wait for the rest of a record, and how many they are; the places after them are zero.
+#[repr(C)]
 pub struct Feeder {
     pub waiting: [u8; 1035],
     pub count: usize,
 }
 
 // What a feeding call answers: 0 or a refusal, bytes of its piece used, bytes skipped, the reply's length and the new state.
+#[repr(C)]
 pub struct Fed {
     pub refusal: u32,
     pub used: usize,

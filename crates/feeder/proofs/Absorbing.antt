@@ -1,0 +1,247 @@
+-- Bytes taken: what is joined of the waiting bytes and a piece, what waits, and what absorbing comes to.
+use mathlib.Core.Path.{_≡_, refl, sym, ap, _∙_}
+use mathlib.Core.Bool.{true}
+use mathlib.Core.List.{List, _++_}
+use mathlib.Core.Option.{none, some}
+use Prim.Native.Nat.{ℕ, _+_, _-_, _≤_, _<_}
+use native.Mathlib.Omega.{arith}
+use lib.Dec.{ltb}
+use lib.ListN.{length, take, drop, replicate, length-append, length-drop, length-take, length-replicate, take-append-drop}
+use lib.Seq.{take-all, length-take-le, drop-append-le, drop-append-add, drop-drop, take-append-add}
+use borrow.Author.Tests.{lt-ltb, le-ltb}
+use borrow.Rule.Slice.PartMut.{putMid}
+use Rattle.wire.specs.Lists.{orElse}
+use Rattle.wire.specs.Bytes.{allZero, fromLE, part, padded}
+use Rattle.wire.specs.Reply.{laidOver}
+use Rattle.wire.specs.Promises.{Laid}
+use Rattle.wire.proofs.Bytes.{zero-is, zero-drop, zero-replicate}
+use Rattle.wire.proofs.Laying.{laid-copied, laid-tail}
+use Rattle.feeder.specs.declared.Feeder.{Feeder}
+use Rattle.feeder.specs.declared.absorb.Completed.{Completed}
+use Rattle.feeder.specs.declared.absorb.Completed.the-variants as completions
+use Rattle.feeder.specs.declared.scan.Stop.the-variants as stops
+use Rattle.feeder.specs.Record.{recordOf, commandAt, commandMost}
+use Rattle.feeder.specs.Stream.{divide}
+use Rattle.feeder.specs.Feed.{waitingMost, usedMost, stateOf, fresh, waitingIn, isLeft, Place, firstRecord, offered}
+use Rattle.feeder.specs.Promises.{recordMost, stopOf, Completing, Finished, completedAt, Handed, keeping, finishing, absorbed}
+use Rattle.feeder.proofs.Head.{part-more}
+use Rattle.feeder.proofs.Divide.{rest-short}
+use Rattle.feeder.proofs.First.{endOf, First, first-found, first-fits, first-most, none-rest, none-skipped}
+use Rattle.feeder.proofs.Call.{beyond}
+use Rattle.feeder.proofs.Stops.{stop-record, stop-none, stop-skipped}
+use Rattle.feeder.proofs.Waiting.{tail-part, LeftState, left-state}
+
+-- ---- the bytes of a piece that a call looks at
+
+pub offer-all : (p : List ℕ) → length p ≤ usedMost → p ≡ offered p
+unfolding offered
+offer-all p l = sym (take-all usedMost p l)
+
+pub offer-some : (p : List ℕ) → take usedMost p ≡ offered p
+unfolding offered
+offer-some p = refl
+
+offered-short : (p : List ℕ) → length (offered p) ≤ usedMost
+unfolding offered
+offered-short p = rw (length-take usedMost p) (omega arith)
+
+-- ---- bytes laid from two lists
+
+module _ (w p : List ℕ) (at : ℕ) where
+  pub drop-late : length w ≤ at → drop at (w ++ p) ≡ drop (at - length w) p
+  drop-late l =
+      let e : at ≡ length w + (at - length w) = omega arith in
+      ap (λ (n : ℕ). drop n (w ++ p)) e ∙ drop-append-add w p (at - length w)
+
+  pub gather-late : (out t : List ℕ) → length w ≤ at → t ≡ laidOver (take (length p - (at - length w)) (drop (at - length w) p)) out
+      → t ≡ laidOver (drop at (w ++ p)) out
+  gather-late out t l e = e ∙ rw (tail-part (at - length w) p, drop-late l)
+
+  pub gather-early : (out t u : List ℕ) → at ≤ length w → t ≡ laidOver (take (length w - at) (drop at w)) out
+      → u ≡ laidOver p (take (length t - (length w - at)) (drop (length w - at) t))
+      → putMid (length w - at) (length t - (length w - at)) t u ≡ laidOver (drop at (w ++ p)) out
+  gather-early out t u l e f = rw (drop-append-le at w p l) (laid-tail first second .bytes)
+    where
+      first : Laid (drop at w) out t (length w - at)
+      first = record { bytes = e ∙ rw (tail-part at w); size = sym (length-drop at w) }
+
+      second : Laid p (take (length t - (length w - at)) (drop (length w - at) t)) u (length p)
+      second = laid-copied f
+
+pub appended : (s p u : List ℕ) (n : ℕ) → n ≤ length s → u ≡ laidOver p (take (length s - n) (drop n s))
+    → putMid n (length s - n) s u ≡ laidOver (take n s ++ p) s
+unfolding laidOver
+appended s p u n l e = laid-tail front back .bytes
+  where
+    front : Laid (take n s) s s n
+    front =
+        record {
+          bytes = rw (length-take-le n s l) (sym (take-append-drop n s));
+          size = sym (length-take-le n s l);
+        }
+
+    back : Laid p (take (length s - n) (drop n s)) u (length p)
+    back = laid-copied e
+
+-- ---- the record completed
+
+module _ (w p : List ℕ) (at size : ℕ) (j : List ℕ) (r : Completing w p at size j) where
+  -- it stands in the piece
+  pub in-piece : {clock : ℕ} → length w ≤ at
+      → clock ≡ fromLE (take 8 (drop 2 (take (length p - (at - length w)) (drop (at - length w) p))))
+      → record { completed = completions.InPiece clock (at - length w + commandAt) size; joined = j }
+      ≡ completedAt w p (record { at = at; size = size }) j
+  unfolding completedAt recordOf part
+  in-piece l e =
+      rw (le-ltb at (length w) l, drop-late w p at l, ← tail-part (at - length w) p, ← e)
+
+  module _ (l : at < length w) where
+    -- it is joined of both
+    both : drop at (w ++ take (at + (commandAt + size) - length w) p) ≡ part at (commandAt + size) (w ++ p)
+    unfolding part
+    both =
+        let n : commandAt + size ≡ length (drop at w) + (at + (commandAt + size) - length w) = rw length-drop (omega (arith, r .beyond)) in
+        let low : at ≤ length w = omega arith in
+        rw (drop-append-le at w (take (at + (commandAt + size) - length w) p) low, drop-append-le at w p low)
+        (sym (ap (λ (k : ℕ). take k (drop at w ++ p)) n ∙ take-append-add (drop at w) p (at + (commandAt + size) - length w)))
+
+    enough : commandAt + size ≤ length (drop at (w ++ p))
+    enough = rw (length-drop, length-append) (omega (arith, r .inside))
+
+    joins : length (part at (commandAt + size) (w ++ p)) ≡ commandAt + size
+    unfolding part
+    joins = length-take-le (commandAt + size) (drop at (w ++ p)) enough
+
+    again : part at (commandAt + size) (w ++ p) ++ drop (commandAt + size) (drop at (w ++ p)) ≡ drop at (w ++ p)
+    unfolding part
+    again = take-append-drop (commandAt + size) (drop at (w ++ p))
+
+    -- a part of the record is that part of what was joined
+    pub same-part : (a n : ℕ) → a + n ≤ commandAt + size → part a n (laidOver (part at (commandAt + size) (w ++ p)) j) ≡ part a n (drop at (w ++ p))
+    unfolding laidOver
+    same-part a n h =
+        let fits : a + n ≤ length (part at (commandAt + size) (w ++ p)) = omega (arith, joins) in
+        part-more a n (part at (commandAt + size) (w ++ p)) (drop (length (part at (commandAt + size) (w ++ p))) j) fits
+        ∙ sym (part-more a n (part at (commandAt + size) (w ++ p)) (drop (commandAt + size) (drop at (w ++ p))) fits)
+        ∙ ap (part a n) again
+
+    pub joined-long : commandAt + size ≤ length (laidOver (part at (commandAt + size) (w ++ p)) j)
+    unfolding laidOver
+    joined-long = rw length-append (omega (arith, joins))
+
+    pub joined-whole : {clock : ℕ} {t : List ℕ} → t ≡ laidOver (drop at (w ++ take (at + (commandAt + size) - length w) p)) j
+        → clock ≡ fromLE (take 8 (drop 2 t))
+        → record { completed = completions.Joined clock commandAt size; joined = t } ≡ completedAt w p (record { at = at; size = size }) j
+    unfolding completedAt recordOf part
+    joined-whole {t = t} e h =
+        let laid : t ≡ laidOver (part at (commandAt + size) (w ++ p)) j = e ∙ rw both in
+        rw (lt-ltb at (length w) l, ← same-part 2 8 (omega arith), ← laid, ← h)
+
+-- ---- what waits
+
+-- bytes laid over places that are zero beyond them
+laid-state : (x t : List ℕ) → length t ≡ waitingMost → allZero (drop (length x) t) ≡ true
+    → record { waiting = laidOver x t; count = length x } ≡ stateOf x
+unfolding laidOver stateOf padded
+laid-state x t n z =
+    let m : length (drop (length x) t) ≡ waitingMost - length x = length-drop (length x) t ∙ ap (λ (k : ℕ). k - length x) n in
+    rw (zero-is (drop (length x) t) z, m)
+
+module _ (f : Feeder) (p : List ℕ) (left : isLeft f ≡ true) where
+  total : length (waitingIn f ++ p) ≡ f .count + length p
+  unfolding waitingIn
+  total = length-append (take (f .count) (f .waiting)) p ∙ rw (left-state f left .count)
+
+  -- all waits
+  pub kept-all : {t : List ℕ} (at : ℕ) → at ≡ 0 → t ≡ laidOver (take (f .count) (f .waiting) ++ p) (f .waiting)
+      → record { waiting = t; count = f .count + length p } ≡ stateOf (drop at (waitingIn f ++ p))
+  unfolding waitingIn
+  kept-all at zeroth e = rw (zeroth, e, ← total) (laid-state (waitingIn f ++ p) (f .waiting) (left-state f left .size) clean)
+    where
+      clean : allZero (drop (length (waitingIn f ++ p)) (f .waiting)) ≡ true
+      clean =
+          rw (total, ← drop-drop (length p) (f .count) (f .waiting))
+          (zero-drop (length p) (drop (f .count) (f .waiting)) (left-state f left .zeros))
+
+  -- what is left from a place on waits
+  pub kept-rest : {t : List ℕ} (at : ℕ) → t ≡ laidOver (drop at (take (f .count) (f .waiting) ++ p)) (replicate waitingMost 0)
+      → record { waiting = t; count = f .count + length p - at } ≡ stateOf (drop at (waitingIn f ++ p))
+  unfolding waitingIn
+  kept-rest at e =
+      let n : length (drop at (waitingIn f ++ p)) ≡ f .count + length p - at = length-drop at (waitingIn f ++ p) ∙ rw total in
+      rw (e, ← n)
+      (laid-state (drop at (waitingIn f ++ p)) (replicate waitingMost 0) (length-replicate {A = ℕ} waitingMost 0)
+      (zero-drop (length (drop at (waitingIn f ++ p))) (replicate waitingMost 0) (zero-replicate waitingMost)))
+
+-- ---- absorbing, whole
+
+module _ (f : Feeder) (piece : List ℕ) (left : isLeft f ≡ true) {o : List ℕ} (eo : o ≡ offered piece) where
+  -- a record is completed
+  module _ (at n : ℕ) (e : stops.Record at n ≡ stopOf (take (f .count) (f .waiting) ++ o)) where
+    found : firstRecord (waitingIn f ++ offered piece) ≡ some (record { at = at; size = n })
+    unfolding waitingIn
+    found = stop-record (take (f .count) (f .waiting) ++ offered piece) at n (rw eo at e)
+
+    first : First (waitingIn f ++ offered piece) (record { at = at; size = n })
+    first = first-found (waitingIn f ++ offered piece) (record { at = at; size = n }) found
+
+    pub end-beyond : f .count < at + (commandAt + n)
+    unfolding waitingIn
+    end-beyond =
+        omega (arith, beyond (waitingIn f) piece (left-state f left .waits) (record { at = at; size = n }) first, left-state f left .count)
+
+    pub end-inside : at + (commandAt + n) ≤ f .count + length o
+    end-inside = rw eo (omega (arith, first-fits first, total f (offered piece) left))
+
+    pub end-small : at + (commandAt + n) ≤ waitingMost + usedMost
+    end-small = omega (arith, end-inside, ap length eo, offered-short piece, left-state f left .few)
+
+    pub completes : (j : List ℕ) → recordMost ≤ length j → Completing (take (f .count) (f .waiting)) o at n j
+    completes j room =
+        record {
+          beyond = omega (arith, end-beyond, left-state f left .count);
+          inside = omega (arith, end-inside, left-state f left .count);
+          room = omega (arith, first-most first);
+        }
+
+    pub absorbed-record : (j : List ℕ) {c : Completed} {t : List ℕ} {g : Feeder}
+        → record { completed = c; joined = t } ≡ completedAt (take (f .count) (f .waiting)) o (record { at = at; size = n }) j
+        → g ≡ fresh
+        → record { absorbed = record { used = at + (commandAt + n) - f .count; skipped = at; completed = c; feeder = g }; joined = t }
+        ≡ absorbed f piece j
+    unfolding absorbed orElse finishing waitingIn
+    absorbed-record j h q = rw (found, ← eo, ← h, q, left-state f left .count)
+
+  -- no record is completed
+  module _ (at : ℕ) (e : stops.Rest at ≡ stopOf (take (f .count) (f .waiting) ++ o)) where
+    nothing : firstRecord (waitingIn f ++ offered piece) ≡ none
+    unfolding waitingIn
+    nothing = stop-none (take (f .count) (f .waiting) ++ offered piece) at (rw eo at e)
+
+    skips : divide (waitingIn f ++ offered piece) .skipped ≡ at
+    unfolding waitingIn
+    skips = stop-skipped (take (f .count) (f .waiting) ++ offered piece) at (rw eo at e)
+
+    leaves : divide (waitingIn f ++ offered piece) .rest ≡ drop at (waitingIn f ++ offered piece)
+    leaves = none-rest (waitingIn f ++ offered piece) nothing ∙ rw skips
+
+    pub rest-inside : at ≤ length (waitingIn f) + length o
+    rest-inside =
+        rw eo (omega (arith, skips, none-skipped (waitingIn f ++ offered piece) nothing, length-append (waitingIn f) (offered piece)))
+
+    pub rest-waits : length (waitingIn f) + length o ≤ at + waitingMost
+    rest-waits =
+        rw eo
+        (omega (
+          arith,
+          ap length leaves,
+          length-drop at (waitingIn f ++ offered piece),
+          rest-short (waitingIn f ++ offered piece),
+          length-append (waitingIn f) (offered piece),
+        ))
+
+    pub absorbed-none : {j : List ℕ} {g : Feeder} → g ≡ stateOf (drop at (waitingIn f ++ o))
+        → record { absorbed = record { used = length o; skipped = at; completed = completions.Nothing; feeder = g }; joined = j }
+        ≡ absorbed f piece j
+    unfolding absorbed orElse keeping
+    absorbed-none h = rw (nothing, h, eo, leaves, skips)

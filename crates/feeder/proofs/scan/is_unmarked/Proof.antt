@@ -1,0 +1,50 @@
+-- The marks before i are counted. The measure is what is left of the block.
+use mathlib.Core.Logic.{⊎-elim}
+use Prim.Native.Nat.{_-_}
+use native.Mathlib.Omega.{arith}
+use lib.ListN.{length}
+use borrow.Author.Needs.{needs}
+use Rattle.feeder.proofs.Stops.{Counting, count-begins, count-mark, count-other, count-ends}
+use Rattle.feeder.proofs.scan.is_unmarked.Statement.{statement}
+use Rattle.feeder.proofs.scan.is_unmarked.Tie as tie
+
+abbrev Inv-loop : tie.InvT-loop
+Inv-loop block marks₀ i₀ marks i = Counting block marks i
+
+abbrev μ-loop : tie.MeasureT-loop
+μ-loop block marks₀ i₀ marks i = length block - i
+
+loop-holds : tie.Need-loop-holds Inv-loop μ-loop
+loop-holds c = count-begins (c .args .block .now)
+
+shared-slice-read-if1 : tie.Need-shared-slice-read-if1 Inv-loop μ-loop
+shared-slice-read-if1 c = search needs
+
+add-marks : tie.Need-add-marks Inv-loop μ-loop
+add-marks c = omega (arith, c .before .before .before .loop .inv .few)
+
+add-i : tie.Need-add-i Inv-loop μ-loop
+add-i c = search needs
+
+loop-less : tie.Need-loop-less Inv-loop μ-loop
+loop-less c = omega arith
+
+loop-again : tie.Need-loop-again Inv-loop μ-loop
+loop-again c = ⊎-elim (λ w. rw (w .1) (count-mark (c .before .before .before .before .args .block .now) (c .before .before .before .loop .marks) (c .before .before .before .loop .i) (c .before .before .before .loop .inv) (c .before .before .loop-test .taken))) (λ w. rw (w .1) (count-other (c .before .before .before .before .args .block .now) (c .before .before .before .loop .marks) (c .before .before .before .loop .i) (c .before .before .before .loop .inv) (c .before .before .loop-test .taken) (w .0 .left))) (c .if1 .came)
+
+returns : tie.Need-returns Inv-loop μ-loop
+returns c = count-ends (c .before .before .args .block .now) (c .before .loop .marks) (c .before .loop .i) (c .before .loop .inv) (c .loop-test .left)
+
+pub is-unmarked-spec : {M : Type 1} → statement M
+is-unmarked-spec =
+    tie.close
+    (tie.spec
+    Inv-loop
+    μ-loop
+    loop-holds
+    shared-slice-read-if1
+    add-marks
+    add-i
+    loop-less
+    loop-again
+    returns)

@@ -1,0 +1,166 @@
+// Taking bytes: up to the first record completed, the piece's end or 65,536 bytes.
+use crate::Feeder;
+use crate::heads::COMMAND;
+use crate::scan::Stop;
+use crate::scan::first_stop;
+use crate::state::WAITING;
+use wire::numbers::read_le;
+use wire::slices::copy;
+ghost use mathlib.Core.Path.{_≡_};
+ghost use mathlib.Core.Bool.{true};
+ghost use mathlib.Core.List.{_++_};
+ghost use Prim.Native.Nat.{_+_, _≤_};
+ghost use lib.ListN.{length, take, drop};
+ghost use Rattle.wire.specs.Reply.{laidOver};
+ghost use Rattle.feeder.specs.Record.{commandAt};
+ghost use Rattle.feeder.specs.Feed.{waitingMost, stateOf, waitingIn, isLeft, offered};
+ghost use Rattle.feeder.specs.Promises.{recordMost, Completing, completedAt, absorbed};
+
+// The most bytes of a piece that a call uses.
+const USED: usize = 65536;
+
+// Where the clock stands in a record, and where it ends.
+const CLOCK: usize = 2;
+
+const CLOCK_END: usize = 10;
+
+// The record completed: its clock, and where its command stands, in the piece or in the bytes that were joined.
+pub enum Completed {
+    Nothing,
+    InPiece {
+        clock: u64,
+        start: usize,
+        size: usize,
+    },
+    Joined {
+        clock: u64,
+        start: usize,
+        size: usize,
+    },
+}
+
+// What taking bytes of a piece comes to: bytes used and skipped, the record completed, and the state handed back.
+pub struct Absorbed {
+    pub used: usize,
+    pub skipped: usize,
+    pub completed: Completed,
+    pub feeder: Feeder,
+}
+
+// The bytes of a piece that a call looks at.
+fn offer(piece: &[u8]) -> &[u8]
+    ensures { λ r. ⌜ now r ≡ offered (now (piece .entry)) ⌝ }
+{
+    if USED < piece.len() {
+        return &piece[..USED];
+    }
+    piece
+}
+
+// Lays the bytes from a place on, of the waiting ones and a piece, over the start of `out`.
+fn gather(waiting: &[u8], piece: &[u8], at: usize, out: &mut [u8])
+    requires { ⌜ (at ≤ length (now waiting) + length (now piece)) × (length (now waiting) + length (now piece) ≤ at + length (now out)) ⌝ }
+    ensures { λ _. ⌜ now (out .exit) ≡ laidOver (drop at (now (waiting .entry) ++ now (piece .entry))) (now (out .entry)) ⌝ }
+{
+    let count = waiting.len();
+    if count <= at {
+        let start = at - count;
+        copy(&piece[start..], out);
+        return;
+    }
+    copy(&waiting[at..], out);
+    let next = count - at;
+    copy(piece, &mut out[next..]);
+}
+
+// Lays a piece after the first bytes of `out`.
+fn append(out: &mut [u8], count: usize, piece: &[u8])
+    requires { ⌜ count + length (now piece) ≤ length (now out) ⌝ }
+    ensures { λ _. ⌜ now (out .exit) ≡ laidOver (take count (now (out .entry)) ++ now (piece .entry)) (now (out .entry)) ⌝ }
+{
+    copy(piece, &mut out[count..]);
+}
+
+// The record at a place, with a command of so many bytes. One that starts in the waiting bytes is joined in `joined`.
+fn complete(waiting: &[u8], piece: &[u8], at: usize, size: usize, joined: &mut [u8]) -> Completed
+    requires { ⌜ Completing (now waiting) (now piece) at size (now joined) ⌝ }
+    ensures { λ r. ⌜ record { completed = r; joined = now (joined .exit) } ≡ completedAt (now (waiting .entry)) (now (piece .entry)) (record { at = at; size = size }) (now (joined .entry)) ⌝ }
+{
+    let count = waiting.len();
+    if count <= at {
+        let from = at - count;
+        let bytes = &piece[from..];
+        let clock = read_le(&bytes[CLOCK..CLOCK_END]);
+        return Completed::InPiece {
+            clock,
+            start: from + COMMAND,
+            size,
+        };
+    }
+    let end = at + (COMMAND + size) - count;
+    gather(waiting, &piece[..end], at, joined);
+    let clock = read_le(&joined[CLOCK..CLOCK_END]);
+    Completed::Joined {
+        clock,
+        start: COMMAND,
+        size,
+    }
+}
+
+impl Feeder {
+    // The state after a piece that completes no record: what is left from a place on waits.
+    fn keep(mut self, piece: &[u8], at: usize) -> Feeder
+        requires { ⌜ isLeft self ≡ true ⌝ }
+        requires { ⌜ (at ≤ length (waitingIn self) + length (now piece)) × (length (waitingIn self) + length (now piece) ≤ at + waitingMost) ⌝ }
+        ensures { λ r. ⌜ r ≡ stateOf (drop at (waitingIn self ++ now (piece .entry))) ⌝ }
+    {
+        let count = self.count;
+        let mut waiting = self.waiting;
+        if at == 0 {
+            append(&mut waiting, count, piece);
+            self.waiting = waiting;
+            self.count = count + piece.len();
+            return self;
+        }
+        let mut rest = [0u8; WAITING];
+        gather(&waiting[..count], piece, at, &mut rest);
+        self.waiting = rest;
+        self.count = count + piece.len() - at;
+        self
+    }
+
+    // Takes bytes of a piece. A record that does not lie whole in it is joined in `joined`.
+    pub fn absorb(mut self, piece: &[u8], joined: &mut [u8]) -> Absorbed
+        requires { ⌜ isLeft self ≡ true ⌝ }
+        requires { ⌜ recordMost ≤ length (now joined) ⌝ }
+        ensures { λ r. ⌜ record { absorbed = r; joined = now (joined .exit) } ≡ absorbed self (now (piece .entry)) (now (joined .entry)) ⌝ }
+    {
+        let count = self.count;
+        let waiting = self.waiting;
+        let offered = offer(piece);
+        let stop = first_stop(&waiting[..count], offered);
+        match stop {
+            Stop::Record(at, size) => {
+                let completed = complete(&waiting[..count], offered, at, size, joined);
+                let end = at + (COMMAND + size);
+                self = Feeder::fresh();
+                Absorbed {
+                    used: end - count,
+                    skipped: at,
+                    completed,
+                    feeder: self,
+                }
+            }
+            Stop::Rest(from) => {
+                let kept = self.keep(offered, from);
+                self = kept;
+                Absorbed {
+                    used: offered.len(),
+                    skipped: from,
+                    completed: Completed::Nothing,
+                    feeder: self,
+                }
+            }
+        }
+    }
+}

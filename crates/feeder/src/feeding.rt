@@ -1,0 +1,86 @@
+// One feeding call: refusals 1 to 3, then the bytes taken, then the record done.
+use crate::Fed;
+use crate::Feeder;
+use crate::absorb::Completed;
+use crate::heads::COMMAND;
+use crate::heads::MOST;
+use commands::execute::execute;
+use store::check::well_formed;
+ghost use mathlib.Core.Path.{_≡_};
+ghost use mathlib.Core.Bool.{true};
+ghost use Prim.Native.Nat.{_≤_};
+ghost use lib.ListN.{length};
+ghost use Rattle.store.specs.Store.{wellFormed};
+ghost use Rattle.feeder.specs.Feed.{bufferLeast, feed};
+ghost use Rattle.feeder.specs.Promises.{CommandInside, doneFor, Replied};
+
+// The least size of a reply buffer.
+const REPLY: usize = 56000;
+
+// A refused call hands its state back as it came.
+fn refused(number: u32, feeder: Feeder) -> Fed
+    ensures { λ r. ⌜ r ≡ record { refusal = number; used = 0; skipped = 0; replied = 0; feeder = feeder } ⌝ }
+{
+    Fed {
+        refusal: number,
+        used: 0,
+        skipped: 0,
+        replied: 0,
+        feeder,
+    }
+}
+
+// Does the record completed, if any: writes its reply, and answers the reply's length.
+fn reply_to(
+    completed: Completed,
+    piece: &[u8],
+    joined: &[u8],
+    store: &mut [u8],
+    reply: &mut [u8],
+) -> usize
+    requires { ⌜ CommandInside completed (now piece) (now joined) ⌝ }
+    requires { ⌜ (wellFormed (now store) ≡ true) × (bufferLeast ≤ length (now reply)) ⌝ }
+    ensures { λ r. ⌜ Replied (doneFor completed (now (piece .entry)) (now (joined .entry)) (now (store .entry))) (now (store .exit)) (now (reply .entry)) (now (reply .exit)) r ⌝ }
+{
+    match completed {
+        Completed::Nothing => 0,
+        Completed::InPiece { clock, start, size } => {
+            let end = start + size;
+            execute(clock, &piece[start..end], store, reply)
+        }
+        Completed::Joined { clock, start, size } => {
+            let end = start + size;
+            execute(clock, &joined[start..end], store, reply)
+        }
+    }
+}
+
+impl Feeder {
+    // One call: takes bytes of a piece, and does the record that they complete.
+    pub fn feed(mut self, piece: &[u8], store: &mut [u8], reply: &mut [u8]) -> Fed
+        ensures { λ r. ⌜ record { fed = r; store = now (store .exit); buffer = now (reply .exit) } ≡ feed self (now (piece .entry)) (now (store .entry)) (now (reply .entry)) ⌝ }
+    {
+        if !self.is_left() {
+            return refused(1, self);
+        }
+        if !well_formed(store) {
+            return refused(2, self);
+        }
+        if reply.len() < REPLY {
+            return refused(3, self);
+        }
+        let mut joined = [0u8; COMMAND + MOST];
+        let absorbed = self.absorb(piece, &mut joined);
+        let kept = absorbed.feeder;
+        self = kept;
+        let completed = absorbed.completed;
+        let replied = reply_to(completed, piece, &joined, store, reply);
+        Fed {
+            refusal: 0,
+            used: absorbed.used,
+            skipped: absorbed.skipped,
+            replied,
+            feeder: self,
+        }
+    }
+}

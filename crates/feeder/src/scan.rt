@@ -1,0 +1,96 @@
+// Where reading stops in the waiting bytes and those of a piece, taken as one list.
+use crate::heads::FIRST_MARK;
+use crate::heads::Head;
+use crate::heads::head_at;
+ghost use mathlib.Core.Path.{_≡_};
+ghost use mathlib.Core.Bool.{true};
+ghost use mathlib.Core.List.{_++_};
+ghost use Prim.Native.Nat.{_+_, _≤_, _<_};
+ghost use lib.ListN.{length};
+ghost use Rattle.feeder.specs.Promises.{Unmarked, Passed, NextPlace, stopOf};
+
+// The first record, by its place and its command's size, or where the rest that waits starts.
+pub enum Stop {
+    Record(usize, usize),
+    Rest(usize),
+}
+
+// Bytes that are looked at together.
+const BLOCK: usize = 64;
+
+// Whether no mark stands in a block. All its bytes are looked at, with no early end, so that the loop can run on vectors.
+fn is_unmarked(block: &[u8]) -> bool
+    requires { ⌜ length (now block) ≤ 64 ⌝ }
+    ensures { λ r. ⌜ (r ≡ true → Unmarked (now (block .entry))) ⌝ }
+{
+    let mut marks: u8 = 0;
+    let mut i = 0;
+    while i < block.len() {
+        if block[i] == FIRST_MARK {
+            marks += 1;
+        }
+        i += 1;
+    }
+    marks == 0
+}
+
+// Past all blocks of a piece, from a place on, in which no mark stands.
+fn pass_blocks(piece: &[u8], from: usize) -> usize
+    requires { ⌜ from ≤ length (now piece) ⌝ }
+    ensures { λ r. ⌜ Passed (now (piece .entry)) from r ⌝ }
+{
+    let mut i = from;
+    while BLOCK <= piece.len() - i {
+        let end = i + BLOCK;
+        if !is_unmarked(&piece[i..end]) {
+            return i;
+        }
+        i = end;
+    }
+    i
+}
+
+// The next mark of a piece from a place on, or its end.
+fn next_mark(piece: &[u8], from: usize) -> usize
+    requires { ⌜ from ≤ length (now piece) ⌝ }
+    ensures { λ r. ⌜ Passed (now (piece .entry)) from r ⌝ }
+{
+    let mut i = pass_blocks(piece, from);
+    while i < piece.len() {
+        if piece[i] == FIRST_MARK {
+            return i;
+        }
+        i += 1;
+    }
+    i
+}
+
+// The place to look at after one whose byte is skipped. In the piece all bytes up to the next mark are passed over.
+fn next_place(waiting: &[u8], piece: &[u8], at: usize) -> usize
+    requires { ⌜ at < length (now waiting) + length (now piece) ⌝ }
+    ensures { λ r. ⌜ NextPlace (now (waiting .entry) ++ now (piece .entry)) at r ⌝ }
+{
+    let next = at + 1;
+    if next < waiting.len() {
+        return next;
+    }
+    let before = waiting.len();
+    let from = next - before;
+    before + next_mark(piece, from)
+}
+
+pub fn first_stop(waiting: &[u8], piece: &[u8]) -> Stop
+    ensures { λ r. ⌜ r ≡ stopOf (now (waiting .entry) ++ now (piece .entry)) ⌝ }
+{
+    let end = waiting.len() + piece.len();
+    let mut at = 0;
+    while at < end {
+        let head = head_at(waiting, piece, at);
+        match head {
+            Head::Whole(size) => return Stop::Record(at, size),
+            Head::Wait => return Stop::Rest(at),
+            Head::Skip => at = next_place(waiting, piece, at),
+        }
+    }
+    Stop::Rest(end)
+}

@@ -1,0 +1,62 @@
+// The feeder's state: a fresh one, and whether feeding leaves a given one.
+use crate::Feeder;
+use crate::heads::Head;
+use crate::heads::head_at;
+use wire::slices::all_zero;
+ghost use mathlib.Core.Path.{_≡_};
+ghost use lib.ListN.{length};
+ghost use Rattle.wire.specs.Bytes.{same};
+ghost use Rattle.feeder.specs.Stream.{divide};
+ghost use Rattle.feeder.specs.Feed.{waitingMost, fresh, isLeft};
+
+// The most bytes that wait.
+pub const WAITING: usize = 1035;
+
+// Whether bytes, read alone, all wait.
+fn all_wait(s: &[u8]) -> bool
+    ensures { λ r. ⌜ r ≡ same (divide (now (s .entry)) .rest) (now (s .entry)) ⌝ }
+{
+    if s.len() == 0 {
+        return true;
+    }
+    let head = head_at(s, &s[..0], 0);
+    match head {
+        Head::Wait => true,
+        Head::Skip => false,
+        Head::Whole(_) => false,
+    }
+}
+
+// Whether feeding leaves a state of these places, of which so many wait.
+fn feeding_leaves(waiting: &[u8], count: usize) -> bool
+    requires { ⌜ length (now waiting) ≡ waitingMost ⌝ }
+    ensures { λ r. ⌜ r ≡ isLeft (record { waiting = now (waiting .entry); count = count }) ⌝ }
+{
+    if WAITING < count {
+        return false;
+    }
+    if !all_zero(&waiting[count..]) {
+        return false;
+    }
+    all_wait(&waiting[..count])
+}
+
+impl Feeder {
+    // A state with no byte waiting.
+    pub fn fresh() -> Feeder
+        ensures { λ r. ⌜ r ≡ fresh ⌝ }
+    {
+        Feeder {
+            waiting: [0u8; WAITING],
+            count: 0,
+        }
+    }
+
+    // Whether feeding leaves this state.
+    pub fn is_left(self) -> bool
+        ensures { λ r. ⌜ r ≡ isLeft self ⌝ }
+    {
+        let waiting = self.waiting;
+        feeding_leaves(&waiting, self.count)
+    }
+}
