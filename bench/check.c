@@ -1,10 +1,9 @@
 /* Prints the time of one check of a store, all slots held, by its number of slots, and the growth from 50 to 500. */
-#include <stdint.h>
+#include "exhash.h"
+
 #include <stdio.h>
 #include <string.h>
 #include <time.h>
-
-uint32_t exh_store_check(const uint8_t *store, size_t store_len);
 
 enum { HEADER = 16, SLOT = 128, MOST = 500, ROUNDS = 7, CHECKS = 2000 };
 

@@ -1,7 +1,26 @@
 // The C interface: thin exported functions, no logic.
+use feeder::Fed;
+use feeder::Feeder;
 ghost use mathlib.Core.Path.{_≡_};
 ghost use mathlib.Core.Bool.{cond};
 ghost use Rattle.store.specs.Store.{wellFormed};
+ghost use Rattle.feeder.specs.Feed.{fresh, feed};
+
+// A state with no byte waiting.
+#[no_mangle]
+pub extern "C" fn exh_feeder_fresh() -> Feeder
+    ensures { λ r. ⌜ r ≡ fresh ⌝ }
+{
+    Feeder::fresh()
+}
+
+// One feeding call.
+#[no_mangle]
+pub extern "C" fn exh_feed(feeder: Feeder, piece: &[u8], store: &mut [u8], reply: &mut [u8]) -> Fed
+    ensures { λ r. ⌜ record { fed = r; store = now (store .exit); buffer = now (reply .exit) } ≡ feed feeder (now (piece .entry)) (now (store .entry)) (now (reply .entry)) ⌝ }
+{
+    feeder.feed(piece, store, reply)
+}
 
 // 0 where the bytes are a well-formed store, else 2.
 #[no_mangle]

@@ -1,0 +1,109 @@
+/*
+ * exhash: a store of fields in lent bytes, fed with records from a byte stream that arrives in pieces.
+ *
+ * A handset lends the library three things at each call: a piece of the stream, its store and a reply buffer. The
+ * library reads records out of the stream, does the command in each and writes the reply. It allocates nothing, keeps
+ * nothing and knows no clock of its own: all that lasts from call to call is the store and the feeder's state, and
+ * the caller holds both. Calls on different stores may run at the same time.
+ *
+ *     static uint8_t store[EXH_STORE_SIZE(100)];        zero bytes: an empty store of 100 slots
+ *     static uint8_t reply[EXH_REPLY_SIZE];
+ *     exh_feeder feeder = exh_feeder_fresh();
+ *
+ *     while (len > 0) {                                 for each piece that arrives
+ *         exh_fed fed = exh_feed(feeder, piece, len, store, sizeof store, reply, sizeof reply);
+ *         if (fed.refusal)
+ *             return fed.refusal;                       nothing was used or changed
+ *         if (fed.reply_len)
+ *             send(reply, fed.reply_len);               one record was completed
+ *         feeder = fed.feeder;
+ *         piece += fed.used;
+ *         len -= fed.used;
+ *     }
+ *
+ * Pointers: none may be null, even with length 0. piece, store and reply must not overlap, and nobody else may write
+ * them during a call. Each length is the number of bytes that may be read, and for store and reply written.
+ */
+#ifndef EXHASH_H
+#define EXHASH_H
+
+#include <stddef.h>
+#include <stdint.h>
+
+#ifdef __cplusplus
+extern "C" {
+#endif
+
+/* The bytes of a store of n slots, n from 1 to EXH_SLOTS_MOST. A slot holds one field. */
+#define EXH_STORE_SIZE(n) (16 + 128 * (size_t)(n))
+#define EXH_SLOTS_MOST 500
+
+/* The least size of a reply buffer: it holds the longest reply. A larger one is fine. */
+#define EXH_REPLY_SIZE 56000
+
+/*
+ * A record is the mark 45 57 (hexadecimal), the clock in ms (8 bytes, low first), the command's length (2 bytes, low
+ * first) and 1 to 1,024 bytes of command, one RESP2 array of bulk strings. All of it but the last byte can wait.
+ */
+#define EXH_WAITING_MOST 1035
+
+/* One call uses no more bytes of its piece than this. */
+#define EXH_USED_MOST 65536
+
+/* Answers of a call. Where several refusals apply, the lowest number is given. */
+enum {
+    EXH_OK = 0,
+    EXH_BAD_STATE = 1,  /* a feeder state that no feeding leaves */
+    EXH_BAD_STORE = 2,  /* not the bytes of a well-formed store, or not 16+128n of them */
+    EXH_SHORT_REPLY = 3 /* a reply buffer under EXH_REPLY_SIZE bytes */
+};
+
+/*
+ * The feeder's state: the bytes that wait for the rest of their record, how many they are, and zero in the places
+ * after them. It goes in by value and comes back by value; hand it on as it came. Where the stream starts again, as
+ * after a lost link, a fresh state is right.
+ */
+typedef struct {
+    uint8_t waiting[EXH_WAITING_MOST];
+    size_t count;
+} exh_feeder;
+
+/* What exh_feed answers. */
+typedef struct {
+    uint32_t refusal;  /* 0, or 1 to 3 */
+    size_t used;       /* bytes used, from the piece's start */
+    size_t skipped;    /* bytes told in this call to be in no record, also those that waited: it can exceed used */
+    size_t reply_len;  /* bytes of reply at the buffer's start; 0 if no record was completed */
+    exh_feeder feeder; /* the state for the next call */
+} exh_fed;
+
+/* A state with no byte waiting: the start of a stream. */
+exh_feeder exh_feeder_fresh(void);
+
+/*
+ * Reads on in the stream until one record is completed, the piece ends or EXH_USED_MOST bytes are used, whichever comes
+ * first, and does the command of that record on the store. Offer the rest of the piece, from used on, in the next call.
+ * A call that is not refused uses at least one byte of a piece that is not empty.
+ *
+ * With a record completed, its reply stands at the start of the reply buffer and the bytes after it are as they were. A
+ * command that is refused is a completed record too: refusal is 0, and the reply is its error line ("-ERR ...\r\n").
+ * With no record completed, store and reply buffer are as they were.
+ *
+ * The three refusals are looked for first, also for an empty piece. A refused call uses and skips no byte, changes
+ * neither store nor reply buffer and hands the state back as it came, so it can be made again with what was wrong put
+ * right.
+ */
+exh_fed exh_feed(exh_feeder feeder, const uint8_t *piece, size_t piece_len, uint8_t *store, size_t store_len,
+                 uint8_t *reply, size_t reply_len);
+
+/*
+ * 0 if the bytes are a well-formed store, else 2: the check that every exh_feed makes, to be made alone, as after a
+ * store was read back from flash. An empty store is EXH_STORE_SIZE(n) zero bytes; that is how one is made.
+ */
+uint32_t exh_store_check(const uint8_t *store, size_t store_len);
+
+#ifdef __cplusplus
+}
+#endif
+
+#endif
