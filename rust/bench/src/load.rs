@@ -1,0 +1,163 @@
+//! What is timed: a store, and the pieces that are fed to it.
+
+use generate::Random;
+
+const HEADER: usize = 16;
+const SLOT: usize = 128;
+const CLOCK: u64 = 1_700_000_000_000;
+const KEY: &str = "mob";
+
+/// A store and pieces, how many records they complete, none of them refused, and by how many to
+/// divide the time.
+pub struct Load {
+    pub name: String,
+    pub store: Vec<u8>,
+    pub pieces: Vec<Vec<u8>>,
+    pub records: usize,
+    pub divisor: usize,
+}
+
+impl Load {
+    fn of_records(name: String, store: Vec<u8>, records: Vec<Vec<u8>>) -> Load {
+        Load {
+            name,
+            store,
+            divisor: records.len(),
+            records: records.len(),
+            pieces: records,
+        }
+    }
+}
+
+/// New tags, counts guarded by their version, and questions, in turn.
+pub fn day(slots: usize, held: usize, records: usize) -> Load {
+    let mut random = Random::new(1);
+    let mut versions = vec![1; held];
+    versions.resize(slots, 0);
+    let records = (0..records).map(|at| {
+        let number = random.below(slots);
+        let field = tag(number);
+        let version = versions[number];
+        match at % 5 {
+            0 => {
+                versions[number] = version + 1;
+                record(&format!("EXHINCRBY {KEY} {field} 1 VER {version}"))
+            }
+            1 => {
+                versions[number] = version.max(1);
+                record(&format!("EXHSET {KEY} {field} 0 NX"))
+            }
+            2 => record(&format!("EXHGET {KEY} {field}")),
+            3 => record(&format!("EXHVER {KEY} {field}")),
+            _ => record(&format!("EXHLEN {KEY}")),
+        }
+    });
+    let name = format!("a day's mix, {held} of {slots} slots held");
+    Load::of_records(name, store(slots, held), records.collect())
+}
+
+/// The day's stream in pieces of 1 to 8 bytes.
+pub fn day_in_crumbs(slots: usize, held: usize, records: usize) -> Load {
+    let mut random = Random::new(2);
+    let day = day(slots, held, records);
+    let stream = day.pieces.concat();
+    let mut rest = &stream[..];
+    let mut pieces = Vec::new();
+    while !rest.is_empty() {
+        let (piece, after) = rest.split_at(random.between(1, 8).min(rest.len()));
+        pieces.push(piece.to_vec());
+        rest = after;
+    }
+    let name = format!("{}, in pieces of 1 to 8 bytes", day.name);
+    Load {
+        name,
+        pieces,
+        ..day
+    }
+}
+
+/// Bytes of anything, with no record among them.
+pub fn noise(slots: usize, bytes: usize) -> Load {
+    let mut random = Random::new(3);
+    let noise = (0..bytes).map(|_| random.byte()).collect();
+    Load {
+        name: format!("{bytes} bytes of noise, {slots} slots held (ns a byte)"),
+        store: store(slots, slots),
+        pieces: vec![noise],
+        records: 0,
+        divisor: bytes,
+    }
+}
+
+/// All fields of a full store.
+pub fn get_all(slots: usize, records: usize) -> Load {
+    let records = vec![record(&format!("EXHGETALL {KEY}")); records];
+    Load::of_records(
+        format!("EXHGETALL of {slots}"),
+        store(slots, slots),
+        records,
+    )
+}
+
+/// Many pairs at once.
+pub fn set_many(slots: usize, pairs: usize, records: usize) -> Load {
+    let mut random = Random::new(4);
+    let one = |_| {
+        let pair = |_| format!(" {} 1", tag(random.below(slots)));
+        let pairs: String = (0..pairs).map(pair).collect();
+        record(&format!("EXHMSET {KEY}{pairs}"))
+    };
+    let name = format!("EXHMSET of {pairs} pairs, {slots} slots held");
+    Load::of_records(name, store(slots, slots), (0..records).map(one).collect())
+}
+
+/// One field at a time.
+pub fn get(slots: usize, records: usize) -> Load {
+    let mut random = Random::new(5);
+    let one = |_| record(&format!("EXHGET {KEY} {}", tag(random.below(slots))));
+    let name = format!("EXHGET, {slots} slots held");
+    Load::of_records(name, store(slots, slots), (0..records).map(one).collect())
+}
+
+/// A record byte by byte, without its last byte: no call completes it.
+pub fn crumbs(slots: usize) -> Load {
+    let record = record(&format!("EXHMGET {KEY}{}", " tag0000".repeat(60)));
+    let bytes = record[..record.len() - 1].iter();
+    let pieces: Vec<Vec<u8>> = bytes.map(|byte| vec![*byte]).collect();
+    Load {
+        name: format!("one byte fed, {slots} slots held"),
+        store: store(slots, slots),
+        records: 0,
+        divisor: pieces.len(),
+        pieces,
+    }
+}
+
+fn tag(number: usize) -> String {
+    format!("tag{number:04}")
+}
+
+/// A store whose first slots hold a tag with value 1 and version 1.
+fn store(slots: usize, held: usize) -> Vec<u8> {
+    let mut store = vec![0; HEADER + SLOT * slots];
+    for (number, slot) in store[HEADER..].chunks_mut(SLOT).take(held).enumerate() {
+        let field = tag(number);
+        slot[..5].copy_from_slice(&[1, KEY.len() as u8, field.len() as u8, 1, 1]);
+        slot[16..][..KEY.len()].copy_from_slice(KEY.as_bytes());
+        slot[32..][..field.len()].copy_from_slice(field.as_bytes());
+        slot[64] = b'1';
+    }
+    store
+}
+
+/// A record with a command of words split by spaces.
+fn record(command: &str) -> Vec<u8> {
+    let words: Vec<&str> = command.split(' ').collect();
+    let mut body = format!("*{}\r\n", words.len());
+    for word in words {
+        body += &format!("${}\r\n{word}\r\n", word.len());
+    }
+    let length = (body.len() as u16).to_le_bytes();
+    let clock = CLOCK.to_le_bytes();
+    [b"\x45\x57", &clock[..], &length, body.as_bytes()].concat()
+}

@@ -1,0 +1,203 @@
+//! Times the proved library and the model on the same loads, in turns, and prints the medians.
+
+#![forbid(unsafe_code)]
+
+mod load;
+
+use load::Load;
+use std::hint::black_box;
+use std::time::Instant;
+
+const ROUNDS: usize = 41;
+const SUMS: usize = 200;
+const REPLY_SIZE: usize = 56_000;
+
+/// An implementation's feeder.
+trait Feeding {
+    fn fresh() -> Self;
+    /// One call; answers the bytes used and the reply's length.
+    fn call(&mut self, piece: &[u8], store: &mut [u8], reply: &mut [u8]) -> (usize, usize);
+}
+
+impl Feeding for exhash::Feeder {
+    fn fresh() -> exhash::Feeder {
+        exhash::Feeder::fresh()
+    }
+
+    fn call(&mut self, piece: &[u8], store: &mut [u8], reply: &mut [u8]) -> (usize, usize) {
+        let fed = self.feed(piece, store, reply).expect("nothing is damaged");
+        (fed.used, fed.reply_len)
+    }
+}
+
+impl Feeding for model::Feeder {
+    fn fresh() -> model::Feeder {
+        model::Feeder::fresh()
+    }
+
+    fn call(&mut self, piece: &[u8], store: &mut [u8], reply: &mut [u8]) -> (usize, usize) {
+        let fed = model::feed(self.clone(), piece, store, reply);
+        assert_eq!(fed.refusal, 0);
+        *self = fed.feeder;
+        (fed.used, fed.reply_len)
+    }
+}
+
+/// The lent bytes, the same for both implementations and in all rounds.
+struct Lent {
+    store: Vec<u8>,
+    reply: Vec<u8>,
+}
+
+/// Feeds a load from its start, each piece until it is used up.
+fn feed_all<F: Feeding>(load: &Load, lent: &mut Lent, mut each: impl FnMut(&[u8])) {
+    let mut feeder = F::fresh();
+    for piece in &load.pieces {
+        let mut piece = &piece[..];
+        while !piece.is_empty() {
+            let (used, reply_len) = feeder.call(piece, &mut lent.store, &mut lent.reply);
+            each(&lent.reply[..reply_len]);
+            piece = &piece[used..];
+        }
+    }
+}
+
+/// The joined replies, the number of records and the store that a load leaves.
+fn outcome<F: Feeding>(load: &Load, lent: &mut Lent) -> (Vec<u8>, usize, Vec<u8>) {
+    let (mut replies, mut records) = (Vec::new(), 0);
+    lent.store.clone_from(&load.store);
+    feed_all::<F>(load, lent, |reply| {
+        assert!(!reply.starts_with(b"-"), "{}", load.name);
+        replies.extend_from_slice(reply);
+        records += usize::from(!reply.is_empty());
+    });
+    (replies, records, lent.store.clone())
+}
+
+/// Nanoseconds of one round, by the load's divisor. Neither buffer is cleared before.
+fn round<F: Feeding>(load: &Load, lent: &mut Lent) -> f64 {
+    lent.store.clone_from(&load.store);
+    let start = Instant::now();
+    feed_all::<F>(load, lent, |reply| {
+        black_box(reply);
+    });
+    start.elapsed().as_nanos() as f64 / load.divisor as f64
+}
+
+/// Nanoseconds of the library and of the model, and the library's time in the model's.
+struct Times {
+    library: f64,
+    model: f64,
+    ratio: f64,
+}
+
+/// Medians of rounds made in turns, once one and once the other first.
+fn times(load: &Load, lent: &mut Lent) -> Times {
+    let done = outcome::<exhash::Feeder>(load, lent);
+    assert_eq!(done.1, load.records, "{}", load.name);
+    assert!(
+        done == outcome::<model::Feeder>(load, lent),
+        "{}",
+        load.name
+    );
+    let pairs = (0..ROUNDS).map(|at| {
+        if at % 2 == 0 {
+            let library = round::<exhash::Feeder>(load, lent);
+            (library, round::<model::Feeder>(load, lent))
+        } else {
+            let model = round::<model::Feeder>(load, lent);
+            (round::<exhash::Feeder>(load, lent), model)
+        }
+    });
+    let pairs: Vec<(f64, f64)> = pairs.collect();
+    Times {
+        library: median(pairs.iter().map(|(library, _)| *library)),
+        model: median(pairs.iter().map(|(_, model)| *model)),
+        ratio: median(pairs.iter().map(|(library, model)| library / model)),
+    }
+}
+
+fn median(numbers: impl Iterator<Item = f64>) -> f64 {
+    let mut numbers: Vec<f64> = numbers.collect();
+    numbers.sort_by(f64::total_cmp);
+    numbers[numbers.len() / 2]
+}
+
+/// Nanoseconds to add up a store's bytes once, modulo 256, which reads them fastest.
+fn time_of_a_sum(store: &[u8]) -> f64 {
+    median((0..ROUNDS).map(|_| {
+        let start = Instant::now();
+        for _ in 0..SUMS {
+            let bytes = black_box(store).iter();
+            black_box(bytes.fold(0, |sum: u8, byte| sum.wrapping_add(*byte)));
+        }
+        start.elapsed().as_nanos() as f64 / SUMS as f64
+    }))
+}
+
+fn print_row(name: &str, times: &Times) {
+    let Times {
+        library,
+        model,
+        ratio,
+    } = times;
+    println!("| {name} | {library:.1} | {model:.1} | {ratio:.2} |");
+}
+
+fn print_loads(lent: &mut Lent) {
+    let loads = [
+        load::day(100, 90, 500),
+        load::day(500, 500, 500),
+        load::day_in_crumbs(100, 90, 500),
+        load::noise(100, 65_536),
+        load::get_all(500, 100),
+        load::set_many(100, 20, 200),
+    ];
+    println!("| ns a record, unless said otherwise | exhash | model | exhash / model |");
+    println!("|---|---|---|---|");
+    for load in loads {
+        print_row(&load.name, &times(&load, lent));
+    }
+}
+
+/// EXHGET by the number of held slots, and its growth from 50 to 500.
+fn print_growth(lent: &mut Lent) {
+    let mut at_50 = None;
+    for slots in [10, 50, 100, 250, 500] {
+        let load = load::get(slots, 500);
+        let times = times(&load, lent);
+        print_row(&load.name, &times);
+        match (slots, &at_50) {
+            (50, _) => at_50 = Some(times),
+            (500, Some(at_50)) => {
+                let (library, model) = (times.library / at_50.library, times.model / at_50.model);
+                println!("| growth from 50 to 500, times | {library:.1} | {model:.1} | |");
+            }
+            _ => {}
+        }
+    }
+}
+
+fn print_crumb(lent: &mut Lent) {
+    let load = load::crumbs(500);
+    let Times { library, model, .. } = times(&load, lent);
+    let sum = time_of_a_sum(&load.store);
+    println!("\n| 500 slots held | ns | times the sum |\n|---|---|---|");
+    println!("| sum of the store's bytes | {sum:.1} | 1.0 |");
+    println!(
+        "| one byte fed, exhash | {library:.1} | {:.1} |",
+        library / sum
+    );
+    println!("| one byte fed, model | {model:.1} | {:.1} |", model / sum);
+}
+
+fn main() {
+    let mut lent = Lent {
+        store: Vec::new(),
+        reply: vec![0; REPLY_SIZE],
+    };
+    print_loads(&mut lent);
+    print_growth(&mut lent);
+    print_crumb(&mut lent);
+    println!("\nMedians of {ROUNDS} rounds, in turns; the buffers are not cleared before a call.");
+}

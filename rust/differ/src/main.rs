@@ -1,0 +1,58 @@
+//! The full comparison: `cargo run --release -p differ [SEED]`.
+
+use differ::{Sizes, Tally, compare, errors};
+use std::process::ExitCode;
+use std::time::Instant;
+
+const SIZES: Sizes = Sizes {
+    commands: 200_000,
+    sessions: 2_000,
+    large_sessions: 500,
+    streams: 20_000,
+    stores: 20_000,
+    states: 20_000,
+};
+
+fn main() -> ExitCode {
+    let argument = std::env::args().nth(1);
+    let Ok(seed) = argument.as_deref().unwrap_or("1").parse() else {
+        eprintln!("usage: differ [SEED]");
+        return ExitCode::FAILURE;
+    };
+    println!("seed {seed}");
+    let start = Instant::now();
+    let tallies = match compare(seed, &SIZES) {
+        Ok(tallies) => tallies,
+        Err(failure) => {
+            println!("{failure}");
+            return ExitCode::FAILURE;
+        }
+    };
+    print_tallies(&tallies);
+    for (line, count) in errors(&tallies) {
+        println!("{count} replies {line}");
+    }
+    println!("no difference, {:.1} s", start.elapsed().as_secs_f64());
+    ExitCode::SUCCESS
+}
+
+fn print_tallies(tallies: &[(&str, Tally)]) {
+    println!(
+        "                 cases  checks    calls refused 1 refused 2 refused 3  records   MB alike"
+    );
+    for (kind, tally) in tallies {
+        let Tally {
+            cases,
+            checks,
+            calls,
+            records,
+            answers: [_, state, store, reply],
+            bytes,
+            ..
+        } = tally;
+        let megabytes = bytes / 1_000_000;
+        println!(
+            "{kind:14} {cases:7} {checks:7} {calls:8} {state:9} {store:9} {reply:9} {records:8} {megabytes:10}"
+        );
+    }
+}

@@ -1,0 +1,37 @@
+//! A small comparison, for builds without optimization.
+
+use differ::{Sizes, compare, errors};
+
+const SIZES: Sizes = Sizes {
+    commands: 10_000,
+    sessions: 50,
+    large_sessions: 2,
+    streams: 1_000,
+    stores: 1_000,
+    states: 1_000,
+};
+const REFUSALS_OF_COMMANDS: usize = 14;
+
+#[test]
+fn the_library_agrees_with_the_model() {
+    let tallies = match compare(3, &SIZES) {
+        Ok(tallies) => tallies,
+        Err(failure) => panic!("{failure}"),
+    };
+    let cases: Vec<u64> = tallies.iter().map(|(_, tally)| tally.cases).collect();
+    let Sizes {
+        commands,
+        sessions,
+        large_sessions,
+        streams,
+        stores,
+        states,
+    } = SIZES;
+    let sizes = [commands, sessions, large_sessions, streams, stores, states];
+    assert_eq!(cases, sizes);
+    let (_, of_commands) = &tallies[0];
+    assert_eq!(of_commands.records, commands);
+    let answers = |number: usize| tallies.iter().map(move |(_, tally)| tally.answers[number]);
+    assert!((0..4).all(|number| answers(number).sum::<u64>() > 0));
+    assert_eq!(errors(&tallies).len(), REFUSALS_OF_COMMANDS);
+}

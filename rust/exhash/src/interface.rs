@@ -1,0 +1,64 @@
+//! The C interface of include/exhash.h, declared again, with all the unsafe code there is.
+
+use crate::WAITING_MOST;
+
+/// The feeder's state as it goes in and comes back.
+#[repr(C)]
+#[derive(Clone, Copy, Debug, PartialEq, Eq)]
+pub struct State {
+    pub waiting: [u8; WAITING_MOST],
+    pub count: usize,
+}
+
+/// What a feeding call answers.
+#[repr(C)]
+#[derive(Clone, Copy, Debug, PartialEq, Eq)]
+pub struct Answer {
+    pub refusal: u32,
+    pub used: usize,
+    pub skipped: usize,
+    pub reply_len: usize,
+    pub state: State,
+}
+
+unsafe extern "C" {
+    safe fn exh_feeder_fresh() -> State;
+    fn exh_feed(
+        state: State,
+        piece: *const u8,
+        piece_len: usize,
+        store: *mut u8,
+        store_len: usize,
+        reply: *mut u8,
+        reply_len: usize,
+    ) -> Answer;
+    fn exh_store_check(store: *const u8, store_len: usize) -> u32;
+}
+
+/// A state with no byte waiting.
+pub fn fresh() -> State {
+    exh_feeder_fresh()
+}
+
+/// One feeding call, with the numbers of its answer as they are.
+pub fn feed(state: State, piece: &[u8], store: &mut [u8], reply: &mut [u8]) -> Answer {
+    // SAFETY: the call is proved for any bytes and any state, reads and writes only within the
+    // lengths, and keeps no pointer. The slices are valid for theirs and, lent so, don't overlap.
+    unsafe {
+        exh_feed(
+            state,
+            piece.as_ptr(),
+            piece.len(),
+            store.as_mut_ptr(),
+            store.len(),
+            reply.as_mut_ptr(),
+            reply.len(),
+        )
+    }
+}
+
+/// 0, or 2 if the bytes are not a well-formed store.
+pub fn store_check(store: &[u8]) -> u32 {
+    // SAFETY: as for `feed`; this call writes nothing.
+    unsafe { exh_store_check(store.as_ptr(), store.len()) }
+}

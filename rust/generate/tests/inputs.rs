@@ -1,0 +1,130 @@
+//! What the generator promises of its inputs, judged by the model.
+
+use generate::{Generator, State};
+use model::feeder::whole;
+use model::{Feeder, execute, feed, store_check};
+
+const REFUSALS: [u32; 14] = [10, 11, 12, 13, 14, 15, 16, 17, 18, 20, 21, 22, 23, 24];
+
+fn feeder(state: &State) -> Feeder {
+    Feeder {
+        waiting: state.waiting,
+        count: state.count,
+    }
+}
+
+#[test]
+fn stores_are_well_formed_or_damaged() {
+    let mut generator = Generator::new(1);
+    let mut changed_but_well_formed = 0;
+    for _ in 0..5_000 {
+        assert_eq!(store_check(&generator.store()), 0);
+        assert_eq!(store_check(&generator.damaged_store()), 2);
+        let changed = generator.store_with_one_byte_changed();
+        changed_but_well_formed += usize::from(store_check(&changed) == 0);
+    }
+    assert!((100..4_900).contains(&changed_but_well_formed));
+    assert_eq!(store_check(&generator.large_store()), 0);
+}
+
+#[test]
+fn states_are_left_by_feeding_or_damaged() {
+    let mut generator = Generator::new(2);
+    let mut reply = vec![0; 56_000];
+    for _ in 0..5_000 {
+        let mut store = generator.store();
+        let left = feeder(&generator.left_state(&store));
+        let fed = feed(left.clone(), &[], &mut store, &mut reply);
+        assert_eq!((fed.refusal, fed.feeder), (0, left));
+        let damaged = feeder(&generator.damaged_state(&store));
+        let fed = feed(damaged.clone(), &[], &mut store, &mut reply);
+        assert_eq!((fed.refusal, fed.feeder), (1, damaged));
+    }
+}
+
+/// Every refusal is met, no other command is refused, and the store stays well formed.
+#[test]
+fn commands_meet_every_refusal() {
+    let mut generator = Generator::new(3);
+    let mut met = [0; 25];
+    let mut reply = vec![0; 56_000];
+    for _ in 0..20_000 {
+        let mut store = generator.store();
+        let before = store.clone();
+        let (clock, command) = (generator.clock(&store), generator.command(&store));
+        let done = execute(clock, &command, &mut store, &mut reply);
+        met[done.refusal as usize] += 1;
+        assert_eq!(store_check(&store), 0);
+        assert!(done.reply_len > 0);
+        assert!(!(10..=18).contains(&done.refusal) || store == before);
+    }
+    println!("commands by refusal: {met:?}");
+    assert!(met[0] > 10_000);
+    assert!(REFUSALS.iter().all(|number| met[*number as usize] >= 20));
+}
+
+/// Cut anywhere, with refused calls in between, a stream gives what it gives uncut.
+#[test]
+fn cut_streams_agree_with_the_uncut_one() {
+    let mut generator = Generator::new(4);
+    let mut reply = vec![0; 60_000];
+    for _ in 0..2_000 {
+        let mut store = generator.store();
+        let stream = generator.stream(&store);
+        let mut uncut_store = store.clone();
+        let uncut = whole(&stream, &mut uncut_store);
+
+        let (mut feeder, mut replies, mut skipped) = (Feeder::fresh(), Vec::new(), 0);
+        let mut rest = &stream[..];
+        for length in generator.pieces(stream.len()) {
+            let (mut piece, after) = rest.split_at(length);
+            rest = after;
+            while !piece.is_empty() {
+                let buffer = generator.reply_buffer_length();
+                let fed = feed(feeder, piece, &mut store, &mut reply[..buffer]);
+                assert_eq!(fed.refusal, if buffer < 56_000 { 3 } else { 0 });
+                assert_eq!(fed.used == 0, fed.refusal == 3);
+                replies.extend_from_slice(&reply[..fed.reply_len]);
+                skipped += fed.skipped;
+                feeder = fed.feeder;
+                piece = &piece[fed.used..];
+            }
+        }
+        assert!(rest.is_empty());
+        assert_eq!((replies, skipped), (uncut.replies, uncut.skipped));
+        assert_eq!(&feeder.waiting[..feeder.count], uncut.rest);
+        assert_eq!(store, uncut_store);
+    }
+}
+
+/// "Any bytes, any store and any feeder state get an answer and never a trap."
+#[test]
+fn anything_gets_an_answer() {
+    let mut generator = Generator::new(6);
+    let mut reply = vec![0; 60_000];
+    for _ in 0..10_000 {
+        let mut store = generator.damaged_store();
+        let (clock, command) = (generator.clock(&store), generator.command(&store));
+        execute(clock, &command, &mut store.clone(), &mut reply);
+
+        let before = store.clone();
+        let state = feeder(&generator.state(&store));
+        let stream = generator.stream(&store);
+        let buffer = generator.reply_buffer_length();
+        let fed = feed(state.clone(), &stream, &mut store, &mut reply[..buffer]);
+        assert!(matches!(fed.refusal, 1 | 2));
+        assert_eq!((fed.used, fed.skipped, fed.reply_len), (0, 0, 0));
+        assert_eq!((fed.feeder, store), (state, before));
+    }
+}
+
+#[test]
+fn the_same_seed_gives_the_same_inputs() {
+    let inputs = |seed| {
+        let mut generator = Generator::new(seed);
+        let store = generator.store();
+        (generator.stream(&store), generator.clock(&store), store)
+    };
+    assert_eq!(inputs(5), inputs(5));
+    assert_ne!(inputs(5), inputs(6));
+}

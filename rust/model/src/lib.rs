@@ -1,0 +1,21 @@
+//! The second implementation of paper 01: written from the paper, clear before fast.
+//!
+//! The modules follow the paper's sections, from the bottom: numbers and words
+//! (`integer`, `resp`), the store (`store`, `time`, `versions`), commands
+//! (`parse`, `commands`, `reply`), then the feeder.
+
+#![forbid(unsafe_code)]
+
+pub mod commands;
+pub mod feeder;
+pub mod integer;
+pub mod parse;
+pub mod reply;
+pub mod resp;
+pub mod store;
+pub mod time;
+pub mod versions;
+
+pub use commands::{Done, execute};
+pub use feeder::{Fed, Feeder, feed};
+pub use store::store_check;

@@ -1,0 +1,29 @@
+//! Versions.
+
+/// "Largest version 4,294,967,295."
+pub const LARGEST: u32 = u32::MAX;
+
+/// The version a command gives.
+#[derive(Clone, Copy, Debug, PartialEq, Eq)]
+pub enum Given {
+    Nothing,
+    Ver(u32),
+    Abs(u32),
+}
+
+/// "If the field is live with a version other than 0 and v differs, refusal 20."
+pub fn is_stale(given: Given, live: Option<u32>) -> bool {
+    match (given, live) {
+        (Given::Ver(given), Some(held)) => held != 0 && given != held,
+        _ => false,
+    }
+}
+
+/// "A missing field gets 1, a live one its version plus 1." None if that passes the largest.
+pub fn next(given: Given, live: Option<u32>) -> Option<u32> {
+    match (given, live) {
+        (Given::Abs(given), _) => Some(given),
+        (_, None) => Some(1),
+        (_, Some(held)) => held.checked_add(1),
+    }
+}

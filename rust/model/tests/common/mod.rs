@@ -1,0 +1,61 @@
+//! A store and a reply buffer, and the short forms the tests are written in.
+
+use model::{Fed, Feeder, execute, feed};
+
+/// A fresh store of some slots.
+pub struct Handset {
+    pub store: Vec<u8>,
+    reply: Vec<u8>,
+}
+
+impl Handset {
+    pub fn new(slots: usize) -> Handset {
+        Handset {
+            store: vec![0; 16 + 128 * slots],
+            reply: vec![0; 56_000],
+        }
+    }
+
+    /// A command in words split by spaces; answers its number and its reply, spaces for line ends.
+    pub fn run(&mut self, clock: u64, command: &str) -> (u32, String) {
+        let done = execute(clock, &resp(command), &mut self.store, &mut self.reply);
+        (done.refusal, lines(&self.reply[..done.reply_len]))
+    }
+
+    /// The reply alone, of a command that is not refused.
+    #[allow(dead_code)]
+    pub fn reply(&mut self, clock: u64, command: &str) -> String {
+        let (number, reply) = self.run(clock, command);
+        assert_eq!(number, 0, "{command}");
+        reply
+    }
+
+    #[allow(dead_code)]
+    pub fn feed(&mut self, feeder: Feeder, piece: &[u8]) -> (Fed, String) {
+        let fed = feed(feeder, piece, &mut self.store, &mut self.reply);
+        let reply = lines(&self.reply[..fed.reply_len]);
+        (fed, reply)
+    }
+}
+
+pub fn resp(command: &str) -> Vec<u8> {
+    let words: Vec<&str> = command.split(' ').collect();
+    let mut bytes = format!("*{}\r\n", words.len());
+    for word in words {
+        bytes += &format!("${}\r\n{word}\r\n", word.len());
+    }
+    bytes.into_bytes()
+}
+
+#[allow(dead_code)]
+pub fn record(clock: u64, command: &str) -> Vec<u8> {
+    let command = resp(command);
+    let length = command.len() as u16;
+    let clock = clock.to_le_bytes();
+    [&[0x45, 0x57], &clock[..], &length.to_le_bytes(), &command].concat()
+}
+
+fn lines(reply: &[u8]) -> String {
+    let text = String::from_utf8(reply.to_vec()).unwrap();
+    text.trim_end_matches("\r\n").replace("\r\n", " ")
+}
