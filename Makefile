@@ -1,11 +1,61 @@
-.PHONY: test bench
+.PHONY: demo test bench c-example rust-test differ differ-quiet bench-rust clients model-cases
 
-# Every proof, every must-fail edit and every program, from nothing: the gate.
+# The proved library: an archive, or the directory that has libexhash.a.
+EXHASH_LIB ?= target/staticlib/libexhash.a
+LIBRARY := $(abspath $(or $(wildcard $(EXHASH_LIB)/libexhash.a),$(EXHASH_LIB)))
+WARNINGS := -Wall -Wextra -Werror
+CARGO := cd rust && EXHASH_LIB=$(LIBRARY) cargo
+
+# The mistakes that trainees make, played against the proved library. The first time proves it, which takes minutes.
+demo:
+	@mkdir -p target
+	@rt check demo >target/demo.log 2>&1 || { cat target/demo.log; exit 1; }
+	@target/bin/demo <crates/demo/stdin
+
+# The gate: every proof, every must-fail edit and every program, from nothing; the C example, the Rust tests and the comparison.
 test:
 	@.ci/run
 
 # The time of the store's check, by its size, in one run.
-bench:
-	@rt staticlib exhash >/dev/null
-	@$(CC) -O2 -Wall -Wextra -Werror bench/check.c target/staticlib/libexhash.a -o target/bench-check
+bench: $(LIBRARY)
+	@mkdir -p target
+	@$(CC) -O2 $(WARNINGS) -Iinclude bench/check.c $(LIBRARY) -o target/bench-check
 	@target/bench-check
+
+# The C example prints what examples/c/session.expected says, and the header is good C++ too.
+c-example: $(LIBRARY)
+	@mkdir -p target
+	@$(CC) -std=c99 -O2 $(WARNINGS) -Iinclude examples/c/session.c $(LIBRARY) -o target/session
+	@target/session | diff examples/c/session.expected -
+	@$(CXX) -x c++ -fsyntax-only $(WARNINGS) include/exhash.h
+
+# The Rust crates: format, lints and tests, with nothing printed if all is well.
+rust-test: $(LIBRARY)
+	@mkdir -p target
+	@$(CARGO) fmt --check
+	@$(CARGO) clippy --offline --quiet --workspace --all-targets -- -D warnings
+	@$(CARGO) test --offline --quiet --workspace >../target/rust-test.log 2>&1 || { cat ../target/rust-test.log; exit 1; }
+
+# The library and the second implementation on the same seeded inputs (SEED=1): every byte compared.
+differ: $(LIBRARY)
+	@$(CARGO) run --offline --quiet --release -p differ $(SEED)
+
+# The same, with nothing printed if all is well.
+differ-quiet: $(LIBRARY)
+	@mkdir -p target
+	@$(CARGO) run --offline --quiet --release -p differ $(SEED) >../target/differ.log 2>&1 || { cat ../target/differ.log; exit 1; }
+
+# Their times on the same loads, in one run.
+bench-rust: $(LIBRARY)
+	@$(CARGO) run --offline --quiet --release -p bench
+
+# What Redis clients see in the C example's replies; installs Debian's python3-redis.
+clients: c-example
+	@examples/clients/read_replies.py target/session
+
+# Writes crates/cases/stdin again.
+model-cases:
+	@cd rust && cargo run --offline --quiet --release -p make_cases ../crates/cases/stdin
+
+$(abspath target/staticlib/libexhash.a): $(wildcard crates/*/src/*.rt crates/*/src/*/*.rt)
+	@rt staticlib exhash >/dev/null
