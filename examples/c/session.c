@@ -1,4 +1,4 @@
-/* Feeds a short session, cut in crumbs of 7 bytes, to a store of 4 slots and prints each command with its reply.
+/* Feeds a short session, cut in pieces of 7 bytes, to a store of 4 slots and prints each command with its reply.
    With any argument it writes the replies alone, byte for byte. */
 #include "exhash.h"
 

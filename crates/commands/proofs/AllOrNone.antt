@@ -32,7 +32,7 @@ use Rattle.commands.proofs.Full.{addedBy, roomIn, proper}
 use Rattle.commands.proofs.Sweep.{sweep-apart, sweep-alive}
 use Rattle.commands.proofs.Ready.{Ready, put-ready}
 use Rattle.commands.proofs.Others.{changes-keep, other-pairs}
-use Rattle.commands.proofs.Names.{named, named-flip, added-missing}
+use Rattle.commands.proofs.Names.{named, named-flip, added-missing, pairEntry}
 
 -- the value of the last pair of a field
 unfoldable pub lastOf : Word → List Pair → Option Word
@@ -59,17 +59,13 @@ unnamed f (p ∷ ps) h = go (unnamed f ps) (lastOf f ps) refl (same (p .field) f
     go ih none a true b h = cc
     go ih none a false b h = or-neither b (ih a)
 
--- the entry that a pair writes
-abbrev entryFor : Word → Pair → List Slot → Entry
-entryFor k p ss = written k (p .field) (p .value) Next Clear (entryOf k (p .field) ss)
-
 -- an entry that is put and that no later pair concerns stays
 pair-stays : (now : ℕ) (k : Word) (p : Pair) (ps : List Pair) (ss : List Slot) (i : ℕ) → Apart ss
     → slotFor now k (p .field) ss ≡ some i → named (p .field) (map (λ q. q .field) ps) ≡ false
-    → Written k (p .field) (p .value) (changeAll now (writesOf now k ps (put now (entryFor k p ss) ss)) (put now (entryFor k p ss) ss))
+    → Written k (p .field) (p .value) (changeAll now (writesOf now k ps (put now (pairEntry k (p .field) (p .value) ss) ss)) (put now (pairEntry k (p .field) (p .value) ss) ss))
 unfolding written nextExpiry live before
 pair-stays now k p ps ss i a q n =
-    let e : Entry = entryFor k p ss in
+    let e : Entry = pairEntry k (p .field) (p .value) ss in
     let ss₁ : List Slot = put now e ss in
     let cs : List Change = writesOf now k ps ss₁ in
     record {
@@ -87,13 +83,13 @@ pairs-written : (now : ℕ) (k : Word) (ps : List Pair) (ss : List Slot) → Rea
 unfolding writesOf changeAll change lastOf orElse written nextExpiry live before
 pairs-written now k [] ss r f v h = let z : _≡_ {A = ℕ} 0 1 = cc in absurd (omega arith)
 pairs-written now k (p ∷ ps) ss r f v h =
-    let q = put-ready now (entryFor k p ss) (map (λ p. p .field) ps) ss refl r in
-    go q (pairs-written now k ps (put now (entryFor k p ss) ss) (q .2) f v) (lastOf f ps) refl (same (p .field) f) refl h
+    let q = put-ready now (pairEntry k (p .field) (p .value) ss) (map (λ p. p .field) ps) ss refl r in
+    go q (pairs-written now k ps (put now (pairEntry k (p .field) (p .value) ss) ss) (q .2) f v) (lastOf f ps) refl (same (p .field) f) refl h
   where
     after-all : List Slot
-    after-all = changeAll now (writesOf now k ps (put now (entryFor k p ss) ss)) (put now (entryFor k p ss) ss)
+    after-all = changeAll now (writesOf now k ps (put now (pairEntry k (p .field) (p .value) ss) ss)) (put now (pairEntry k (p .field) (p .value) ss) ss)
 
-    go : (i : ℕ) × (slotFor now k (p .field) ss ≡ some i) × Ready now k (map (λ p. p .field) ps) (put now (entryFor k p ss) ss)
+    go : (i : ℕ) × (slotFor now k (p .field) ss ≡ some i) × Ready now k (map (λ p. p .field) ps) (put now (pairEntry k (p .field) (p .value) ss) ss)
         → (lastOf f ps ≡ some v → Written k f v after-all) → (o : Option Word) → lastOf f ps ≡ o → (t : Bool) → same (p .field) f ≡ t
         → orElse o (cond t (some (p .value)) none) some ≡ some v → Written k f v after-all
     go q ih (some w) a t b h = ih (a ∙ h)

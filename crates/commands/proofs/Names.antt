@@ -30,6 +30,10 @@ unfolding any
 named-flip f [] = refl
 named-flip f (g ∷ gs) = rw (same-sym f g, named-flip f gs)
 
+-- the entry that a pair of a field and a value writes
+abbrev pub pairEntry : Word → Word → Word → List Slot → Entry
+pairEntry k f v ss = written k f v Next Clear (entryOf k f ss)
+
 writes-named : (now : ℕ) (k f : Word) (ps : List Pair) (ss : List Slot) → any (writes k f) (writesOf now k ps ss) ≡ named f (map (λ p. p .field) ps)
 unfolding writesOf any writes written holds orElse
 writes-named now k f [] ss = refl
@@ -41,7 +45,7 @@ pub added-missing : (now : ℕ) (k : Word) (ps : List Pair) (before ss : List Sl
 unfolding writesOf added adds missing written
 added-missing now k [] before ss = refl
 added-missing now k (p ∷ ps) before ss =
-    let e : Entry = written k (p .field) (p .value) Next Clear (entryOf k (p .field) before) in
+    let e : Entry = pairEntry k (p .field) (p .value) before in
     rw (writes-named now k (p .field) ps (put now e before), added-missing now k ps (put now e before) ss)
 
 less : (b u : Bool) (n m : ℕ) → cond (not b) (suc n) n ≡ suc m

@@ -26,7 +26,7 @@ use Rattle.commands.specs.declared.Lifetime.the-variants.{Clear}
 use Rattle.commands.specs.Effect.{nextVersion, nextExpiry, written, writesOf}
 use Rattle.commands.specs.Execute.{passes}
 use Rattle.commands.specs.Promises.{heldVersion, versionIn, timesIn, overflowing}
-use Rattle.commands.proofs.Names.{named}
+use Rattle.commands.proofs.Names.{named, pairEntry}
 
 or-swap : (a b c : Bool) → a || (b || c) ≡ b || (a || c)
 or-swap true true c = refl
@@ -138,11 +138,7 @@ record Seen (now : ℕ) (k : Word) (ps : List Pair) (ss : List Slot) (version : 
   alive : (g : Word) → named g (fieldsOf ps) ≡ true → (x : Entry) → entryOf k g ss ≡ some x → live now x ≡ true
   near : (g : Word) → named g (fieldsOf ps) ≡ true → Near (length ps) (version g) (versionIn k ss g)
 
--- the entry that a pair writes
-abbrev entryFor : Word → Pair → List Slot → Entry
-entryFor k p ss = written k (p .field) (p .value) Next Clear (entryOf k (p .field) ss)
-
-pub next-is : (k : Word) (p : Pair) (ss : List Slot) → entryFor k p ss .version ≡ versionIn k ss (p .field) + 1
+pub next-is : (k : Word) (p : Pair) (ss : List Slot) → pairEntry k (p .field) (p .value) ss .version ≡ versionIn k ss (p .field) + 1
 unfolding written nextVersion versionIn heldVersion orElse
 next-is k p ss = go (entryOf k (p .field) ss)
   where
@@ -160,7 +156,7 @@ slot-missing now k f ss h = lowest-entry-none k f ss (go (lowestSlot (holds k f)
 
 module _ (now : ℕ) (k : Word) (p : Pair) (ps : List Pair) (ss : List Slot) (version : Word → ℕ) (few : length ps ≤ 62) (s : Seen now k (p ∷ ps) ss version) where
   own : Entry
-  own = entryFor k p ss
+  own = pairEntry k (p .field) (p .value) ss
 
   later : (g : Word) → named g (fieldsOf ps) ≡ true → named g (fieldsOf (p ∷ ps)) ≡ true
   unfolding any
@@ -225,7 +221,7 @@ passing now k [] ss version l s = refl
 passing now k (p ∷ ps) ss version l s =
     let few : length ps ≤ 62 = omega arith in
     rw (
-      passing now k ps (put now (entryFor k p ss) ss) (raised (p .field) version) few (seen-after now k p ps ss version few s),
+      passing now k ps (put now (pairEntry k (p .field) (p .value) ss) ss) (raised (p .field) version) few (seen-after now k p ps ss version few s),
       next-is k p ss,
       near-passes (s .near (p .field) (first now k p ps ss version few s)),
     )

@@ -41,7 +41,8 @@ use Rattle.commands.proofs.Deeds.{seen-entry}
 use Rattle.commands.proofs.Writes.{found-fits}
 use Rattle.commands.proofs.FieldLoops.{next-field}
 use Rattle.commands.proofs.Acts.{holds-self}
-use Rattle.commands.proofs.Names.{named, named-flip, added-missing}
+use Rattle.commands.proofs.Names.{named, named-flip, added-missing, pairEntry}
+use Rattle.commands.proofs.Sound.{pair-count}
 use Rattle.commands.proofs.Sweep.{found-alive}
 use Rattle.commands.proofs.Overflow.{next-is, pairs-overflow}
 
@@ -72,12 +73,6 @@ module _ (ws : List Word) (i : ℕ) {count : ℕ} (n : length ws ≡ count) wher
   pub none-named : count ≤ i + 1 → fieldsIn (drop i ws) ≡ []
   unfolding fieldsIn
   none-named l = ap (map (λ x. x .field)) (no-pair l)
-
-pair-count : (ws : List Word) → length (pairsOf ws) ≤ length ws
-unfolding pairsOf
-pair-count [] = omega arith
-pair-count (f ∷ []) = omega arith
-pair-count (f ∷ v ∷ ws) = omega (arith, pair-count ws)
 
 -- at most 62 pairs
 pub few-pairs : (ws : List Word) → length ws ≤ 64 → length (pairsOf (drop 2 ws)) ≤ 62
@@ -232,10 +227,6 @@ module _ (k : Word) (p : Pair) (ps : List Pair) (h : tooLong (setMany k (p ∷ p
       (any (λ v. ltb valueMost (length v)) (map (λ q. q .value) ps))
       h in
       (ltb-false keyMost (length k) (r .0), ltb-false fieldMost (length (p .field)) (r .1), ltb-false valueMost (length (p .value)) (r .2), r .3)
-
--- the entry that a pair writes
-abbrev pub pairEntry : Word → Word → Word → List Slot → Entry
-pairEntry k f v ss = written k f v Next Clear (entryOf k f ss)
 
 -- of pairs, some are left to write
 pub record Writing (now : ℕ) (k : Word) (pairs left : List Pair) (before after : List ℕ) (i : ℕ) : Type 0 where

@@ -52,7 +52,7 @@ record Taken (P : Word → Type 0) (c : Command) : Type 0 where
   values : AllHave P (valuesOf c)
   few : length (fieldsOf c) ≤ 62
 
-pair-count : (ws : List Word) → length (pairsOf ws) ≤ length ws
+pub pair-count : (ws : List Word) → length (pairsOf ws) ≤ length ws
 unfolding pairsOf
 pair-count [] = omega arith
 pair-count (f ∷ []) = omega arith

@@ -1,6 +1,6 @@
 // Plays the script of standard input, a line a step, against the feeder and a store of two slots. A line's first byte says what it is:
 //   =  a heading: from here on a fresh feeder and an empty store
-//   a digit: a press, its clock in ms and its command; its record is fed
+//   a digit: a record, its clock in ms and its command; its record is fed
 //   ~  from here on records come in pieces of so many bytes, and every call is shown
 //   !  stray bytes, fed as they stand
 //   ?  shows the store
@@ -43,7 +43,7 @@ const COMMAND: usize = 12;
 // 45 57, low byte first.
 const MARK: u64 = 0x5745;
 
-// The longest word that a press may have.
+// The longest word of a command.
 const WORD: usize = 99;
 
 // The feeder, and the size of pieces, 0 where records come whole.
@@ -185,16 +185,16 @@ fn put_head(clock: u64, size: u64, out: &mut [u8]) {
     write_le(&mut out[10..COMMAND], size);
 }
 
-// The record of a press: the word before the first space is its clock, the rest its command.
-fn put_record(press: &[u8], out: &mut [u8]) -> usize
+// The record of a line: the word before the first space is its clock, the rest its command.
+fn put_record(line: &[u8], out: &mut [u8]) -> usize
     ensures { λ r. ⌜ r ≤ length (now (out .entry)) ⌝ }
 {
     if out.len() < COMMAND {
         return 0;
     }
-    let end = seek(press, 0, b' ');
-    let clock = number_of(within(press, end));
-    let size = put_command(beyond(press, end + 1), &mut out[COMMAND..]);
+    let end = seek(line, 0, b' ');
+    let clock = number_of(within(line, end));
+    let size = put_command(beyond(line, end + 1), &mut out[COMMAND..]);
     put_head(clock, size as u64, out);
     COMMAND + size
 }
@@ -351,7 +351,7 @@ fn feed(stage: Stage, bytes: &[u8], store: &mut [u8], reply: &mut [u8]) -> Stage
     Stage { feeder, cut }
 }
 
-fn press(stage: Stage, line: &[u8], store: &mut [u8], reply: &mut [u8]) -> Stage {
+fn send(stage: Stage, line: &[u8], store: &mut [u8], reply: &mut [u8]) -> Stage {
     say(b"  ", line);
     let mut record = [0u8; RECORD];
     let size = put_record(line, &mut record);
@@ -397,7 +397,7 @@ fn play_line(stage: Stage, line: &[u8], store: &mut [u8], reply: &mut [u8]) -> S
     let mark = first(line);
     let rest = beyond(line, 1);
     if is_digit(mark) {
-        return press(stage, line, store, reply);
+        return send(stage, line, store, reply);
     }
     if mark == b'!' {
         put(b"  stray");

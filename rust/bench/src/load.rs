@@ -57,7 +57,7 @@ pub fn day(slots: usize, held: usize, records: usize) -> Load {
 }
 
 /// The day's stream in pieces of 1 to 8 bytes.
-pub fn day_in_crumbs(slots: usize, held: usize, records: usize) -> Load {
+pub fn day_in_pieces(slots: usize, held: usize, records: usize) -> Load {
     let mut random = Random::new(2);
     let day = day(slots, held, records);
     let stream = day.pieces.concat();
@@ -120,7 +120,7 @@ pub fn get(slots: usize, records: usize) -> Load {
 }
 
 /// A record byte by byte, without its last byte: no call completes it.
-pub fn crumbs(slots: usize) -> Load {
+pub fn single_bytes(slots: usize) -> Load {
     let record = record(&format!("EXHMGET {KEY}{}", " tag0000".repeat(60)));
     let bytes = record[..record.len() - 1].iter();
     let pieces: Vec<Vec<u8>> = bytes.map(|byte| vec![*byte]).collect();

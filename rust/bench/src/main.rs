@@ -148,7 +148,7 @@ fn print_loads(lent: &mut Lent) {
     let loads = [
         load::day(100, 90, 500),
         load::day(500, 500, 500),
-        load::day_in_crumbs(100, 90, 500),
+        load::day_in_pieces(100, 90, 500),
         load::noise(100, 65_536),
         load::get_all(500, 100),
         load::set_many(100, 20, 200),
@@ -178,8 +178,8 @@ fn print_growth(lent: &mut Lent) {
     }
 }
 
-fn print_crumb(lent: &mut Lent) {
-    let load = load::crumbs(500);
+fn print_single_byte(lent: &mut Lent) {
+    let load = load::single_bytes(500);
     let Times { library, model, .. } = times(&load, lent);
     let sum = time_of_a_sum(&load.store);
     println!("\n| 500 slots held | ns | times the sum |\n|---|---|---|");
@@ -198,6 +198,6 @@ fn main() {
     };
     print_loads(&mut lent);
     print_growth(&mut lent);
-    print_crumb(&mut lent);
+    print_single_byte(&mut lent);
     println!("\nMedians of {ROUNDS} rounds, in turns; the buffers are not cleared before a call.");
 }

@@ -1,7 +1,7 @@
 use denote.Ref.{now}
 use borrow.Author.Needs.{needs}
 use Rattle.store.proofs.At.{slot-inside, slot-bytes}
-use Rattle.demo.proofs.Entries.{held}
+use Rattle.commands.proofs.Kept.{slot-held}
 use Rattle.demo.proofs.show_slot.Statement.{statement}
 use Rattle.demo.proofs.show_slot.Tie as tie
 
@@ -33,7 +33,7 @@ returns : tie.Need-returns
 returns c = search needs
 
 show-entry-requires : tie.Need-show-entry-requires
-show-entry-requires c κs = held (now (c .before .before .before .before .before .before .before .before .args .bytes)) (c .before .before .before .before .before .before .before .before .args .i) (c .before .before .before .before .before .before .before .before .pre .0) (c .before .before .before .before .before .before .before .before .pre .1) (c .before .before .bytes .ensures) (c .before .is-empty .ensures) (c .if1 .left)
+show-entry-requires c κs = slot-held (now (c .before .before .before .before .before .before .before .before .args .bytes)) (c .before .before .before .before .before .before .before .before .args .i) (c .before .before .before .before .before .before .before .before .pre .0) (c .before .before .before .before .before .before .before .before .pre .1) (c .before .before .bytes .ensures) (c .before .is-empty .ensures) (c .if1 .left)
 
 returns-2 : tie.Need-returns-2
 returns-2 c = search needs

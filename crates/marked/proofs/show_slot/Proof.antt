@@ -1,0 +1,51 @@
+use borrow.Author.Needs.{needs}
+use Rattle.store.proofs.At.{slot-inside, slot-bytes}
+use denote.Ref.{now}
+use Rattle.commands.proofs.Kept.{slot-held}
+use Rattle.marked.proofs.show_slot.Statement.{statement}
+use Rattle.marked.proofs.show_slot.Tie as tie
+
+slice-aggregate-say : tie.Need-slice-aggregate-say
+slice-aggregate-say c = search needs
+
+slice-aggregate-say-2 : tie.Need-slice-aggregate-say-2
+slice-aggregate-say-2 c = search needs
+
+say-requires : tie.Need-say-requires
+say-requires c κs = search needs
+
+bytes-requires : tie.Need-bytes-requires
+bytes-requires c κs = slot-inside _ _ (c .before .before .before .before .pre .0) (c .before .before .before .before .pre .1)
+
+is-empty-requires : tie.Need-is-empty-requires
+is-empty-requires c κs = slot-bytes _ _ (c .before .before .before .before .before .pre .0) (c .before .before .before .before .before .pre .1) (c .bytes .ensures) .size
+
+slice-aggregate-write : tie.Need-slice-aggregate-write
+slice-aggregate-write c = search needs
+
+write-requires : tie.Need-write-requires
+write-requires c κs = search needs
+
+returns : tie.Need-returns
+returns c = search needs
+
+show-entry-requires : tie.Need-show-entry-requires
+show-entry-requires c κs = slot-held _ _ (c .before .before .before .before .before .before .before .pre .0) (c .before .before .before .before .before .before .before .pre .1) (c .before .before .bytes .ensures) (c .before .is-empty .ensures) (c .if1 .left)
+
+returns-2 : tie.Need-returns-2
+returns-2 c = search needs
+
+pub show-slot-spec : {M : Type 1} → statement M
+show-slot-spec =
+    tie.close
+    (tie.spec
+    slice-aggregate-say
+    slice-aggregate-say-2
+    say-requires
+    bytes-requires
+    is-empty-requires
+    slice-aggregate-write
+    write-requires
+    returns
+    show-entry-requires
+    returns-2)
