@@ -29,8 +29,35 @@ impl Load {
     }
 }
 
+/// In which order the slots hold the names.
+#[derive(Clone, Copy)]
+pub enum Order {
+    Ascending,
+    Shuffled,
+}
+
+impl Order {
+    fn numbers(self, count: usize) -> Vec<usize> {
+        let mut numbers: Vec<usize> = (0..count).collect();
+        if let Order::Shuffled = self {
+            let mut random = Random::new(6);
+            for last in (1..count).rev() {
+                numbers.swap(last, random.below(last + 1));
+            }
+        }
+        numbers
+    }
+
+    fn label(self) -> &'static str {
+        match self {
+            Order::Ascending => "",
+            Order::Shuffled => ", names shuffled",
+        }
+    }
+}
+
 /// New tags, counts guarded by their version, and questions, in turn.
-pub fn day(slots: usize, held: usize, records: usize) -> Load {
+pub fn day(slots: usize, held: usize, records: usize, order: Order) -> Load {
     let mut random = Random::new(1);
     let mut versions = vec![1; held];
     versions.resize(slots, 0);
@@ -52,14 +79,15 @@ pub fn day(slots: usize, held: usize, records: usize) -> Load {
             _ => record(&format!("EXHLEN {KEY}")),
         }
     });
-    let name = format!("a day's mix, {held} of {slots} slots held");
-    Load::of_records(name, store(slots, held), records.collect())
+    let label = order.label();
+    let name = format!("a day's mix, {held} of {slots} slots held{label}");
+    Load::of_records(name, store(slots, held, order), records.collect())
 }
 
 /// The day's stream in pieces of 1 to 8 bytes.
 pub fn day_in_pieces(slots: usize, held: usize, records: usize) -> Load {
     let mut random = Random::new(2);
-    let day = day(slots, held, records);
+    let day = day(slots, held, records, Order::Ascending);
     let stream = day.pieces.concat();
     let mut rest = &stream[..];
     let mut pieces = Vec::new();
@@ -82,7 +110,7 @@ pub fn noise(slots: usize, bytes: usize) -> Load {
     let noise = (0..bytes).map(|_| random.byte()).collect();
     Load {
         name: format!("{bytes} bytes of noise, {slots} slots held (ns a byte)"),
-        store: store(slots, slots),
+        store: store(slots, slots, Order::Ascending),
         pieces: vec![noise],
         records: 0,
         divisor: bytes,
@@ -94,7 +122,7 @@ pub fn get_all(slots: usize, records: usize) -> Load {
     let records = vec![record(&format!("EXHGETALL {KEY}")); records];
     Load::of_records(
         format!("EXHGETALL of {slots}"),
-        store(slots, slots),
+        store(slots, slots, Order::Ascending),
         records,
     )
 }
@@ -108,15 +136,17 @@ pub fn set_many(slots: usize, pairs: usize, records: usize) -> Load {
         record(&format!("EXHMSET {KEY}{pairs}"))
     };
     let name = format!("EXHMSET of {pairs} pairs, {slots} slots held");
-    Load::of_records(name, store(slots, slots), (0..records).map(one).collect())
+    let store = store(slots, slots, Order::Ascending);
+    Load::of_records(name, store, (0..records).map(one).collect())
 }
 
 /// One field at a time.
-pub fn get(slots: usize, records: usize) -> Load {
+pub fn get(slots: usize, records: usize, order: Order) -> Load {
     let mut random = Random::new(5);
     let one = |_| record(&format!("EXHGET {KEY} {}", tag(random.below(slots))));
-    let name = format!("EXHGET, {slots} slots held");
-    Load::of_records(name, store(slots, slots), (0..records).map(one).collect())
+    let name = format!("EXHGET, {slots} slots held{}", order.label());
+    let store = store(slots, slots, order);
+    Load::of_records(name, store, (0..records).map(one).collect())
 }
 
 /// A record byte by byte, without its last byte: no call completes it.
@@ -126,7 +156,7 @@ pub fn single_bytes(slots: usize) -> Load {
     let pieces: Vec<Vec<u8>> = bytes.map(|byte| vec![*byte]).collect();
     Load {
         name: format!("one byte fed, {slots} slots held"),
-        store: store(slots, slots),
+        store: store(slots, slots, Order::Ascending),
         records: 0,
         divisor: pieces.len(),
         pieces,
@@ -138,9 +168,10 @@ fn tag(number: usize) -> String {
 }
 
 /// A store whose first slots hold a tag with value 1 and version 1.
-fn store(slots: usize, held: usize) -> Vec<u8> {
+fn store(slots: usize, held: usize, order: Order) -> Vec<u8> {
     let mut store = vec![0; HEADER + SLOT * slots];
-    for (number, slot) in store[HEADER..].chunks_mut(SLOT).take(held).enumerate() {
+    let numbers = order.numbers(held);
+    for (slot, number) in store[HEADER..].chunks_mut(SLOT).zip(numbers) {
         let field = tag(number);
         slot[..5].copy_from_slice(&[1, KEY.len() as u8, field.len() as u8, 1, 1]);
         slot[16..][..KEY.len()].copy_from_slice(KEY.as_bytes());

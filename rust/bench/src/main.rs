@@ -4,12 +4,12 @@
 
 mod load;
 
-use load::Load;
+use load::{Load, Order};
 use std::hint::black_box;
 use std::time::Instant;
 
 const ROUNDS: usize = 41;
-const SUMS: usize = 200;
+const READS: usize = 200;
 const REPLY_SIZE: usize = 56_000;
 
 /// An implementation's feeder.
@@ -123,15 +123,27 @@ fn median(numbers: impl Iterator<Item = f64>) -> f64 {
     numbers[numbers.len() / 2]
 }
 
-/// Nanoseconds to add up a store's bytes once, modulo 256, which reads them fastest.
-fn time_of_a_sum(store: &[u8]) -> f64 {
+/// The sum of bytes, modulo 256: the compiler makes vectors of it, so it reads them fastest.
+fn sum(bytes: &[u8]) -> u8 {
+    bytes.iter().fold(0, |sum, byte| sum.wrapping_add(*byte))
+}
+
+/// Fletcher's checksum, modulo 2^32: each byte is looked at by itself.
+fn checksum(bytes: &[u8]) -> (u32, u32) {
+    bytes.iter().fold((0, 0), |(sum, sums), byte| {
+        let sum = u32::wrapping_add(sum, u32::from(*byte));
+        (sum, u32::wrapping_add(sums, sum))
+    })
+}
+
+/// Nanoseconds to read a store's bytes once.
+fn time_of_reading<T>(store: &[u8], read: impl Fn(&[u8]) -> T) -> f64 {
     median((0..ROUNDS).map(|_| {
         let start = Instant::now();
-        for _ in 0..SUMS {
-            let bytes = black_box(store).iter();
-            black_box(bytes.fold(0, |sum: u8, byte| sum.wrapping_add(*byte)));
+        for _ in 0..READS {
+            black_box(read(black_box(store)));
         }
-        start.elapsed().as_nanos() as f64 / SUMS as f64
+        start.elapsed().as_nanos() as f64 / READS as f64
     }))
 }
 
@@ -146,8 +158,9 @@ fn print_row(name: &str, times: &Times) {
 
 fn print_loads(lent: &mut Lent) {
     let loads = [
-        load::day(100, 90, 500),
-        load::day(500, 500, 500),
+        load::day(100, 90, 500, Order::Ascending),
+        load::day(500, 500, 500, Order::Ascending),
+        load::day(500, 500, 500, Order::Shuffled),
         load::day_in_pieces(100, 90, 500),
         load::noise(100, 65_536),
         load::get_all(500, 100),
@@ -164,7 +177,7 @@ fn print_loads(lent: &mut Lent) {
 fn print_growth(lent: &mut Lent) {
     let mut at_50 = None;
     for slots in [10, 50, 100, 250, 500] {
-        let load = load::get(slots, 500);
+        let load = load::get(slots, 500, Order::Ascending);
         let times = times(&load, lent);
         print_row(&load.name, &times);
         match (slots, &at_50) {
@@ -178,17 +191,23 @@ fn print_growth(lent: &mut Lent) {
     }
 }
 
+/// One byte fed beside two ways to read the store's bytes once.
 fn print_single_byte(lent: &mut Lent) {
     let load = load::single_bytes(500);
+    let sum = time_of_reading(&load.store, sum);
+    let checksum = time_of_reading(&load.store, checksum);
     let Times { library, model, .. } = times(&load, lent);
-    let sum = time_of_a_sum(&load.store);
-    println!("\n| 500 slots held | ns | times the sum |\n|---|---|---|");
-    println!("| sum of the store's bytes | {sum:.1} | 1.0 |");
-    println!(
-        "| one byte fed, exhash | {library:.1} | {:.1} |",
-        library / sum
-    );
-    println!("| one byte fed, model | {model:.1} | {:.1} |", model / sum);
+    println!("\n| 500 slots held | ns | times the sum | times the checksum |\n|---|---|---|---|");
+    let rows = [
+        ("sum of the store's bytes, by vectors", sum),
+        ("checksum of the store's bytes, byte by byte", checksum),
+        ("one byte fed, exhash", library),
+        ("one byte fed, model", model),
+    ];
+    for (name, ns) in rows {
+        let (sums, checksums) = (ns / sum, ns / checksum);
+        println!("| {name} | {ns:.1} | {sums:.1} | {checksums:.2} |");
+    }
 }
 
 fn main() {
@@ -198,6 +217,8 @@ fn main() {
     };
     print_loads(&mut lent);
     print_growth(&mut lent);
+    let shuffled = load::get(500, 500, Order::Shuffled);
+    print_row(&shuffled.name, &times(&shuffled, &mut lent));
     print_single_byte(&mut lent);
     println!("\nMedians of {ROUNDS} rounds, in turns; the buffers are not cleared before a call.");
 }
