@@ -49,9 +49,10 @@ differ-quiet: $(LIBRARY)
 bench-rust: $(LIBRARY)
 	@$(CARGO) run --offline --quiet --release -p bench
 
-# What Redis clients see in the C example's replies; installs Debian's python3-redis.
-clients: c-example
-	@examples/clients/read_replies.py target/session
+# What Redis clients see in the replies of the demo's session; installs Debian's python3-redis and python3-hiredis.
+clients: $(LIBRARY)
+	@$(CARGO) build --offline --quiet --release -p exhash --example replies
+	@examples/clients/read_replies.py crates/demo/stdin rust/target/release/examples/replies
 
 # Writes crates/cases/stdin again.
 model-cases:

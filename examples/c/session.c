@@ -1,5 +1,4 @@
-/* Feeds a short session, cut in pieces of 7 bytes, to a store of 4 slots and prints each command with its reply.
-   With any argument it writes the replies alone, byte for byte. */
+/* Feeds a short session, cut in pieces of 7 bytes, to a store of 4 slots and prints each command with its reply. */
 #include "exhash.h"
 
 #include <stdio.h>
@@ -55,11 +54,10 @@ static void print_reply(const char *command, size_t reply_len)
             putchar(reply[i] == '\n' && i + 1 < reply_len ? ' ' : reply[i]);
 }
 
-int main(int argc, char **argv)
+int main(void)
 {
     size_t length = strlen((char *)stream), skipped = 0;
     int done = 0;
-    (void)argv;
     for (int i = 0; i < RECORDS; i++)
         length += put_record(stream + length, session[i].clock, session[i].command);
     exh_feeder feeder = exh_feeder_fresh();
@@ -68,17 +66,13 @@ int main(int argc, char **argv)
         exh_fed fed = exh_feed(feeder, stream + at, crumb, store, sizeof store, reply, sizeof reply);
         if (fed.refusal)
             return (int)fed.refusal;
-        if (fed.reply_len && argc > 1)
-            fwrite(reply, 1, fed.reply_len, stdout);
-        else if (fed.reply_len)
-            print_reply(session[done].command, fed.reply_len);
-        done += fed.reply_len > 0;
+        if (fed.reply_len)
+            print_reply(session[done++].command, fed.reply_len);
         skipped += fed.skipped;
         feeder = fed.feeder;
         at += fed.used;
     }
-    if (argc == 1)
-        printf("%d of %d records done, %u bytes skipped, %u waiting, store check %u\n", done, RECORDS,
-               (unsigned)skipped, (unsigned)feeder.count, (unsigned)exh_store_check(store, sizeof store));
+    printf("%d of %d records done, %u bytes skipped, %u waiting, store check %u\n", done, RECORDS,
+           (unsigned)skipped, (unsigned)feeder.count, (unsigned)exh_store_check(store, sizeof store));
     return 0;
 }

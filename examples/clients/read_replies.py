@@ -1,7 +1,8 @@
 #!/usr/bin/python3
-"""Reads the replies of the C example with the two parsers of redis-py, its own and hiredis, and prints what they saw.
+"""Reads the replies of the demo's session with the two parsers of redis-py, its own and hiredis, and prints what they saw.
 
-usage: read_replies.py SESSION, the program made from examples/c/session.c. Debian's packages are installed if missing.
+usage: read_replies.py SCRIPT PLAYER: the demo's script, and the program made from rust/exhash/examples/replies.rs, which plays it.
+Debian's packages are installed if missing.
 """
 import socket
 import subprocess
@@ -49,16 +50,17 @@ def replies(sent, parser):
 
 
 def main():
-    session = sys.argv[1]
-    lines = subprocess.run([session], check=True, capture_output=True, text=True).stdout.splitlines()
-    sent = subprocess.run([session, "raw"], check=True, capture_output=True).stdout
-    commands = lines[:-1]
+    script, player = sys.argv[1:]
+    with open(script) as lines:
+        presses = [line.rstrip("\n") for line in lines if line[0].isdigit()]
+    with open(script) as lines:
+        sent = subprocess.run([player], check=True, stdin=lines, capture_output=True).stdout
     own, fast = (replies(sent, parser) for parser in (PythonParser, HiredisParser))
-    if own != fast or len(own) != len(commands):
-        sys.exit("%d commands; redis-py saw %r, hiredis %r" % (len(commands), own, fast))
+    if own != fast or len(own) != len(presses):
+        sys.exit("%d records; redis-py saw %r, hiredis %r" % (len(presses), own, fast))
     print("redis-py %s, hiredis %s" % (redis.__version__, hiredis.__version__))
-    for command, reply in zip(commands, own):
-        print("%s  client: %r" % (command, reply))
+    for press, reply in zip(presses, own):
+        print("%-40s -> %r" % (press, reply))
 
 
 if __name__ == "__main__":
