@@ -1,19 +1,23 @@
 -- Laws of the tests of a slot's bytes, in the forms in which the code makes them.
-use mathlib.Core.Path.{_≡_, refl, sym, _∙_}
-use mathlib.Core.Bool.{Bool, true, false, _&&_, and-true}
+use mathlib.Core.Path.{_≡_, refl, sym, ap, _∙_}
+use mathlib.Core.Bool.{Bool, true, false, _&&_, and-true, and-assoc}
 use mathlib.Core.List.{List, [], _∷_, _++_}
-use Prim.Native.Nat.{ℕ, zero, suc, _+_, _-_, _*_, _≤_}
+use Prim.Native.Nat.{ℕ, zero, suc, _+_, _-_, _*_, _/_, _^_, _≤_}
 use native.Mathlib.Omega.{arith}
+use lib.Bits.{bitOr}
 use lib.Dec.{leb, eqb}
 use lib.ListN.{take, drop, getD}
 use lib.Seq.{drop-drop, take-nil}
 use borrow.Author.Tests.{eq-eqb, ne-eqb, le-leb, leb-true}
 use Rattle.wire.specs.Lists.{every, all}
-use Rattle.wire.specs.Bytes.{fromLE, part, allZero}
+use Rattle.wire.specs.Bytes.{Bytes, fromLE, part, allZero}
 use Rattle.wire.proofs.Lists.{every-at}
+use Rattle.wire.proofs.Bytes.{bytes-part, zero-split, fromLE-none}
+use Rattle.wire.proofs.Passing.{or-zero, fromLE-drop}
 use Rattle.store.specs.Layout.{stateAt, keyLengthAt, fieldLengthAt, valueLengthAt, emptyState, expiringState, expiryAt, expirySize, keyAt, keyMost, fieldAt, fieldMost, valueAt, valueMost, timeLimit}
 use Rattle.store.specs.Store.{zeroBeyond, heldWell, slotWell}
 use Rattle.store.specs.Promises.{lengthTests, expiryTests, placeTests}
+use Rattle.store.proofs.Pieces.{take-part}
 
 -- ---- tests in parts
 
@@ -56,11 +60,6 @@ module _ (t : List ℕ) where
       rw (le-leb (getD t stateAt 0) expiringState s, le-leb (getD t keyLengthAt 0) keyMost k, le-leb (getD t fieldLengthAt 0) fieldMost f)
       (and-true (leb (getD t valueLengthAt 0) valueMost))
 
-  pub places-last : zeroBeyond keyAt keyMost (getD t keyLengthAt 0) t ≡ true → zeroBeyond fieldAt fieldMost (getD t fieldLengthAt 0) t ≡ true
-      → every (placeTests t) ≡ zeroBeyond valueAt valueMost (getD t valueLengthAt 0) t
-  unfolding placeTests every
-  places-last k f = rw (k, f) (and-true (zeroBeyond valueAt valueMost (getD t valueLengthAt 0) t))
-
   -- lengths that pass their tests
   pub key-fits : every (lengthTests t) ≡ true → getD t keyLengthAt 0 ≤ keyMost
   unfolding lengthTests
@@ -73,19 +72,6 @@ module _ (t : List ℕ) where
   pub value-fits : every (lengthTests t) ≡ true → getD t valueLengthAt 0 ≤ valueMost
   unfolding lengthTests
   value-fits h = leb-true (getD t valueLengthAt 0) valueMost (every-at _ h 3)
-
--- ---- zero
-
--- bytes spell 0 exactly if all are zero
-pub fromLE-none : (s : List ℕ) → eqb (fromLE s) 0 ≡ allZero s
-unfolding fromLE allZero all
-fromLE-none [] = refl
-fromLE-none (zero ∷ s) = go (fromLE s) (fromLE-none s)
-  where
-    go : (n : ℕ) {z : Bool} → eqb n 0 ≡ z → eqb (0 + 256 * n) 0 ≡ z
-    go zero e = e
-    go (suc n) e = ne-eqb (0 + 256 * suc n) 0 (λ p. omega arith) ∙ sym (ne-eqb (suc n) 0 (λ p. omega arith)) ∙ e
-fromLE-none (suc b ∷ s) = rw (ne-eqb 0 (suc b) (λ p. omega arith)) (ne-eqb (suc b + 256 * fromLE s) 0 (λ p. omega arith))
 
 -- ---- an expiry
 
@@ -113,9 +99,54 @@ drop-take (suc m) zero s = let e : zero - suc m ≡ 0 = omega arith in rw e
 drop-take (suc m) (suc n) [] = sym (take-nil (suc n - suc m))
 drop-take (suc m) (suc n) (x ∷ s) = let e : suc n - suc m ≡ n - m = omega arith in rw e (drop-take m n s)
 
--- the bytes of a place beyond those used, as a part up to its end
-pub beyond-part : (at size used : ℕ) (t : List ℕ) → used ≤ size → zeroBeyond at size used t ≡ allZero (take (at + size - (at + used)) (drop (at + used) t))
-unfolding zeroBeyond part
-beyond-part at size used t h =
-    let e : at + size - (at + used) ≡ size - used = omega arith in
-    rw (drop-take used size (drop at t), drop-drop used at t, e)
+-- a number is 0 exactly if the bytes that spell it are zero
+pub spells-none : (x : ℕ) (s : List ℕ) → x ≡ fromLE s → eqb x 0 ≡ allZero s
+spells-none x s e = rw e (fromLE-none s)
+
+-- a word's bytes beyond those used are zero exactly if the number without its lowest bytes is
+pub word-beyond : (at used : ℕ) (t : List ℕ) → Bytes t → (x : ℕ) → x ≡ fromLE (part at 8 t) → eqb (x / 2 ^ (8 * used)) 0 ≡ zeroBeyond at 8 used t
+unfolding zeroBeyond
+word-beyond at used t b x e = rw (e, fromLE-drop used (part at 8 t) (bytes-part at 8 t b)) (fromLE-none (drop used (part at 8 t)))
+
+-- nothing is beyond a place that is used whole
+pub beyond-whole : (at size : ℕ) (t : List ℕ) → zeroBeyond at size size t ≡ true
+unfolding zeroBeyond part allZero all
+beyond-whole at size t =
+    let e : size - size ≡ 0 = omega arith in
+    rw (drop-take size size (drop at t), e)
+
+-- a place in two parts of m and n bytes
+module _ (at m n used : ℕ) (t : List ℕ) where
+  rest-part : drop m (part at (m + n) t) ≡ part (at + m) n t
+  unfolding part
+  rest-part =
+      let e : m + n - m ≡ n = omega arith in
+      rw (drop-take m (m + n) (drop at t), drop-drop m at t, e)
+
+  -- where the bytes used end in the first
+  beyond-first : used ≤ m → zeroBeyond at (m + n) used t ≡ zeroBeyond at m used t && allZero (part (at + m) n t)
+  unfolding zeroBeyond
+  beyond-first h =
+      let e : used + (m - used) ≡ m = omega arith in
+      let first : take (m - used) (drop used (part at (m + n) t)) ≡ drop used (part at m t) = sym (drop-take used m (part at (m + n) t)) ∙ ap (λ (s : List ℕ). drop used s) (take-part at m (m + n) t (omega arith)) in
+      let last : drop (m - used) (drop used (part at (m + n) t)) ≡ part (at + m) n t = drop-drop (m - used) used (part at (m + n) t) ∙ rw e rest-part in
+      zero-split (m - used) (drop used (part at (m + n) t)) ∙ rw (first, last)
+
+  -- where they end in the last
+  pub beyond-last : m ≤ used → zeroBeyond at (m + n) used t ≡ zeroBeyond (at + m) n (used - m) t
+  unfolding zeroBeyond
+  beyond-last h =
+      let e : m + (used - m) ≡ used = omega arith in
+      rw (← rest-part, drop-drop (used - m) m (part at (m + n) t), e)
+
+  -- the bits of both
+  pub beyond-bits : used ≤ m → (x y : ℕ) → eqb x 0 ≡ zeroBeyond at m used t → eqb y 0 ≡ allZero (part (at + m) n t) → eqb (bitOr x y) 0 ≡ zeroBeyond at (m + n) used t
+  beyond-bits h x y p q = or-zero x y ∙ rw (p, q) (sym (beyond-first h))
+
+-- the bits beyond the lengths of a slot's three places
+pub places-bits : (t : List ℕ) (k f v : ℕ) → eqb k 0 ≡ zeroBeyond keyAt keyMost (getD t keyLengthAt 0) t
+    → eqb f 0 ≡ zeroBeyond fieldAt fieldMost (getD t fieldLengthAt 0) t
+    → eqb v 0 ≡ zeroBeyond valueAt valueMost (getD t valueLengthAt 0) t
+    → eqb (bitOr (bitOr k f) v) 0 ≡ every (placeTests t)
+unfolding placeTests every
+places-bits t k f v p q r = rw (or-zero (bitOr k f) v, or-zero k f, ← p, ← q, ← r, and-true (eqb v 0)) (and-assoc (eqb k 0) (eqb f 0) (eqb v 0))

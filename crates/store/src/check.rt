@@ -8,19 +8,16 @@ use crate::layout::SLOT;
 use crate::layout::SLOTS;
 use crate::layout::VALUE;
 use crate::slot;
+use crate::slot::word;
 use wire::numbers::read_le;
 use wire::slices::all_zero;
 ghost use mathlib.Core.Path.{_≡_};
 ghost use Prim.Native.Nat.{_+_, _*_, _≤_};
 ghost use lib.ListN.{length, drop};
 ghost use Rattle.wire.specs.Lists.{all, any};
-ghost use Rattle.wire.specs.Bytes.{fromLE, part};
 ghost use Rattle.store.specs.Layout.{headerSize, slotSize};
 ghost use Rattle.store.specs.Store.{slotsIn, slotWell, holds, distinct, wellFormed};
 ghost use Rattle.store.specs.Promises.{countFor, headerWell, slotsOf, SlotsWell, nameOf, marksSize, seen, withMark, Turn, Turned};
-
-// A word of a name.
-const WORD: usize = 8;
 
 // The size of a table of marks of the names that were seen, of which there are two.
 const MARKS: usize = 4096;
@@ -81,15 +78,6 @@ fn named_from(store: &[u8], count: usize, from: usize, key: &[u8], field: &[u8])
         i += 1;
     }
     false
-}
-
-// The number that a word spells.
-fn word(s: &[u8], at: usize) -> u64
-    requires { ⌜ at + 8 ≤ length (now s) ⌝ }
-    ensures { λ r. ⌜ r ≡ fromLE (part at 8 (now (s .entry))) ⌝ }
-{
-    let end = at + WORD;
-    read_le(&s[at..end])
 }
 
 // A number of a slot's key and field: the same for the same ones.

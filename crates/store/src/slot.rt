@@ -23,13 +23,17 @@ use wire::slices::equal;
 ghost use mathlib.Core.Path.{_≡_};
 ghost use mathlib.Core.Bool.{true, false};
 ghost use Prim.Native.Nat.{_+_, _*_, _<_, _≤_};
+ghost use lib.Dec.{eqb};
 ghost use lib.ListN.{length, getD};
 ghost use Rattle.wire.specs.Lists.{every};
-ghost use Rattle.wire.specs.Bytes.{fromLE, part};
+ghost use Rattle.wire.specs.Bytes.{fromLE, part, allZero};
 ghost use Rattle.store.specs.Layout.{headerSize, slotSize, versionAt, versionSize};
 ghost use Rattle.store.specs.Store.{decodeSlot, decodeEntry, decodeExpiry, zeroBeyond, slotWell, holds};
 ghost use Rattle.store.specs.Time.{emptySlot, liveSlot, deadSlot, ofKey, liveOfKey};
 ghost use Rattle.store.specs.Promises.{SlotBytes, HeldBytes, lengthTests, expiryTests, placeTests};
+
+// The bytes of a word.
+const WORD: usize = 8;
 
 // The bytes of slot i.
 pub fn bytes(store: &[u8], i: usize) -> &[u8]
@@ -41,16 +45,92 @@ pub fn bytes(store: &[u8], i: usize) -> &[u8]
     &store[start..end]
 }
 
-// Whether the bytes of a place beyond those used are zero.
-fn zero_beyond(t: &[u8], at: usize, size: usize, used: usize) -> bool
-    requires { ⌜ length (now t) ≡ slotSize ⌝ }
-    requires { ⌜ used ≤ size ⌝ }
-    requires { ⌜ at + size ≤ slotSize ⌝ }
-    ensures { λ r. ⌜ r ≡ zeroBeyond at size used (now (t .entry)) ⌝ }
+// The number that a word spells.
+pub fn word(s: &[u8], at: usize) -> u64
+    requires { ⌜ at + 8 ≤ length (now s) ⌝ }
+    ensures { λ r. ⌜ r ≡ fromLE (part at 8 (now (s .entry))) ⌝ }
 {
-    let start = at + used;
-    let end = at + size;
-    all_zero(&t[start..end])
+    let end = at + WORD;
+    read_le(&s[at..end])
+}
+
+// The bits of a word beyond the bytes used, which are 0 exactly if those bytes are zero.
+fn padding_of_8(t: &[u8], at: usize, used: usize) -> u64
+    requires { ⌜ length (now t) ≡ slotSize ⌝ }
+    requires { ⌜ at + 8 ≤ slotSize ⌝ }
+    requires { ⌜ used ≤ 8 ⌝ }
+    ensures { λ r. ⌜ eqb r 0 ≡ zeroBeyond at 8 used (now (t .entry)) ⌝ }
+{
+    if used == WORD {
+        return 0;
+    }
+    let whole = word(t, at);
+    whole >> (8 * used)
+}
+
+// The bits of 16 bytes in one word, which is 0 exactly if they are zero.
+fn bits_of_16(t: &[u8], at: usize) -> u64
+    requires { ⌜ length (now t) ≡ slotSize ⌝ }
+    requires { ⌜ at + 16 ≤ slotSize ⌝ }
+    ensures { λ r. ⌜ eqb r 0 ≡ allZero (part at 16 (now (t .entry))) ⌝ }
+{
+    let low = word(t, at);
+    let high = word(t, at + 8);
+    low | high
+}
+
+// The bits of 32 bytes in one word, which is 0 exactly if they are zero.
+fn bits_of_32(t: &[u8], at: usize) -> u64
+    requires { ⌜ length (now t) ≡ slotSize ⌝ }
+    requires { ⌜ at + 32 ≤ slotSize ⌝ }
+    ensures { λ r. ⌜ eqb r 0 ≡ allZero (part at 32 (now (t .entry))) ⌝ }
+{
+    let low = bits_of_16(t, at);
+    let high = bits_of_16(t, at + 16);
+    low | high
+}
+
+// The bits of a place beyond the bytes used, in one word, by the half in which those end.
+fn padding_of_16(t: &[u8], at: usize, used: usize) -> u64
+    requires { ⌜ length (now t) ≡ slotSize ⌝ }
+    requires { ⌜ at + 16 ≤ slotSize ⌝ }
+    requires { ⌜ used ≤ 16 ⌝ }
+    ensures { λ r. ⌜ eqb r 0 ≡ zeroBeyond at 16 used (now (t .entry)) ⌝ }
+{
+    if used < 8 {
+        let low = padding_of_8(t, at, used);
+        let high = word(t, at + 8);
+        return low | high;
+    }
+    padding_of_8(t, at + 8, used - 8)
+}
+
+fn padding_of_32(t: &[u8], at: usize, used: usize) -> u64
+    requires { ⌜ length (now t) ≡ slotSize ⌝ }
+    requires { ⌜ at + 32 ≤ slotSize ⌝ }
+    requires { ⌜ used ≤ 32 ⌝ }
+    ensures { λ r. ⌜ eqb r 0 ≡ zeroBeyond at 32 used (now (t .entry)) ⌝ }
+{
+    if used < 16 {
+        let low = padding_of_16(t, at, used);
+        let high = bits_of_16(t, at + 16);
+        return low | high;
+    }
+    padding_of_16(t, at + 16, used - 16)
+}
+
+fn padding_of_64(t: &[u8], at: usize, used: usize) -> u64
+    requires { ⌜ length (now t) ≡ slotSize ⌝ }
+    requires { ⌜ at + 64 ≤ slotSize ⌝ }
+    requires { ⌜ used ≤ 64 ⌝ }
+    ensures { λ r. ⌜ eqb r 0 ≡ zeroBeyond at 64 used (now (t .entry)) ⌝ }
+{
+    if used < 32 {
+        let low = padding_of_32(t, at, used);
+        let high = bits_of_32(t, at + 32);
+        return low | high;
+    }
+    padding_of_32(t, at + 32, used - 32)
 }
 
 // Whether a held slot's state and lengths are.
@@ -88,13 +168,13 @@ fn places_well(t: &[u8]) -> bool
     requires { ⌜ every (lengthTests (now t)) ≡ true ⌝ }
     ensures { λ r. ⌜ r ≡ every (placeTests (now (t .entry))) ⌝ }
 {
-    if !zero_beyond(t, KEY, KEY_MOST, t[KEY_LENGTH] as usize) {
-        return false;
-    }
-    if !zero_beyond(t, FIELD, FIELD_MOST, t[FIELD_LENGTH] as usize) {
-        return false;
-    }
-    zero_beyond(t, VALUE, VALUE_MOST, t[VALUE_LENGTH] as usize)
+    let key_length = t[KEY_LENGTH] as usize;
+    let field_length = t[FIELD_LENGTH] as usize;
+    let value_length = t[VALUE_LENGTH] as usize;
+    let key = padding_of_16(t, KEY, key_length);
+    let field = padding_of_32(t, FIELD, field_length);
+    let value = padding_of_64(t, VALUE, value_length);
+    (key | field | value) == 0
 }
 
 // Whether a slot's bytes are well formed.

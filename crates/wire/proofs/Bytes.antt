@@ -1,5 +1,5 @@
 -- Laws of bytes, of numbers in them, and of lists that are the same.
-use mathlib.Core.Path.{_≡_, refl, sym, ap, ap₂}
+use mathlib.Core.Path.{_≡_, refl, sym, ap, ap₂, _∙_}
 use mathlib.Core.Bool.{Bool, true, false, false≢true, _&&_}
 use mathlib.Core.List.{List, [], _∷_, _++_, flatten}
 use Prim.Native.Nat.{ℕ, zero, suc, _+_, _-_, _*_, _/_, _%_, _^_, _≤_, _<_}
@@ -9,7 +9,7 @@ use lib.Dec.{ltb, eqb}
 use lib.Pow.{areBytes}
 use lib.ListN.{length, take, drop, getD, replicate, length-append, length-replicate, length-take, length-drop, take-append-drop}
 use lib.Seq.{take-append-seam, drop-append-seam}
-use borrow.Author.Tests.{ltb-true, lt-ltb, eqb-true, eqb-false, eq-eqb}
+use borrow.Author.Tests.{ltb-true, lt-ltb, eqb-true, eqb-false, eq-eqb, ne-eqb}
 use Rattle.wire.specs.Lists.{all}
 use Rattle.wire.specs.Bytes.{Bytes, fromLE, toLE, part, padded, allZero, same}
 use Rattle.wire.proofs.Lists.{and-left, and-right, and-both}
@@ -120,7 +120,7 @@ same-true (x ∷ xs) [] h = absurd (false≢true h)
 same-true (x ∷ xs) (y ∷ ys) h =
     ap₂ (λ (a : ℕ) (l : List ℕ). a ∷ l) (eqb-true x y (and-left (eqb x y) (same xs ys) h)) (same-true xs ys (and-right (eqb x y) (same xs ys) h))
 
-eqb-sym : (x y : ℕ) → eqb x y ≡ eqb y x
+pub eqb-sym : (x y : ℕ) → eqb x y ≡ eqb y x
 eqb-sym x y = go (eqb x y) refl (eqb y x) refl
   where
     go : (t : Bool) → eqb x y ≡ t → (u : Bool) → eqb y x ≡ u → t ≡ u
@@ -155,13 +155,6 @@ zero-drop zero s h = h
 zero-drop (suc m) [] h = h
 zero-drop (suc m) (b ∷ s) h = zero-drop m s (and-right (eqb 0 b) (allZero s) h)
 
-pub zero-take : (m : ℕ) (s : List ℕ) → allZero s ≡ true → allZero (take m s) ≡ true
-unfolding allZero all
-zero-take zero s h = refl
-zero-take (suc m) [] h = refl
-zero-take (suc m) (b ∷ s) h =
-    and-both (and-left (eqb 0 b) (allZero s) h) (zero-take m s (and-right (eqb 0 b) (allZero s) h))
-
 pub zero-split : (m : ℕ) (s : List ℕ) → allZero s ≡ allZero (take m s) && allZero (drop m s)
 unfolding allZero all
 zero-split zero s = refl
@@ -176,6 +169,17 @@ pub fromLE-zero : (n : ℕ) → fromLE (replicate n 0) ≡ 0
 unfolding fromLE
 fromLE-zero zero = refl
 fromLE-zero (suc n) = rw (fromLE-zero n)
+
+-- bytes spell 0 exactly if all are zero
+pub fromLE-none : (s : List ℕ) → eqb (fromLE s) 0 ≡ allZero s
+unfolding fromLE allZero all
+fromLE-none [] = refl
+fromLE-none (zero ∷ s) = go (fromLE s) (fromLE-none s)
+  where
+    go : (n : ℕ) {z : Bool} → eqb n 0 ≡ z → eqb (0 + 256 * n) 0 ≡ z
+    go zero e = e
+    go (suc n) e = ne-eqb (0 + 256 * suc n) 0 (λ p. omega arith) ∙ sym (ne-eqb (suc n) 0 (λ p. omega arith)) ∙ e
+fromLE-none (suc b ∷ s) = rw (ne-eqb 0 (suc b) (λ p. omega arith)) (ne-eqb (suc b + 256 * fromLE s) 0 (λ p. omega arith))
 
 -- ---- padding
 

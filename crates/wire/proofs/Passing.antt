@@ -1,20 +1,20 @@
--- Laws of loops that pass over bytes: two lists compared, bits and blocks that tell whether all are zero, a number read and written.
+-- Laws of loops that pass over bytes: two lists compared, bits that tell whether all are zero, a number read and written.
 use mathlib.Core.Path.{_≡_, refl, sym, ap, _∙_}
-use mathlib.Core.Bool.{Bool, true, false, false≢true, _&&_}
+use mathlib.Core.Bool.{Bool, true, false, _&&_, and-true, and-assoc}
 use mathlib.Core.List.{List, [], _∷_, _++_}
 use Prim.Native.Nat.{ℕ, zero, suc, _+_, _-_, _*_, _/_, _%_, _^_, _≤_, _<_}
-use native.Mathlib.Nat.{mul-le-mul-right}
+use native.Mathlib.Nat.{mul-le-mul-right, div-one, zero-div, div-div-eq-div-mul}
 use native.Mathlib.Numerals.{add-one}
 use native.Mathlib.Omega.{arith}
 use lib.Bits.{bitOr, or-zero-l, or-add-and, and-le-r}
 use lib.Dec.{eqb}
-use lib.ListN.{length, take, drop, getD, length-drop, drop-of-length-le}
+use lib.ListN.{length, take, drop, getD, drop-of-length-le}
 use lib.Pow.{pow-add, pow-mono, shl-exact}
-use lib.Seq.{take-all, take-suc, drop-cons, drop-length, drop-drop, length-take-le}
+use lib.Seq.{take-all, take-suc, drop-cons, drop-length, length-take-le}
 use borrow.Author.Tests.{eq-eqb, ne-eqb}
 use Rattle.wire.specs.Lists.{all}
-use Rattle.wire.specs.Bytes.{fromLE, toLE, allZero, same}
-use Rattle.wire.proofs.Bytes.{same-true, same-refl, zero-take, zero-drop, zero-split, length-toLE}
+use Rattle.wire.specs.Bytes.{Bytes, fromLE, toLE, allZero, same}
+use Rattle.wire.proofs.Bytes.{bytes-head, bytes-tail, same-true, same-refl, eqb-sym, length-toLE}
 
 -- ---- two lists compared
 
@@ -86,12 +86,10 @@ pub record Gathering (s : List ℕ) (bits i : ℕ) : Type 0 where
 pub gather-begins : (s : List ℕ) → Gathering s 0 0
 gather-begins s = record { inside = omega arith; zeros = refl }
 
-or-none : (m n : ℕ) (t : Bool) → eqb m 0 && (eqb 0 n && t) ≡ eqb (bitOr m n) 0 && t
-or-none zero zero t = refl
-or-none zero (suc n) t =
-    let some : bitOr 0 (suc n) ≡ 0 → ⊥ = λ e. omega (arith, e, or-zero-l (suc n)) in
-    rw (ne-eqb 0 (suc n) (λ e. omega arith), ne-eqb (bitOr 0 (suc n)) 0 some)
-or-none (suc m) n t =
+-- The bits of two numbers are zero exactly if both are.
+pub or-zero : (m n : ℕ) → eqb (bitOr m n) 0 ≡ eqb m 0 && eqb n 0
+or-zero zero n = rw (or-zero-l n)
+or-zero (suc m) n =
     let some : bitOr (suc m) n ≡ 0 → ⊥ = λ e. omega (arith, e, or-add-and (suc m) n, and-le-r (suc m) n) in
     rw (ne-eqb (suc m) 0 (λ e. omega arith), ne-eqb (bitOr (suc m) n) 0 some)
 
@@ -99,55 +97,12 @@ pub gather-goes-on : (s : List ℕ) (bits i : ℕ) → Gathering s bits i → i 
 unfolding allZero all
 gather-goes-on s bits i f l = record {
   inside = omega arith;
-  zeros = rw (f .zeros, drop-cons s i 0 l, add-one) (or-none bits (getD s i 0) (all (eqb 0) (drop (suc i) s)));
+  zeros = rw (f .zeros, drop-cons s i 0 l, add-one, or-zero bits (getD s i 0), eqb-sym (getD s i 0) 0) (sym (and-assoc (eqb bits 0) (eqb 0 (getD s i 0)) (all (eqb 0) (drop (suc i) s))));
 }
 
 pub gather-ends : (s : List ℕ) (bits i : ℕ) → Gathering s bits i → length s ≤ i → eqb bits 0 ≡ allZero s
 unfolding allZero all
-gather-ends s bits i f h = rw (f .zeros, drop-of-length-le s h) (go (eqb bits 0))
-  where
-    go : (t : Bool) → t ≡ t && true
-    go true = refl
-    go false = refl
-
--- ---- blocks that tell whether all are zero
-
--- Whether all are zero is left to the bytes from i on.
-pub record Blocking (s : List ℕ) (i : ℕ) : Type 0 where
-  pub zeros : allZero s ≡ allZero (drop i s)
-
-pub block-begins : (s : List ℕ) → Blocking s 0
-block-begins s = record { zeros = refl }
-
--- A block from i on is zero.
-pub block-goes-on : (s : List ℕ) (i e : ℕ) → Blocking s i → i ≤ e → allZero (take (e - i) (drop i s)) ≡ true → Blocking s e
-block-goes-on s i e f l h =
-    let k : i + (e - i) ≡ e = omega arith in
-    record { zeros = f .zeros ∙ zero-split (e - i) (drop i s) ∙ rw (h, drop-drop (e - i) i s, k) }
-
--- A block is not.
-pub block-fails : (s : List ℕ) (i n : ℕ) → allZero (take n (drop i s)) ≡ false → allZero s ≡ false
-block-fails s i n h = go (allZero s) refl
-  where
-    go : (t : Bool) → allZero s ≡ t → t ≡ false
-    go true p = absurd (false≢true (sym h ∙ zero-take n (drop i s) (zero-drop i s p)))
-    go false p = refl
-
--- The last block, which may begin before i, tells it.
-pub block-ends : (s : List ℕ) (i last e : ℕ) → Blocking s i → last ≤ i → length s ≤ e → allZero (take (e - last) (drop last s)) ≡ allZero s
-block-ends s i last e f l h = go (allZero (take (e - last) (drop last s))) refl
-  where
-    whole : take (e - last) (drop last s) ≡ drop last s
-    whole = take-all (e - last) (drop last s) (rw length-drop (omega arith))
-
-    later : drop (i - last) (drop last s) ≡ drop i s
-    later =
-        let k : last + (i - last) ≡ i = omega arith in
-        drop-drop (i - last) last s ∙ ap (λ (m : ℕ). drop m s) k
-
-    go : (t : Bool) → allZero (take (e - last) (drop last s)) ≡ t → t ≡ allZero s
-    go true p = sym (f .zeros ∙ rw (← later) (zero-drop (i - last) (drop last s) (rw (← whole) p)))
-    go false p = sym (block-fails s last (e - last) p)
+gather-ends s bits i f h = rw (f .zeros, drop-of-length-le s h) (sym (and-true (eqb bits 0)))
 
 -- ---- a number, low byte first
 
@@ -161,6 +116,16 @@ pub fromLE-snoc : (s : List ℕ) (b : ℕ) → fromLE (s ++ (b ∷ [])) ≡ from
 unfolding fromLE
 fromLE-snoc [] b = omega arith
 fromLE-snoc (a ∷ s) b = rw (fromLE-snoc s b, pow-byte (length s)) (omega arith)
+
+-- Without its lowest bytes a number is what the others spell.
+pub fromLE-drop : (n : ℕ) (s : List ℕ) → Bytes s → fromLE s / 2 ^ (8 * n) ≡ fromLE (drop n s)
+unfolding fromLE
+fromLE-drop zero s h = div-one (fromLE s)
+fromLE-drop (suc n) [] h = zero-div (2 ^ (8 * suc n))
+fromLE-drop (suc n) (b ∷ s) h =
+    let l : b < 256 = bytes-head b s h in
+    let high : (b + 256 * fromLE s) / 256 ≡ fromLE s = omega arith in
+    rw (pow-byte n, ← div-div-eq-div-mul (b + 256 * fromLE s) 256 (2 ^ (8 * n)), high) (fromLE-drop n s (bytes-tail b s h))
 
 -- The first i bytes are read.
 pub record Reading (s : List ℕ) (x i : ℕ) : Type 0 where

@@ -5,13 +5,6 @@ ghost use lib.ListN.{length, replicate};
 ghost use Rattle.wire.specs.Bytes.{same, allZero};
 ghost use Rattle.wire.specs.Reply.{laidOver};
 
-// How many bytes a test for zero takes at a time, and up to which length it goes by them.
-const WORD: usize = 8;
-
-const BLOCK: usize = 16;
-
-const SHORT: usize = 64;
-
 // Whether two slices hold the same bytes. They are compared from the last, since names tend to differ there.
 pub fn equal(a: &[u8], b: &[u8]) -> bool
     ensures { λ r. ⌜ r ≡ same (now (a .entry)) (now (b .entry)) ⌝ }
@@ -30,7 +23,8 @@ pub fn equal(a: &[u8], b: &[u8]) -> bool
 }
 
 // Whether every byte is zero. Their bits are gathered, with no early end, so that the loop can run on vectors.
-fn no_bits(s: &[u8]) -> bool
+pub fn all_zero(s: &[u8]) -> bool
+    requires { ⌜ length (now s) ≤ 65536 ⌝ }
     ensures { λ r. ⌜ r ≡ allZero (now (s .entry)) ⌝ }
 {
     let mut bits: u8 = 0;
@@ -40,55 +34,6 @@ fn no_bits(s: &[u8]) -> bool
         i += 1;
     }
     bits == 0
-}
-
-// Whether every byte is zero, by whole words: the first and the last, which overlap.
-fn words_zero(s: &[u8]) -> bool
-    requires { ⌜ 8 ≤ length (now s) ⌝ }
-    requires { ⌜ length (now s) ≤ 16 ⌝ }
-    ensures { λ r. ⌜ r ≡ allZero (now (s .entry)) ⌝ }
-{
-    if !no_bits(&s[0..WORD]) {
-        return false;
-    }
-    let last = s.len() - WORD;
-    let end = last + WORD;
-    no_bits(&s[last..end])
-}
-
-// Whether every byte is zero, by whole blocks, of which the last overlaps the one before.
-fn blocks_zero(s: &[u8]) -> bool
-    requires { ⌜ 16 ≤ length (now s) ⌝ }
-    ensures { λ r. ⌜ r ≡ allZero (now (s .entry)) ⌝ }
-{
-    let last = s.len() - BLOCK;
-    let mut i = 0;
-    while i < last {
-        let next = i + BLOCK;
-        if !no_bits(&s[i..next]) {
-            return false;
-        }
-        i = next;
-    }
-    let end = last + BLOCK;
-    no_bits(&s[last..end])
-}
-
-// Whether every byte is zero. Short slices, which are most of a store, have no loop over single bytes from 8 bytes on.
-pub fn all_zero(s: &[u8]) -> bool
-    requires { ⌜ length (now s) ≤ 65536 ⌝ }
-    ensures { λ r. ⌜ r ≡ allZero (now (s .entry)) ⌝ }
-{
-    if SHORT < s.len() {
-        return no_bits(s);
-    }
-    if BLOCK <= s.len() {
-        return blocks_zero(s);
-    }
-    if WORD <= s.len() {
-        return words_zero(s);
-    }
-    no_bits(s)
 }
 
 // Copies all of `from` to the start of `to`; the bytes beyond keep their contents.

@@ -4,8 +4,8 @@ use denote.Ref.{now}
 use Rattle.wire.specs.Bytes.{fromLE}
 use Rattle.store.proofs.SlotParts.{part-of}
 use borrow.Author.Needs.{needs}
-use Rattle.store.proofs.check.word.Statement.{statement}
-use Rattle.store.proofs.check.word.Tie as tie
+use Rattle.store.proofs.slot.word.Statement.{statement}
+use Rattle.store.proofs.slot.word.Tie as tie
 
 add-end : tie.Need-add-end
 add-end c = search needs

@@ -2,8 +2,8 @@ use Prim.Native.Nat.{_-_}
 use native.Mathlib.Omega.{arith}
 use lib.ListN.{length}
 use Rattle.wire.proofs.Passing.{Gathering, gather-begins, gather-goes-on, gather-ends}
-use Rattle.wire.proofs.slices.no_bits.Statement.{statement}
-use Rattle.wire.proofs.slices.no_bits.Tie as tie
+use Rattle.wire.proofs.slices.all_zero.Statement.{statement}
+use Rattle.wire.proofs.slices.all_zero.Tie as tie
 
 abbrev Inv-loop : tie.InvT-loop
 Inv-loop s bits₀ i₀ bits i = Gathering s bits i
@@ -29,8 +29,8 @@ loop-again c = gather-goes-on _ _ _ (c .before .before .loop .inv) (c .before .l
 returns : tie.Need-returns Inv-loop μ-loop
 returns c = gather-ends _ _ _ (c .before .loop .inv) (c .loop-test .left)
 
-pub no-bits-spec : {M : Type 1} → statement M
-no-bits-spec =
+pub all-zero-spec : {M : Type 1} → statement M
+all-zero-spec =
     tie.close
     (tie.spec
     Inv-loop
