@@ -82,15 +82,19 @@ pub record SlotsWell (count : ℕ) (b : List ℕ) : Type 0 where
   pub bytes : Bytes b
   pub well : all slotWell (slotsIn count (drop headerSize b)) ≡ true
 
+-- a word rotated to the left by k bits
+unfoldable pub rotated : ℕ → ℕ → ℕ
+rotated k n = bitOr (n * 2 ^ k % 2 ^ 64) (n / 2 ^ (64 - k))
+
 -- the words of a key and of a field, padded to their places, each as one
 unfoldable pub keyWord : List ℕ → ℕ
-keyWord k = bitXor (fromLE (part 0 8 k)) (fromLE (part 8 8 k) % 2 ^ 60 * 16)
+keyWord k = bitXor (fromLE (part 0 8 k)) (rotated 4 (fromLE (part 8 8 k)))
 
 unfoldable pub fieldWord : List ℕ → ℕ
 fieldWord f =
     bitXor
-    (bitXor (fromLE (part 0 8 f)) (fromLE (part 8 8 f) % 2 ^ 60 * 16))
-    (bitXor (fromLE (part 16 8 f) % 2 ^ 62 * 4) (fromLE (part 24 8 f) % 2 ^ 58 * 64))
+    (bitXor (fromLE (part 0 8 f)) (rotated 4 (fromLE (part 8 8 f))))
+    (bitXor (rotated 2 (fromLE (part 16 8 f))) (rotated 6 (fromLE (part 24 8 f))))
 
 -- two words as one number: the sum of their halves, each times its factor, with what is high in it brought down
 unfoldable pub halvesSum : ℕ → ℕ → ℕ

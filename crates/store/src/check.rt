@@ -17,7 +17,7 @@ ghost use Rattle.wire.specs.Lists.{all, any};
 ghost use Rattle.wire.specs.Bytes.{fromLE, part};
 ghost use Rattle.store.specs.Layout.{headerSize, slotSize, keyMost, fieldMost};
 ghost use Rattle.store.specs.Store.{slotsIn, slotWell, holds, distinct, wellFormed};
-ghost use Rattle.store.specs.Promises.{countFor, headerWell, slotsOf, SlotsWell, keyWord, fieldWord, spreadOf, nameOf, marksSize, hasBit, withBit, seen, withMark, Turn, Turned};
+ghost use Rattle.store.specs.Promises.{countFor, headerWell, slotsOf, SlotsWell, rotated, keyWord, fieldWord, spreadOf, nameOf, marksSize, hasBit, withBit, seen, withMark, Turn, Turned};
 
 // A word of a name.
 const WORD: usize = 8;
@@ -93,12 +93,21 @@ fn word(s: &[u8], at: usize) -> u64
     read_le(&s[at..end])
 }
 
-// A key's words as one. The second is shifted, so that equal ones do not cancel each other.
+// A word rotated to the left.
+fn rotate(n: u64, k: usize) -> u64
+    requires { ⌜ 1 ≤ k ⌝ }
+    requires { ⌜ k < 64 ⌝ }
+    ensures { λ r. ⌜ r ≡ rotated k n ⌝ }
+{
+    n << k | n >> (64 - k)
+}
+
+// A key's words as one. The second is rotated, so that equal ones do not cancel each other.
 fn key_word(key: &[u8]) -> u64
     requires { ⌜ length (now key) ≡ keyMost ⌝ }
     ensures { λ r. ⌜ r ≡ keyWord (now (key .entry)) ⌝ }
 {
-    word(key, 0) ^ word(key, 8) % 0x1000_0000_0000_0000 * 16
+    word(key, 0) ^ rotate(word(key, 8), 4)
 }
 
 // A field's words as one.
@@ -106,9 +115,8 @@ fn field_word(field: &[u8]) -> u64
     requires { ⌜ length (now field) ≡ fieldMost ⌝ }
     ensures { λ r. ⌜ r ≡ fieldWord (now (field .entry)) ⌝ }
 {
-    let low = word(field, 0) ^ word(field, 8) % 0x1000_0000_0000_0000 * 16;
-    let high = word(field, 16) % 0x4000_0000_0000_0000 * 4
-        ^ word(field, 24) % 0x400_0000_0000_0000 * 64;
+    let low = word(field, 0) ^ rotate(word(field, 8), 4);
+    let high = rotate(word(field, 16), 2) ^ rotate(word(field, 24), 6);
     low ^ high
 }
 

@@ -9,24 +9,24 @@ word-requires c κs = search needs
 word-requires-2 : tie.Need-word-requires-2
 word-requires-2 c κs = search needs
 
-mul-low : tie.Need-mul-low
-mul-low c = search needs
+rotate-requires : tie.Need-rotate-requires
+rotate-requires c κs = search needs
 
 word-requires-3 : tie.Need-word-requires-3
 word-requires-3 c κs = search needs
 
-mul-high : tie.Need-mul-high
-mul-high c = search needs
+rotate-requires-2 : tie.Need-rotate-requires-2
+rotate-requires-2 c κs = search needs
 
 word-requires-4 : tie.Need-word-requires-4
 word-requires-4 c κs = search needs
 
-mul-high-2 : tie.Need-mul-high-2
-mul-high-2 c = search needs
+rotate-requires-3 : tie.Need-rotate-requires-3
+rotate-requires-3 c κs = search needs
 
 returns : tie.Need-returns
 unfolding fieldWord
-returns c = rw (c .before .before .before .word .ensures, c .before .before .word2 .ensures, c .before .word3 .ensures, c .word4 .ensures)
+returns c = rw (c .before .before .before .before .before .before .word .ensures, c .before .before .before .before .rotate .ensures, c .before .before .before .before .before .word2 .ensures, c .before .before .rotate2 .ensures, c .before .before .before .word3 .ensures, c .rotate3 .ensures, c .before .word4 .ensures)
 
 pub field-word-spec : {M : Type 1} → statement M
 field-word-spec =
@@ -34,9 +34,9 @@ field-word-spec =
     (tie.spec
     word-requires
     word-requires-2
-    mul-low
+    rotate-requires
     word-requires-3
-    mul-high
+    rotate-requires-2
     word-requires-4
-    mul-high-2
+    rotate-requires-3
     returns)

@@ -9,12 +9,12 @@ word-requires c κs = search needs
 word-requires-2 : tie.Need-word-requires-2
 word-requires-2 c κs = search needs
 
-mul-result : tie.Need-mul-result
-mul-result c = search needs
+rotate-requires : tie.Need-rotate-requires
+rotate-requires c κs = search needs
 
 returns : tie.Need-returns
 unfolding keyWord
-returns c = rw (c .before .word .ensures, c .word2 .ensures)
+returns c = rw (c .before .before .word .ensures, c .rotate .ensures, c .before .word2 .ensures)
 
 pub key-word-spec : {M : Type 1} → statement M
-key-word-spec = tie.close (tie.spec word-requires word-requires-2 mul-result returns)
+key-word-spec = tie.close (tie.spec word-requires word-requires-2 rotate-requires returns)
