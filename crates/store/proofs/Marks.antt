@@ -1,12 +1,16 @@
 -- Laws of the marks of names: a name that was seen has its marks, so that a slot whose name has none clashes with no slot seen before.
-use mathlib.Core.Path.{_≡_, refl, sym, ap, subst, _∙_}
+use mathlib.Core.Path.{_≡_, refl, sym, ap, ap₂, subst, _∙_}
 use mathlib.Core.Bool.{Bool, true, false, cond, not, and-true}
 use mathlib.Core.List.{List, [], _∷_}
 use mathlib.Core.Option.{none, some, Option·none-ne-some}
-use Prim.Native.Nat.{ℕ, zero, suc, _+_, _-_, _≤_, _<_}
+use Prim.Native.Nat.{ℕ, zero, suc, _+_, _-_, _*_, _/_, _%_, _^_, _≤_, _<_, max}
+use native.Mathlib.Nat.{one-mul}
 use native.Mathlib.Omega.{arith}
-use lib.Dec.{eqb}
+use lib.Arith.{bin-ind, digits-mod}
+use lib.Bits.{bitOr, or-step, or-comm, or-self, or-shr}
+use lib.Dec.{eqb, lit<}
 use lib.ListN.{length, drop, getD, set, length-set, length-drop, drop-of-length-le}
+use lib.Pow.{shl-exact}
 use lib.Seq.{drop-cons, getD-drop, getD-set-same}
 use borrow.Author.Tests.{eq-eqb, ne-eqb, eqb-true, eqb-false}
 use Rattle.wire.specs.Lists.{any, orElse}
@@ -15,7 +19,7 @@ use Rattle.wire.proofs.Lists.{any-none, and-right, both-ways}
 use Rattle.store.specs.Layout.{stateAt, emptyState, keyMost, fieldMost}
 use Rattle.store.specs.Store.{Entry, Slot, decodeEntry, decodeSlot, encodeEntry, encodeSlot, holds, clash, distinct}
 use Rattle.store.specs.Time.{emptySlot}
-use Rattle.store.specs.Promises.{SlotBytes, HeldBytes, slotAt, slotsOf, SlotsWell, nameNumber, nameOf, marksSize, firstMark, secondMark, seen, withMark, withSlotMark, HasMarks, Marked, Turn, Turned}
+use Rattle.store.specs.Promises.{SlotBytes, HeldBytes, slotAt, slotsOf, SlotsWell, keyWord, fieldWord, halvesSum, spreadOf, nameOf, marksSize, hasBit, withBit, firstMark, secondMark, seen, withMark, withSlotMark, HasMarks, Marked, Turn, Turned}
 use Rattle.store.proofs.Valid.{Fits, FitsSlot}
 use Rattle.store.proofs.Slots.{Named, holds-named, none-clash, clash-none}
 use Rattle.store.proofs.SlotBytes.{key-bytes, field-bytes}
@@ -35,7 +39,7 @@ module _ (t : List ℕ) (w : SlotBytes t) (e : Entry) (h : decodeSlot t ≡ some
   entry-back = ap encodeSlot (sym h) ∙ encode-decodeSlot t (w .size) (w .bytes) (w .well)
 
   -- a slot's name is that of its entry's key and field
-  name-entry : nameOf t ≡ nameNumber (padded keyMost (e .key)) (padded fieldMost (e .field))
+  name-entry : nameOf t ≡ spreadOf (keyWord (padded keyMost (e .key))) (fieldWord (padded fieldMost (e .field)))
   unfolding nameOf
   name-entry = rw (← entry-back, key-bytes e entry-fits, field-bytes e entry-fits)
 
@@ -47,22 +51,92 @@ clash-name t u v w d e p q h =
     let n : Named (d .key) (d .field) e = holds-named (d .key) (d .field) e h in
     rw (name-entry t v d p, name-entry u w e q, n .key, n .field)
 
+-- the halves of two words, each times its factor, add up to a word
+halves-low : (x : ℕ) → x < 2 ^ 64 → x % 2 ^ 32 * 0x1e3779b1 + x / 2 ^ 32 * 0x2545f491 < 2 ^ 63
+halves-low x l = omega arith
+
+halves-high : (y : ℕ) → y < 2 ^ 64 → y % 2 ^ 32 * 0x3c6ef373 + y / 2 ^ 32 * 0x3f1bbcdd < 2 ^ 63
+halves-high y l = omega arith
+
+add-fit : {a b : ℕ} → a < 2 ^ 63 → b < 2 ^ 63 → a + b < 2 ^ 64
+add-fit l k = omega arith
+
+pub halves-fit : (x y : ℕ) → x < 2 ^ 64 → y < 2 ^ 64 → halvesSum x y < 2 ^ 64
+unfolding halvesSum
+halves-fit x y l k = add-fit (halves-low x l) (halves-high y k)
+
+-- ---- bits
+
+-- the lowest bit of two numbers' bits together
+or-low : (a b : ℕ) → bitOr a b % 2 ≡ max (a % 2) (b % 2)
+or-low a b = ap (λ (x : ℕ). x % 2) (or-step a b) ∙ digits-mod (bitOr (a / 2) (b / 2)) (omega arith)
+
+max-join : (a b c : ℕ) → max (max a b) c ≡ max a (max b c)
+max-join a b c = omega arith
+
+-- bits together, in any order
+or-join : (a b c : ℕ) → bitOr (bitOr a b) c ≡ bitOr a (bitOr b c)
+or-join a = bin-ind (λ (n : ℕ). (b c : ℕ) → bitOr (bitOr n b) c ≡ bitOr n (bitOr b c)) (λ b c. refl) next a
+  where
+    next : (n : ℕ) → ((b c : ℕ) → bitOr (bitOr (n / 2) b) c ≡ bitOr (n / 2) (bitOr b c)) → (b c : ℕ) → bitOr (bitOr n b) c ≡ bitOr n (bitOr b c)
+    next n h b c =
+        let high : bitOr (bitOr n b / 2) (c / 2) ≡ bitOr (n / 2) (bitOr b c / 2)
+        = ap (λ (x : ℕ). bitOr x (c / 2)) (or-shr n b 1) ∙ h (b / 2) (c / 2) ∙ ap (bitOr (n / 2)) (sym (or-shr b c 1)) in
+        let low : max (bitOr n b % 2) (c % 2) ≡ max (n % 2) (bitOr b c % 2)
+        = ap (λ (x : ℕ). max x (c % 2)) (or-low n b) ∙ max-join (n % 2) (b % 2) (c % 2) ∙ ap (max (n % 2)) (sym (or-low b c)) in
+        or-step (bitOr n b) c ∙ ap₂ (λ (x y : ℕ). x * 2 + y) high low ∙ sym (or-step n (bitOr b c))
+
+-- bits that are set stay when others are set
+or-keeps : (a x y : ℕ) → bitOr a x ≡ a → bitOr (bitOr a y) x ≡ bitOr a y
+or-keeps a x y h = or-join a y x ∙ ap (bitOr a) (or-comm y x) ∙ sym (or-join a x y) ∙ ap (λ (z : ℕ). bitOr z y) h
+
+set-keeps : (m : List ℕ) (i j x y : ℕ) → bitOr (getD m j 0) x ≡ getD m j 0
+    → bitOr (getD (set m i (bitOr (getD m i 0) y)) j 0) x ≡ getD (set m i (bitOr (getD m i 0) y)) j 0
+set-keeps [] i j x y h = h
+set-keeps (a ∷ m) zero zero x y h = or-keeps a x y h
+set-keeps (a ∷ m) zero (suc j) x y h = h
+set-keeps (a ∷ m) (suc i) zero x y h = h
+set-keeps (a ∷ m) (suc i) (suc j) x y h = set-keeps m i j x y h
+
+-- a 1 shifted to a place of a byte
+bit-byte : (a : ℕ) → 1 * 2 ^ (a % 8) % 256 ≡ 2 ^ (a % 8)
+bit-byte a = shl-exact 1 (a % 8) 8 (lit< tt) (omega arith) ∙ one-mul (2 ^ (a % 8))
+
+module _ (a : ℕ) (m : List ℕ) where
+  -- whether a bit is set, and the marks with it, by a shifted 1
+  pub bit-told : eqb (bitOr (getD m (a / 8) 0) (1 * 2 ^ (a % 8) % 256)) (getD m (a / 8) 0) ≡ hasBit a m
+  unfolding hasBit
+  bit-told = rw (bit-byte a)
+
+  pub bit-written : set m (a / 8) (bitOr (getD m (a / 8) 0) (1 * 2 ^ (a % 8) % 256)) ≡ withBit a m
+  unfolding withBit
+  bit-written = rw (bit-byte a)
+
+  -- a bit that is set stays
+  bit-keeps : (b : ℕ) → hasBit b m ≡ true → hasBit b (withBit a m) ≡ true
+  unfolding hasBit withBit
+  bit-keeps b h = eq-eqb _ _ (set-keeps m (a / 8) (b / 8) (2 ^ (b % 8)) (2 ^ (a % 8)) (eqb-true _ _ h))
+
+  -- one that was set is
+  bit-has : a / 8 < length m → hasBit a (withBit a m) ≡ true
+  unfolding hasBit withBit
+  bit-has l =
+      rw (getD-set-same m (a / 8) (bitOr (getD m (a / 8) 0) (2 ^ (a % 8))) 0 l)
+      (eq-eqb _ _ (or-join (getD m (a / 8) 0) (2 ^ (a % 8)) (2 ^ (a % 8)) ∙ ap (bitOr (getD m (a / 8) 0)) (or-self (2 ^ (a % 8)))))
+
+  -- and there are as many
+  length-bit : length (withBit a m) ≡ length m
+  unfolding withBit
+  length-bit = rw length-set
+
 -- ---- one mark more
 
--- a 1 stays where a 1 is set
-set-keeps : (m : List ℕ) (i j : ℕ) → getD m j 0 ≡ 1 → getD (set m i 1) j 0 ≡ 1
-set-keeps [] i j h = h
-set-keeps (a ∷ m) zero zero h = refl
-set-keeps (a ∷ m) zero (suc j) h = h
-set-keeps (a ∷ m) (suc i) zero h = h
-set-keeps (a ∷ m) (suc i) (suc j) h = set-keeps m i j h
-
--- both places are inside
-pub first-inside : (name : ℕ) → firstMark name < marksSize
+-- both bits are inside
+first-inside : (name : ℕ) → firstMark name / 8 < marksSize
 unfolding firstMark
 first-inside name = omega arith
 
-pub second-inside : (name : ℕ) → secondMark name < marksSize
+second-inside : (name : ℕ) → secondMark name / 8 < marksSize
 unfolding secondMark
 second-inside name = omega arith
 
@@ -70,28 +144,28 @@ module _ (name : ℕ) (m : List ℕ) where
   -- a name with its marks was seen
   seen-marks : HasMarks name m → seen name m ≡ true
   unfolding seen
-  seen-marks h = rw (h .first, h .second)
+  seen-marks h = rw (h .first, bit-keeps (firstMark name) m (secondMark name) (h .second))
 
   -- marks stay
-  mark-keeps : (i : ℕ) → getD m i 0 ≡ 1 → getD (withMark name m) i 0 ≡ 1
+  mark-keeps : (a : ℕ) → hasBit a m ≡ true → hasBit a (withMark name m) ≡ true
   unfolding withMark
-  mark-keeps i h = set-keeps (set m (firstMark name) 1) (secondMark name) i (set-keeps m (firstMark name) i h)
+  mark-keeps a h = bit-keeps (secondMark name) (withBit (firstMark name) m) a (bit-keeps (firstMark name) m a h)
 
   -- the name has its own
   mark-has : length m ≡ marksSize → HasMarks name (withMark name m)
   unfolding withMark
   mark-has e =
-      let l : firstMark name < length m = omega (arith, first-inside name) in
-      let k : secondMark name < length (set m (firstMark name) 1) = rw length-set (omega (arith, second-inside name)) in
+      let l : firstMark name / 8 < length m = omega (arith, first-inside name) in
+      let k : secondMark name / 8 < length (withBit (firstMark name) m) = omega (arith, second-inside name, length-bit (firstMark name) m) in
       record {
-        first = set-keeps (set m (firstMark name) 1) (secondMark name) (firstMark name) (getD-set-same m (firstMark name) 1 0 l);
-        second = getD-set-same (set m (firstMark name) 1) (secondMark name) 1 0 k;
+        first = bit-keeps (secondMark name) (withBit (firstMark name) m) (firstMark name) (bit-has (firstMark name) m l);
+        second = bit-has (secondMark name) (withBit (firstMark name) m) k;
       }
 
   -- and the marks are as many
-  pub length-mark : length (withMark name m) ≡ length m
+  length-mark : length (withMark name m) ≡ length m
   unfolding withMark
-  length-mark = rw (length-set, length-set)
+  length-mark = length-bit (secondMark name) (withBit (firstMark name) m) ∙ length-bit (firstMark name) m
 
 module _ (t m : List ℕ) where
   -- a slot that holds no entry has no mark
@@ -149,8 +223,8 @@ module _ (count : ℕ) (b : List ℕ) (i : ℕ) (m : List ℕ) (c : Turn count b
       size : length (withSlotMark (slotAt b i) m) ≡ marksSize
       size = mark-either (slotAt b i) m (λ (l : List ℕ). length l ≡ marksSize) (c .marked .size) (length-mark (nameOf (slotAt b i)) m ∙ c .marked .size)
 
-      keeps : (j : ℕ) → getD m j 0 ≡ 1 → getD (withSlotMark (slotAt b i) m) j 0 ≡ 1
-      keeps j h = mark-either (slotAt b i) m (λ (l : List ℕ). getD l j 0 ≡ 1) h (mark-keeps (nameOf (slotAt b i)) m j h)
+      keeps : (a : ℕ) → hasBit a m ≡ true → hasBit a (withSlotMark (slotAt b i) m) ≡ true
+      keeps a h = mark-either (slotAt b i) m (λ (l : List ℕ). hasBit a l ≡ true) h (mark-keeps (nameOf (slotAt b i)) m a h)
 
       own : (getD (slotAt b i) stateAt 0 ≡ emptyState → ⊥) → HasMarks (nameOf (slotAt b i)) (withSlotMark (slotAt b i) m)
       own h = rw (← mark-held (slotAt b i) m h) (mark-has (nameOf (slotAt b i)) m (c .marked .size))

@@ -3,7 +3,8 @@ use mathlib.Core.Path.{_≡_}
 use mathlib.Core.Bool.{Bool, true, false, cond, _&&_, _||_}
 use mathlib.Core.List.{List, [], _∷_, map, _++_}
 use mathlib.Core.Option.{Option, none, some, Option·map}
-use Prim.Native.Nat.{ℕ, zero, suc, _+_, _-_, _*_, _/_, _%_, _≤_, _<_}
+use Prim.Native.Nat.{ℕ, zero, suc, _+_, _-_, _*_, _/_, _%_, _^_, _≤_, _<_}
+use lib.Bits.{bitOr, bitXor}
 use lib.Dec.{leb, ltb, eqb}
 use lib.ListN.{length, drop, getD, set}
 use Rattle.wire.specs.Lists.{every, all, any, orElse}
@@ -81,42 +82,61 @@ pub record SlotsWell (count : ℕ) (b : List ℕ) : Type 0 where
   pub bytes : Bytes b
   pub well : all slotWell (slotsIn count (drop headerSize b)) ≡ true
 
--- A number of a key and a field, padded to their places.
-unfoldable pub nameNumber : List ℕ → List ℕ → ℕ
-nameNumber k f =
-    fromLE (part 0 8 k) % 4294967291 * 3
-    + fromLE (part 8 8 k) % 4294967279 * 5
-    + fromLE (part 0 8 f) % 4294967231 * 7
-    + fromLE (part 8 8 f) % 4294967197 * 11
-    + fromLE (part 16 8 f) % 4294967189 * 13
-    + fromLE (part 24 8 f) % 4294967161 * 17
+-- a word rotated to the left by k bits
+unfoldable pub rotated : ℕ → ℕ → ℕ
+rotated k n = bitOr (n * 2 ^ k % 2 ^ 64) (n / 2 ^ (64 - k))
 
+-- the words of a key and of a field, padded to their places, each as one
+unfoldable pub keyWord : List ℕ → ℕ
+keyWord k = bitXor (fromLE (part 0 8 k)) (rotated 4 (fromLE (part 8 8 k)))
+
+unfoldable pub fieldWord : List ℕ → ℕ
+fieldWord f =
+    bitXor
+    (bitXor (fromLE (part 0 8 f)) (rotated 4 (fromLE (part 8 8 f))))
+    (bitXor (rotated 2 (fromLE (part 16 8 f))) (rotated 6 (fromLE (part 24 8 f))))
+
+-- two words as one number: the sum of their halves, each times its factor, with what is high in it brought down
+unfoldable pub halvesSum : ℕ → ℕ → ℕ
+halvesSum x y = x % 2 ^ 32 * 0x1e3779b1 + x / 2 ^ 32 * 0x2545f491 + (y % 2 ^ 32 * 0x3c6ef373 + y / 2 ^ 32 * 0x3f1bbcdd)
+
+unfoldable pub spreadOf : ℕ → ℕ → ℕ
+spreadOf x y = bitXor (halvesSum x y) (halvesSum x y / 2 ^ 31) % 2 ^ 32
+
+-- a number of a slot's key and field
 unfoldable pub nameOf : List ℕ → ℕ
-nameOf t = nameNumber (part keyAt keyMost t) (part fieldAt fieldMost t)
+nameOf t = spreadOf (keyWord (part keyAt keyMost t)) (fieldWord (part fieldAt fieldMost t))
 
--- The marks of names are two tables, one after the other: each name has a place in both, with 1 where the name was seen.
+-- The marks of names are bits: each name has two, which are set where the name was seen.
 abbrev pub marksSize : ℕ
-marksSize = 8192
+marksSize = 4096
+
+-- bit a is set where setting it changes nothing
+unfoldable pub hasBit : ℕ → List ℕ → Bool
+hasBit a m = eqb (bitOr (getD m (a / 8) 0) (2 ^ (a % 8))) (getD m (a / 8) 0)
+
+unfoldable pub withBit : ℕ → List ℕ → List ℕ
+withBit a m = set m (a / 8) (bitOr (getD m (a / 8) 0) (2 ^ (a % 8)))
 
 unfoldable pub firstMark : ℕ → ℕ
-firstMark name = name % 4093
+firstMark name = name / 2 ^ 17 % 32768
 
 unfoldable pub secondMark : ℕ → ℕ
-secondMark name = 4096 + name / 4093 % 4091
+secondMark name = name % 32768
 
 unfoldable pub seen : ℕ → List ℕ → Bool
-seen name m = eqb (getD m (firstMark name) 0 + getD m (secondMark name) 0) 2
+seen name m = hasBit (firstMark name) m && hasBit (secondMark name) (withBit (firstMark name) m)
 
 unfoldable pub withMark : ℕ → List ℕ → List ℕ
-withMark name m = set (set m (firstMark name) 1) (secondMark name) 1
+withMark name m = withBit (secondMark name) (withBit (firstMark name) m)
 
 -- the marks with those of a slot's name
 unfoldable pub withSlotMark : List ℕ → List ℕ → List ℕ
 withSlotMark t m = cond (eqb (getD t stateAt 0) emptyState) m (withMark (nameOf t) m)
 
 pub record HasMarks (name : ℕ) (m : List ℕ) : Type 0 where
-  pub first : getD m (firstMark name) 0 ≡ 1
-  pub second : getD m (secondMark name) 0 ≡ 1
+  pub first : hasBit (firstMark name) m ≡ true
+  pub second : hasBit (secondMark name) m ≡ true
 
 -- every slot from slot i on that holds an entry has its marks
 pub record Marked (count : ℕ) (b : List ℕ) (i : ℕ) (m : List ℕ) : Type 0 where

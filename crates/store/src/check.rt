@@ -12,17 +12,20 @@ use crate::slot::word;
 use wire::numbers::read_le;
 use wire::slices::all_zero;
 ghost use mathlib.Core.Path.{_≡_};
-ghost use Prim.Native.Nat.{_+_, _*_, _≤_};
+ghost use Prim.Native.Nat.{_+_, _*_, _/_, _≤_, _<_};
 ghost use lib.ListN.{length, drop};
 ghost use Rattle.wire.specs.Lists.{all, any};
-ghost use Rattle.store.specs.Layout.{headerSize, slotSize};
+ghost use Rattle.store.specs.Layout.{headerSize, slotSize, keyMost, fieldMost};
 ghost use Rattle.store.specs.Store.{slotsIn, slotWell, holds, distinct, wellFormed};
-ghost use Rattle.store.specs.Promises.{countFor, headerWell, slotsOf, SlotsWell, nameOf, marksSize, seen, withMark, Turn, Turned};
+ghost use Rattle.store.specs.Promises.{countFor, headerWell, slotsOf, SlotsWell, rotated, keyWord, fieldWord, spreadOf, nameOf, marksSize, hasBit, withBit, seen, withMark, Turn, Turned};
 
-// The size of a table of marks of the names that were seen, of which there are two.
+// The halves of a word are below it.
+const HALF: u64 = 0x1_0000_0000;
+
+// The size of the marks of the names that were seen, of which a byte has eight.
 const MARKS: usize = 4096;
 
-const SEEN: u8 = 1;
+const BITS: u64 = 32768;
 
 // How many slots the bytes have, or 0 where their length is not a store's.
 fn slot_count(size: usize) -> usize
@@ -80,34 +83,73 @@ fn named_from(store: &[u8], count: usize, from: usize, key: &[u8], field: &[u8])
     false
 }
 
+// A word rotated to the left.
+fn rotate(n: u64, k: usize) -> u64
+    requires { ⌜ 1 ≤ k ⌝ }
+    requires { ⌜ k < 64 ⌝ }
+    ensures { λ r. ⌜ r ≡ rotated k n ⌝ }
+{
+    n << k | n >> (64 - k)
+}
+
+// A key's words as one. The second is rotated, so that equal ones do not cancel each other.
+fn key_word(key: &[u8]) -> u64
+    requires { ⌜ length (now key) ≡ keyMost ⌝ }
+    ensures { λ r. ⌜ r ≡ keyWord (now (key .entry)) ⌝ }
+{
+    word(key, 0) ^ rotate(word(key, 8), 4)
+}
+
+// A field's words as one.
+fn field_word(field: &[u8]) -> u64
+    requires { ⌜ length (now field) ≡ fieldMost ⌝ }
+    ensures { λ r. ⌜ r ≡ fieldWord (now (field .entry)) ⌝ }
+{
+    let low = word(field, 0) ^ rotate(word(field, 8), 4);
+    let high = rotate(word(field, 16), 2) ^ rotate(word(field, 24), 6);
+    low ^ high
+}
+
+// Two words as one number: their halves, each times an odd factor, and what is high in the sum brought down.
+fn spread(x: u64, y: u64) -> u64
+    ensures { λ r. ⌜ r ≡ spreadOf x y ⌝ }
+{
+    let a = x % HALF * 0x1e37_79b1 + x / HALF * 0x2545_f491;
+    let b = y % HALF * 0x3c6e_f373 + y / HALF * 0x3f1b_bcdd;
+    let h = a + b;
+    (h ^ h / 0x8000_0000) % HALF
+}
+
 // A number of a slot's key and field: the same for the same ones.
 fn name_of(t: &[u8]) -> u64
     requires { ⌜ length (now t) ≡ slotSize ⌝ }
     ensures { λ r. ⌜ r ≡ nameOf (now (t .entry)) ⌝ }
 {
-    let key = &t[KEY..FIELD];
-    let field = &t[FIELD..VALUE];
-    let a = word(key, 0) % 4294967291;
-    let b = word(key, 8) % 4294967279;
-    let c = word(field, 0) % 4294967231;
-    let d = word(field, 8) % 4294967197;
-    let e = word(field, 16) % 4294967189;
-    let f = word(field, 24) % 4294967161;
-    a * 3 + b * 5 + c * 7 + d * 11 + e * 13 + f * 17
+    spread(key_word(&t[KEY..FIELD]), field_word(&t[FIELD..VALUE]))
 }
 
-// Marks a name in both tables, and answers whether both marks were there before.
+// Sets a bit of the marks, and answers whether it was set before.
+fn set_bit(marks: &mut [u8], a: usize) -> bool
+    requires { ⌜ a / 8 < length (now marks) ⌝ }
+    ensures { λ r. ⌜ r ≡ hasBit a (now (marks .entry)) ⌝ }
+    ensures { λ _. ⌜ now (marks .exit) ≡ withBit a (now (marks .entry)) ⌝ }
+{
+    let i = a / 8;
+    let old = marks[i];
+    let new = old | 1 << (a % 8);
+    marks[i] = new;
+    new == old
+}
+
+// Marks a name by its two bits, and answers whether both were set before.
 fn mark(marks: &mut [u8], name: u64) -> bool
     requires { ⌜ length (now marks) ≡ marksSize ⌝ }
     ensures { λ r. ⌜ r ≡ seen name (now (marks .entry)) ⌝ }
     ensures { λ _. ⌜ now (marks .exit) ≡ withMark name (now (marks .entry)) ⌝ }
 {
-    let a = (name % 4093) as usize;
-    let b = MARKS + (name / 4093 % 4091) as usize;
-    let both = marks[a] as usize + marks[b] as usize;
-    marks[a] = SEEN;
-    marks[b] = SEEN;
-    both == 2
+    let first = set_bit(marks, (name / 0x2_0000 % BITS) as usize);
+    let second = set_bit(marks, (name % BITS) as usize);
+    first & second
 }
 
 // Whether a slot after slot i holds an entry of its key and field. They are searched only where both marks of the name are there, which are left.
@@ -130,7 +172,7 @@ fn all_distinct(store: &[u8], count: usize) -> bool
     requires { ⌜ SlotsWell count (now store) ⌝ }
     ensures { λ r. ⌜ r ≡ distinct (slotsOf count (now (store .entry))) ⌝ }
 {
-    let mut marks = [0u8; 2 * MARKS];
+    let mut marks = [0u8; MARKS];
     let mut i = count;
     while 0 < i {
         i -= 1;
