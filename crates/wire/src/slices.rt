@@ -24,7 +24,6 @@ pub fn equal(a: &[u8], b: &[u8]) -> bool
 
 // Whether every byte is zero. Their bits are gathered, with no early end, so that the loop can run on vectors.
 pub fn all_zero(s: &[u8]) -> bool
-    requires { ⌜ length (now s) ≤ 65536 ⌝ }
     ensures { λ r. ⌜ r ≡ allZero (now (s .entry)) ⌝ }
 {
     let mut bits: u8 = 0;
