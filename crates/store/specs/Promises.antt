@@ -4,6 +4,7 @@ use mathlib.Core.Bool.{Bool, true, false, cond, _&&_, _||_}
 use mathlib.Core.List.{List, [], _∷_, map, _++_}
 use mathlib.Core.Option.{Option, none, some, Option·map}
 use Prim.Native.Nat.{ℕ, zero, suc, _+_, _-_, _*_, _/_, _%_, _≤_, _<_}
+use lib.Bits.{bitXor}
 use lib.Dec.{leb, ltb, eqb}
 use lib.ListN.{length, drop, getD, set}
 use Rattle.wire.specs.Lists.{every, all, any, orElse}
@@ -49,6 +50,10 @@ placeTests t =
     ∷ zeroBeyond fieldAt fieldMost (getD t fieldLengthAt 0) t
     ∷ zeroBeyond valueAt valueMost (getD t valueLengthAt 0) t
     ∷ []
+
+-- a number of a field's first 16 bytes
+unfoldable pub fingerprintOf : List ℕ → ℕ
+fingerprintOf f = bitXor (fromLE (part 0 8 f)) (fromLE (part 8 8 f))
 
 -- ---- which bytes are a store
 
