@@ -50,7 +50,7 @@ held-well t h =
 -- ---- the pieces of a slot's bytes, each written back from what it means
 
 -- a place that is zero beyond a length is the bytes used, padded
-place-padded : (at size used : ℕ) (t : List ℕ) → at + size ≤ length t → used ≤ size → zeroBeyond at size used t ≡ true → padded size (part at used t) ≡ part at size t
+pub place-padded : (at size used : ℕ) (t : List ℕ) → at + size ≤ length t → used ≤ size → zeroBeyond at size used t ≡ true → padded size (part at used t) ≡ part at size t
 unfolding zeroBeyond
 place-padded at size used t l u z = rw (← take-part at used size t) (padded-is size used (part at size t) (length-part at size t l) u z)
 

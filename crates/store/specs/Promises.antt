@@ -51,6 +51,10 @@ placeTests t =
     ∷ zeroBeyond valueAt valueMost (getD t valueLengthAt 0) t
     ∷ []
 
+-- a number of a field's first 16 bytes
+unfoldable pub fingerprintOf : List ℕ → ℕ
+fingerprintOf f = bitXor (fromLE (part 0 8 f)) (fromLE (part 8 8 f))
+
 -- ---- which bytes are a store
 
 -- the tests of a size

@@ -16,9 +16,10 @@ pub fn named(store: &[u8], key: &[u8], field: &[u8]) -> Found
     ensures { λ r. ⌜ r ≡ foundFor (lowestSlot (holds (now (key .entry)) (now (field .entry))) (decode (now (store .entry)) .slots)) ⌝ }
 {
     let count = slots(store);
+    let fingerprint = slot::fingerprint_of(field);
     let mut i = 0;
     while i < count {
-        if slot::holds(slot::bytes(store, i), key, field) {
+        if slot::holds_with(slot::bytes(store, i), fingerprint, key, field) {
             return Found::At(i);
         }
         i += 1;

@@ -30,7 +30,7 @@ ghost use Rattle.wire.specs.Bytes.{fromLE, part, allZero};
 ghost use Rattle.store.specs.Layout.{headerSize, slotSize, versionAt, versionSize};
 ghost use Rattle.store.specs.Store.{decodeSlot, decodeEntry, decodeExpiry, zeroBeyond, slotWell, holds};
 ghost use Rattle.store.specs.Time.{emptySlot, liveSlot, deadSlot, ofKey, liveOfKey};
-ghost use Rattle.store.specs.Promises.{SlotBytes, HeldBytes, lengthTests, expiryTests, placeTests};
+ghost use Rattle.store.specs.Promises.{SlotBytes, HeldBytes, lengthTests, expiryTests, placeTests, fingerprintOf};
 
 // The bytes of a word.
 const WORD: usize = 8;
@@ -296,4 +296,38 @@ pub fn holds(t: &[u8], k: &[u8], f: &[u8]) -> bool
         return false;
     }
     equal(field(t), f) && equal(key(t), k)
+}
+
+// The number that a word spells, where the bytes past the end count as zero.
+fn word_padded(s: &[u8], at: usize) -> u64
+    ensures { λ r. ⌜ r ≡ fromLE (part at 8 (now (s .entry))) ⌝ }
+{
+    let size = s.len();
+    if size <= at {
+        return 0;
+    }
+    if size - at < WORD {
+        return read_le(&s[at..size]);
+    }
+    word(s, at)
+}
+
+// A number of a field's first 16 bytes: the same for the same field.
+pub fn fingerprint_of(f: &[u8]) -> u64
+    ensures { λ r. ⌜ r ≡ fingerprintOf (now (f .entry)) ⌝ }
+{
+    word_padded(f, 0) ^ word_padded(f, WORD)
+}
+
+// The same as `holds`, by the field's fingerprint first: where the slot has another, nothing else of it is looked at.
+pub fn holds_with(t: &[u8], fingerprint: u64, k: &[u8], f: &[u8]) -> bool
+    requires { ⌜ SlotBytes (now t) ⌝ }
+    requires { ⌜ fingerprint ≡ fingerprintOf (now f) ⌝ }
+    ensures { λ r. ⌜ r ≡ holds (now (k .entry)) (now (f .entry)) (decodeSlot (now (t .entry))) ⌝ }
+{
+    let field = &t[FIELD..VALUE];
+    if word(field, 0) ^ word(field, WORD) != fingerprint {
+        return false;
+    }
+    holds(t, k, f)
 }

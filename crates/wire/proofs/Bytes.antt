@@ -202,3 +202,23 @@ padded-is n used t e l h =
     let z : drop used t ≡ replicate (length (drop used t)) 0 = zero-is (drop used t) h in
     let k : length (drop used t) ≡ n - length (take used t) = rw (length-drop, length-take) (omega arith) in
     rw (← k, ← z) (take-append-drop used t)
+
+-- zero spells nothing, at any place
+zeros-spell : (at n k : ℕ) → fromLE (part at n (replicate k 0)) ≡ 0
+unfolding fromLE part
+zeros-spell at zero k = refl
+zeros-spell zero (suc n) zero = refl
+zeros-spell zero (suc n) (suc k) = rw (zeros-spell zero n k)
+zeros-spell (suc at) (suc n) zero = refl
+zeros-spell (suc at) (suc n) (suc k) = zeros-spell at (suc n) k
+
+-- padding changes no number
+pub fromLE-padded : (at n k : ℕ) (s : List ℕ) → fromLE (part at n (padded k s)) ≡ fromLE (part at n s)
+unfolding padded fromLE part
+fromLE-padded at n k s = go at n s (k - length s)
+  where
+    go : (at n : ℕ) (s : List ℕ) (z : ℕ) → fromLE (part at n (s ++ replicate z 0)) ≡ fromLE (part at n s)
+    go at n [] z = zeros-spell at n z ∙ sym (zeros-spell at n 0)
+    go at zero (b ∷ s) z = refl
+    go zero (suc n) (b ∷ s) z = rw (go zero n s z)
+    go (suc at) (suc n) (b ∷ s) z = go at (suc n) s z

@@ -9,25 +9,28 @@ use Rattle.store.proofs.find.named.Statement.{statement}
 use Rattle.store.proofs.find.named.Tie as tie
 
 abbrev Inv-loop : tie.InvT-loop
-Inv-loop store key field count i₀ i = Seek (holds key field) store count i (lowestSlot (holds key field) (decode store .slots))
+Inv-loop store key field count fingerprint i₀ i = Seek (holds key field) store count i (lowestSlot (holds key field) (decode store .slots))
 
 abbrev μ-loop : tie.MeasureT-loop
-μ-loop store key field count i₀ i = count - i
+μ-loop store key field count fingerprint i₀ i = count - i
 
 slots-requires : tie.Need-slots-requires Inv-loop μ-loop
 slots-requires c κs = search needs
 
+fingerprint-of-requires : tie.Need-fingerprint-of-requires Inv-loop μ-loop
+fingerprint-of-requires c κs = search needs
+
 loop-holds : tie.Need-loop-holds Inv-loop μ-loop
-loop-holds c = seek-begins (holds (now (c .before .before .before .before .args .key)) (now (c .before .before .before .before .args .field))) (now (c .before .before .before .before .args .store)) (c .before .before .before .before .pre) (c .slots .ensures)
+loop-holds c = seek-begins (holds (now (c .before .before .before .before .before .args .key)) (now (c .before .before .before .before .before .args .field))) (now (c .before .before .before .before .before .args .store)) (c .before .before .before .before .before .pre) (c .before .slots .ensures)
 
 bytes-requires : tie.Need-bytes-requires Inv-loop μ-loop
 bytes-requires c κs = walk-inside (c .before .loop .inv .walk) (c .loop-test .taken)
 
-holds-requires : tie.Need-holds-requires Inv-loop μ-loop
-holds-requires c κs = walk-bytes (c .before .before .loop .inv .walk) (c .before .loop-test .taken) (c .bytes .ensures)
+holds-with-requires : tie.Need-holds-with-requires Inv-loop μ-loop
+holds-with-requires c κs = (walk-bytes (c .before .before .loop .inv .walk) (c .before .loop-test .taken) (c .bytes .ensures), c .before .before .before .fingerprint-of .ensures)
 
 returns : tie.Need-returns Inv-loop μ-loop
-returns c = seek-finds (c .before .before .before .before .loop .inv) (c .before .before .before .loop-test .taken) (c .before .before .bytes .ensures) (c .before .holds .ensures) (c .if1 .taken)
+returns c = seek-finds (c .before .before .before .before .loop .inv) (c .before .before .before .loop-test .taken) (c .before .before .bytes .ensures) (c .before .holds-with .ensures) (c .if1 .taken)
 
 add-i : tie.Need-add-i Inv-loop μ-loop
 add-i c = search needs
@@ -36,7 +39,7 @@ loop-less : tie.Need-loop-less Inv-loop μ-loop
 loop-less c = omega arith
 
 loop-again : tie.Need-loop-again Inv-loop μ-loop
-loop-again c = seek-goes-on (c .before .before .before .before .loop .inv) (c .before .before .before .loop-test .taken) (c .before .before .bytes .ensures) (c .before .holds .ensures) (c .if1 .left)
+loop-again c = seek-goes-on (c .before .before .before .before .loop .inv) (c .before .before .before .loop-test .taken) (c .before .before .bytes .ensures) (c .before .holds-with .ensures) (c .if1 .left)
 
 returns-2 : tie.Need-returns-2 Inv-loop μ-loop
 returns-2 c = seek-ends (c .before .loop .inv) (c .loop-test .left)
@@ -48,9 +51,10 @@ named-spec =
     Inv-loop
     μ-loop
     slots-requires
+    fingerprint-of-requires
     loop-holds
     bytes-requires
-    holds-requires
+    holds-with-requires
     returns
     add-i
     loop-less
