@@ -1,11 +1,12 @@
-/* Prints the time of one check of a store, all slots held, by its number of slots, and the growth from 50 to 500. */
+/* Prints the time of one check of a store, all slots held, by its number of slots, beside that of a plain loop that
+   adds up its bytes, and the growth from 50 to 500. */
 #include "exhash.h"
 
 #include <stdio.h>
 #include <string.h>
 #include <time.h>
 
-enum { HEADER = 16, SLOT = 128, MOST = 500, ROUNDS = 7, CHECKS = 2000 };
+enum { HEADER = 16, SLOT = 128, MOST = 500, ROUNDS = 7, CALLS = 2000 };
 
 static uint8_t store[HEADER + SLOT * MOST];
 
@@ -31,19 +32,26 @@ static double seconds(void)
     return (double)t.tv_sec + (double)t.tv_nsec * 1e-9;
 }
 
-/* The best of some rounds, in microseconds for one check of a store of n slots, all held. */
-static double measure(int n)
+/* Not inlined, so that each call reads the bytes anew. */
+__attribute__((noinline)) static uint32_t sum(const uint8_t *bytes, size_t size)
+{
+    uint32_t total = 0;
+    for (size_t i = 0; i < size; i++)
+        total += bytes[i];
+    __asm__ volatile("" ::: "memory");
+    return total;
+}
+
+/* The best of some rounds, in microseconds, for one call on the first bytes of the store. What the calls answer is added up. */
+static double measure(uint32_t (*call)(const uint8_t *, size_t), size_t size, uint32_t *answers)
 {
     double best = 1e9;
-    fill(n);
+    *answers = 0;
     for (int round = 0; round < ROUNDS; round++) {
-        uint32_t refused = 0;
         double start = seconds();
-        for (int i = 0; i < CHECKS; i++)
-            refused += exh_store_check(store, HEADER + SLOT * (size_t)n);
-        double each = (seconds() - start) / CHECKS * 1e6;
-        if (refused)
-            return -1;
+        for (int i = 0; i < CALLS; i++)
+            *answers += call(store, size);
+        double each = (seconds() - start) / CALLS * 1e6;
         if (each < best)
             best = each;
     }
@@ -55,17 +63,18 @@ int main(void)
     static const int sizes[] = {10, 50, 100, 250, 500};
     double at50 = 0, at500 = 0;
     for (size_t i = 0; i < sizeof sizes / sizeof *sizes; i++) {
-        double t = measure(sizes[i]);
-        if (t < 0) {
-            printf("%d held slots: refused\n", sizes[i]);
+        size_t size = HEADER + SLOT * (size_t)sizes[i];
+        uint32_t refused, total;
+        fill(sizes[i]);
+        double check = measure(exh_store_check, size, &refused), plain = measure(sum, size, &total);
+        if (refused || !total)
             return 1;
-        }
-        printf("%3d held slots: %8.3f us\n", sizes[i], t);
+        printf("%3d held slots: check %7.3f us, plain loop %7.3f us, ratio %.2f\n", sizes[i], check, plain, check / plain);
         if (sizes[i] == 50)
-            at50 = t;
+            at50 = check;
         if (sizes[i] == 500)
-            at500 = t;
+            at500 = check;
     }
-    printf("growth from 50 to 500: %.1f times\n", at500 / at50);
+    printf("growth of the check from 50 to 500: %.1f times\n", at500 / at50);
     return 0;
 }

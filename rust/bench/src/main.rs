@@ -123,17 +123,14 @@ fn median(numbers: impl Iterator<Item = f64>) -> f64 {
     numbers[numbers.len() / 2]
 }
 
-/// The sum of bytes, modulo 256: the compiler makes vectors of it, so it reads them fastest.
-fn sum(bytes: &[u8]) -> u8 {
-    bytes.iter().fold(0, |sum, byte| sum.wrapping_add(*byte))
+/// The sum of bytes.
+fn sum(bytes: &[u8]) -> u32 {
+    bytes.iter().map(|byte| u32::from(*byte)).sum()
 }
 
-/// Fletcher's checksum, modulo 2^32: each byte is looked at by itself.
-fn checksum(bytes: &[u8]) -> (u32, u32) {
-    bytes.iter().fold((0, 0), |(sum, sums), byte| {
-        let sum = u32::wrapping_add(sum, u32::from(*byte));
-        (sum, u32::wrapping_add(sums, sum))
-    })
+/// The sum of bytes modulo 256: no bytes are widened, so vectors read them fastest.
+fn sum_modulo_256(bytes: &[u8]) -> u8 {
+    bytes.iter().fold(0, |sum, byte| sum.wrapping_add(*byte))
 }
 
 /// Nanoseconds to read a store's bytes once.
@@ -191,22 +188,23 @@ fn print_growth(lent: &mut Lent) {
     }
 }
 
-/// One byte fed beside two ways to read the store's bytes once.
+/// One byte fed beside two ways to read the store's bytes once, both made of vectors by the compiler.
 fn print_single_byte(lent: &mut Lent) {
     let load = load::single_bytes(500);
-    let sum = time_of_reading(&load.store, sum);
-    let checksum = time_of_reading(&load.store, checksum);
+    let fastest = time_of_reading(&load.store, sum_modulo_256);
+    let plain = time_of_reading(&load.store, sum);
     let Times { library, model, .. } = times(&load, lent);
-    println!("\n| 500 slots held | ns | times the sum | times the checksum |\n|---|---|---|---|");
+    println!("\n| 500 slots held | ns | times the sum | times the sum modulo 256 |");
+    println!("|---|---|---|---|");
     let rows = [
-        ("sum of the store's bytes, by vectors", sum),
-        ("checksum of the store's bytes, byte by byte", checksum),
+        ("sum of the store's bytes", plain),
+        ("sum of the store's bytes modulo 256", fastest),
         ("one byte fed, exhash", library),
         ("one byte fed, model", model),
     ];
     for (name, ns) in rows {
-        let (sums, checksums) = (ns / sum, ns / checksum);
-        println!("| {name} | {ns:.1} | {sums:.1} | {checksums:.2} |");
+        let (plain, fastest) = (ns / plain, ns / fastest);
+        println!("| {name} | {ns:.1} | {plain:.1} | {fastest:.1} |");
     }
 }
 
