@@ -157,8 +157,16 @@ pub forgotten : (f : Feeder) → isLeft f ≡ true → {u : List ℕ} → u ≡ 
     → record { waiting = u ++ drop (f .count) (f .waiting); count = 0 } ≡ fresh
 unfolding fresh stateOf padded
 forgotten f left e =
-    let n : f .count + length (drop (f .count) (f .waiting)) ≡ waitingMost = rw (length-drop, left-state f left .size) (omega (arith, left-state f left .few)) in
-    rw (e, left-state f left .count, zero-is (drop (f .count) (f .waiting)) (left-state f left .zeros), replicate-append-replicate {A = ℕ} (f .count) (length (drop (f .count) (f .waiting))) 0, n)
+    let n : f .count + length (drop (f .count) (f .waiting)) ≡ waitingMost =
+    rw (length-drop, left-state f left .size) (omega (arith, left-state f left .few))
+    in
+    rw (
+      e,
+      left-state f left .count,
+      zero-is (drop (f .count) (f .waiting)) (left-state f left .zeros),
+      replicate-append-replicate {A = ℕ} (f .count) (length (drop (f .count) (f .waiting))) 0,
+      n,
+    )
 
 module _ (f : Feeder) (p : List ℕ) (left : isLeft f ≡ true) where
   total : length (waitingIn f ++ p) ≡ f .count + length p
