@@ -6,7 +6,7 @@ use mathlib.Core.Option.{none, some}
 use Prim.Native.Nat.{ℕ, _+_, _-_, _≤_, _<_}
 use native.Mathlib.Omega.{arith}
 use lib.Dec.{ltb}
-use lib.ListN.{length, take, drop, replicate, length-append, length-drop, length-take, length-replicate, take-append-drop}
+use lib.ListN.{length, take, drop, replicate, length-append, length-drop, length-take, length-replicate, replicate-append-replicate, take-append-drop}
 use lib.Seq.{take-all, length-take-le, drop-append-le, drop-append-add, drop-drop, take-append-add}
 use borrow.Author.Tests.{lt-ltb, le-ltb}
 use borrow.Rule.Slice.PartMut.{putMid}
@@ -15,7 +15,7 @@ use Rattle.wire.specs.Bytes.{allZero, fromLE, part, padded}
 use Rattle.wire.specs.Reply.{laidOver}
 use Rattle.wire.specs.Promises.{Laid}
 use Rattle.wire.proofs.Bytes.{zero-is, zero-drop, zero-replicate}
-use Rattle.wire.proofs.Laying.{laid-copied, laid-tail}
+use Rattle.wire.proofs.Laying.{laid-whole, laid-copied, laid-tail}
 use Rattle.feeder.specs.declared.Feeder.{Feeder}
 use Rattle.feeder.specs.declared.absorb.Completed.{Completed}
 use Rattle.feeder.specs.declared.absorb.Completed.the-variants as completions
@@ -139,6 +139,11 @@ module _ (w p : List ℕ) (at size : ℕ) (j : List ℕ) (r : Completing w p at 
 
 -- ---- what waits
 
+-- bytes laid over zeros are as many as the places, or more
+laid-long : (x w : List ℕ) → length w ≡ waitingMost → length w ≤ length (laidOver x (replicate waitingMost 0))
+unfolding laidOver
+laid-long x w n = rw (length-append, length-drop, length-replicate {A = ℕ} waitingMost 0) (omega arith)
+
 -- bytes laid over places that are zero beyond them
 laid-state : (x t : List ℕ) → length t ≡ waitingMost → allZero (drop (length x) t) ≡ true
     → record { waiting = laidOver x t; count = length x } ≡ stateOf x
@@ -146,6 +151,22 @@ unfolding laidOver stateOf padded
 laid-state x t n z =
     let m : length (drop (length x) t) ≡ waitingMost - length x = length-drop (length x) t ∙ ap (λ (k : ℕ). k - length x) n in
     rw (zero-is (drop (length x) t) z, m)
+
+-- the bytes that waited are cleared
+pub forgotten : (f : Feeder) → isLeft f ≡ true → {u : List ℕ} → u ≡ replicate (length (take (f .count) (f .waiting))) 0
+    → record { waiting = u ++ drop (f .count) (f .waiting); count = 0 } ≡ fresh
+unfolding fresh stateOf padded
+forgotten f left e =
+    let n : f .count + length (drop (f .count) (f .waiting)) ≡ waitingMost =
+    rw (length-drop, left-state f left .size) (omega (arith, left-state f left .few))
+    in
+    rw (
+      e,
+      left-state f left .count,
+      zero-is (drop (f .count) (f .waiting)) (left-state f left .zeros),
+      replicate-append-replicate {A = ℕ} (f .count) (length (drop (f .count) (f .waiting))) 0,
+      n,
+    )
 
 module _ (f : Feeder) (p : List ℕ) (left : isLeft f ≡ true) where
   total : length (waitingIn f ++ p) ≡ f .count + length p
@@ -164,12 +185,14 @@ module _ (f : Feeder) (p : List ℕ) (left : isLeft f ≡ true) where
           (zero-drop (length p) (drop (f .count) (f .waiting)) (left-state f left .zeros))
 
   -- what is left from a place on waits
-  pub kept-rest : {t : List ℕ} (at : ℕ) → t ≡ laidOver (drop at (take (f .count) (f .waiting) ++ p)) (replicate waitingMost 0)
+  pub kept-rest : {u t : List ℕ} (at : ℕ) → u ≡ laidOver (drop at (take (f .count) (f .waiting) ++ p)) (replicate waitingMost 0)
+      → t ≡ laidOver u (f .waiting)
       → record { waiting = t; count = f .count + length p - at } ≡ stateOf (drop at (waitingIn f ++ p))
   unfolding waitingIn
-  kept-rest at e =
+  kept-rest {u} at e h =
       let n : length (drop at (waitingIn f ++ p)) ≡ f .count + length p - at = length-drop at (waitingIn f ++ p) ∙ rw total in
-      rw (e, ← n)
+      let long : length (f .waiting) ≤ length u = rw e (laid-long (drop at (waitingIn f ++ p)) (f .waiting) (left-state f left .size)) in
+      rw (h, laid-whole u (f .waiting) long, e, ← n)
       (laid-state (drop at (waitingIn f ++ p)) (replicate waitingMost 0) (length-replicate {A = ℕ} waitingMost 0)
       (zero-drop (length (drop at (waitingIn f ++ p))) (replicate waitingMost 0) (zero-replicate waitingMost)))
 
@@ -225,11 +248,10 @@ module _ (f : Feeder) (piece : List ℕ) (left : isLeft f ≡ true) {o : List �
     leaves : divide (waitingIn f ++ offered piece) .rest ≡ drop at (waitingIn f ++ offered piece)
     leaves = none-rest (waitingIn f ++ offered piece) nothing ∙ rw skips
 
-    pub rest-inside : at ≤ length (waitingIn f) + length o
-    rest-inside =
-        rw eo (omega (arith, skips, none-skipped (waitingIn f ++ offered piece) nothing, length-append (waitingIn f) (offered piece)))
+    pub rest-inside : at ≤ f .count + length o
+    rest-inside = rw eo (omega (arith, skips, none-skipped (waitingIn f ++ offered piece) nothing, total f (offered piece) left))
 
-    pub rest-waits : length (waitingIn f) + length o ≤ at + waitingMost
+    pub rest-waits : f .count + length o ≤ at + waitingMost
     rest-waits =
         rw eo
         (omega (
@@ -237,7 +259,7 @@ module _ (f : Feeder) (piece : List ℕ) (left : isLeft f ≡ true) {o : List �
           ap length leaves,
           length-drop at (waitingIn f ++ offered piece),
           rest-short (waitingIn f ++ offered piece),
-          length-append (waitingIn f) (offered piece),
+          total f (offered piece) left,
         ))
 
     pub absorbed-none : {j : List ℕ} {g : Feeder} → g ≡ stateOf (drop at (waitingIn f ++ o))

@@ -5,6 +5,7 @@ use crate::scan::Stop;
 use crate::scan::first_stop;
 use crate::state::WAITING;
 use wire::numbers::read_le;
+use wire::slices::clear;
 use wire::slices::copy;
 ghost use mathlib.Core.Path.{_≡_};
 ghost use mathlib.Core.Bool.{true};
@@ -13,7 +14,7 @@ ghost use Prim.Native.Nat.{_+_, _≤_};
 ghost use lib.ListN.{length, take, drop};
 ghost use Rattle.wire.specs.Reply.{laidOver};
 ghost use Rattle.feeder.specs.Record.{commandAt};
-ghost use Rattle.feeder.specs.Feed.{waitingMost, stateOf, waitingIn, isLeft, offered};
+ghost use Rattle.feeder.specs.Feed.{waitingMost, stateOf, fresh, waitingIn, isLeft, offered};
 ghost use Rattle.feeder.specs.Promises.{recordMost, Completing, completedAt, absorbed};
 
 // The most bytes of a piece that a call uses.
@@ -45,6 +46,14 @@ pub struct Absorbed {
     pub skipped: usize,
     pub completed: Completed,
     pub feeder: Feeder,
+}
+
+// The same where the bytes wait in lent places: the count of those that then wait.
+pub(crate) struct Taken {
+    pub used: usize,
+    pub skipped: usize,
+    pub completed: Completed,
+    pub count: usize,
 }
 
 // The bytes of a piece that a call looks at.
@@ -107,28 +116,69 @@ fn complete(waiting: &[u8], piece: &[u8], at: usize, size: usize, joined: &mut [
     }
 }
 
-impl Feeder {
-    // The state after a piece that completes no record: what is left from a place on waits.
-    fn keep(mut self, piece: &[u8], at: usize) -> Feeder
-        requires { ⌜ isLeft self ≡ true ⌝ }
-        requires { ⌜ (at ≤ length (waitingIn self) + length (now piece)) × (length (waitingIn self) + length (now piece) ≤ at + waitingMost) ⌝ }
-        ensures { λ r. ⌜ r ≡ stateOf (drop at (waitingIn self ++ now (piece .entry))) ⌝ }
-    {
-        let count = self.count;
-        let mut waiting = self.waiting;
-        if at == 0 {
-            append(&mut waiting, count, piece);
-            self.waiting = waiting;
-            self.count = count + piece.len();
-            return self;
-        }
-        let mut rest = [0u8; WAITING];
-        gather(&waiting[..count], piece, at, &mut rest);
-        self.waiting = rest;
-        self.count = count + piece.len() - at;
-        self
-    }
+// Clears the bytes that wait; the places after them are zero.
+fn forget(waiting: &mut [u8], count: usize)
+    requires { ⌜ isLeft (record { waiting = now waiting; count = count }) ≡ true ⌝ }
+    ensures { λ _. ⌜ record { waiting = now (waiting .exit); count = 0 } ≡ fresh ⌝ }
+{
+    clear(&mut waiting[..count]);
+}
 
+// Leaves waiting what is left from a place on, where a piece completes no record; answers how many bytes wait.
+fn keep(waiting: &mut [u8], count: usize, piece: &[u8], at: usize) -> usize
+    requires { ⌜ isLeft (record { waiting = now waiting; count = count }) ≡ true ⌝ }
+    requires { ⌜ (at ≤ count + length (now piece)) × (count + length (now piece) ≤ at + waitingMost) ⌝ }
+    ensures { λ r. ⌜ record { waiting = now (waiting .exit); count = r } ≡ stateOf (drop at (waitingIn (record { waiting = now (waiting .entry); count = count }) ++ now (piece .entry))) ⌝ }
+{
+    if at == 0 {
+        append(waiting, count, piece);
+        return count + piece.len();
+    }
+    let mut rest = [0u8; WAITING];
+    gather(&waiting[..count], piece, at, &mut rest);
+    copy(&rest, waiting);
+    count + piece.len() - at
+}
+
+// Takes bytes of a piece where so many of the lent places wait. A record that does not lie whole in it is joined in `joined`.
+pub(crate) fn take(
+    waiting: &mut [u8; WAITING],
+    count: usize,
+    piece: &[u8],
+    joined: &mut [u8],
+) -> Taken
+    requires { ⌜ isLeft (record { waiting = now waiting; count = count }) ≡ true ⌝ }
+    requires { ⌜ recordMost ≤ length (now joined) ⌝ }
+    ensures { λ r. ⌜ record { absorbed = record { used = r .used; skipped = r .skipped; completed = r .completed; feeder = record { waiting = now (waiting .exit); count = r .count } }; joined = now (joined .exit) } ≡ absorbed (record { waiting = now (waiting .entry); count = count }) (now (piece .entry)) (now (joined .entry)) ⌝ }
+{
+    let places = &mut waiting[..];
+    let offered = offer(piece);
+    let stop = first_stop(&places[..count], offered);
+    match stop {
+        Stop::Record(at, size) => {
+            let completed = complete(&places[..count], offered, at, size, joined);
+            let end = at + (COMMAND + size);
+            forget(places, count);
+            Taken {
+                used: end - count,
+                skipped: at,
+                completed,
+                count: 0,
+            }
+        }
+        Stop::Rest(from) => {
+            let kept = keep(places, count, offered, from);
+            Taken {
+                used: offered.len(),
+                skipped: from,
+                completed: Completed::Nothing,
+                count: kept,
+            }
+        }
+    }
+}
+
+impl Feeder {
     // Takes bytes of a piece. A record that does not lie whole in it is joined in `joined`.
     pub fn absorb(mut self, piece: &[u8], joined: &mut [u8]) -> Absorbed
         requires { ⌜ isLeft self ≡ true ⌝ }
@@ -136,31 +186,14 @@ impl Feeder {
         ensures { λ r. ⌜ record { absorbed = r; joined = now (joined .exit) } ≡ absorbed self (now (piece .entry)) (now (joined .entry)) ⌝ }
     {
         let count = self.count;
-        let waiting = self.waiting;
-        let offered = offer(piece);
-        let stop = first_stop(&waiting[..count], offered);
-        match stop {
-            Stop::Record(at, size) => {
-                let completed = complete(&waiting[..count], offered, at, size, joined);
-                let end = at + (COMMAND + size);
-                self = Feeder::fresh();
-                Absorbed {
-                    used: end - count,
-                    skipped: at,
-                    completed,
-                    feeder: self,
-                }
-            }
-            Stop::Rest(from) => {
-                let kept = self.keep(offered, from);
-                self = kept;
-                Absorbed {
-                    used: offered.len(),
-                    skipped: from,
-                    completed: Completed::Nothing,
-                    feeder: self,
-                }
-            }
+        let taken = take(&mut self.waiting, count, piece, joined);
+        self.count = taken.count;
+        let completed = taken.completed;
+        Absorbed {
+            used: taken.used,
+            skipped: taken.skipped,
+            completed,
+            feeder: self,
         }
     }
 }

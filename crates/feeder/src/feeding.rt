@@ -2,8 +2,10 @@
 use crate::Fed;
 use crate::Feeder;
 use crate::absorb::Completed;
+use crate::absorb::take;
 use crate::heads::COMMAND;
 use crate::heads::MOST;
+use crate::state::feeding_leaves;
 use commands::execute::execute;
 use store::check::well_formed;
 ghost use mathlib.Core.Path.{_≡_};
@@ -60,7 +62,8 @@ impl Feeder {
     pub fn feed(mut self, piece: &[u8], store: &mut [u8], reply: &mut [u8]) -> Fed
         ensures { λ r. ⌜ record { fed = r; store = now (store .exit); buffer = now (reply .exit) } ≡ feed self (now (piece .entry)) (now (store .entry)) (now (reply .entry)) ⌝ }
     {
-        if !self.is_left() {
+        let count = self.count;
+        if !feeding_leaves(&self.waiting, count) {
             return refused(1, self);
         }
         if !well_formed(store) {
@@ -70,15 +73,14 @@ impl Feeder {
             return refused(3, self);
         }
         let mut joined = [0u8; COMMAND + MOST];
-        let absorbed = self.absorb(piece, &mut joined);
-        let kept = absorbed.feeder;
-        self = kept;
-        let completed = absorbed.completed;
+        let taken = take(&mut self.waiting, count, piece, &mut joined);
+        let completed = taken.completed;
         let replied = reply_to(completed, piece, &joined, store, reply);
+        self.count = taken.count;
         Fed {
             refusal: 0,
-            used: absorbed.used,
-            skipped: absorbed.skipped,
+            used: taken.used,
+            skipped: taken.skipped,
             replied,
             feeder: self,
         }

@@ -28,7 +28,7 @@ fn all_wait(s: &[u8]) -> bool
 }
 
 // Whether feeding leaves a state of these places, of which so many wait.
-fn feeding_leaves(waiting: &[u8], count: usize) -> bool
+pub fn feeding_leaves(waiting: &[u8], count: usize) -> bool
     requires { ⌜ length (now waiting) ≡ waitingMost ⌝ }
     ensures { λ r. ⌜ r ≡ isLeft (record { waiting = now (waiting .entry); count = count }) ⌝ }
 {
@@ -56,7 +56,6 @@ impl Feeder {
     pub fn is_left(self) -> bool
         ensures { λ r. ⌜ r ≡ isLeft self ⌝ }
     {
-        let waiting = self.waiting;
-        feeding_leaves(&waiting, self.count)
+        feeding_leaves(&self.waiting, self.count)
     }
 }

@@ -1,0 +1,80 @@
+use mathlib.Core.Path.{sym, _∙_}
+use native.Mathlib.Omega.{arith}
+use Rattle.feeder.proofs.Waiting.{left-state}
+use Rattle.feeder.proofs.Absorbing.{completes, end-small, end-beyond, rest-inside, rest-waits, absorbed-record, absorbed-none}
+use borrow.Author.Needs.{needs}
+use Rattle.feeder.proofs.absorb.take.Statement.{statement}
+use Rattle.feeder.proofs.absorb.take.Tie as tie
+
+offer-requires : tie.Need-offer-requires
+offer-requires c κs = search needs
+
+slice-reshare-prefix-first-stop : tie.Need-slice-reshare-prefix-first-stop
+slice-reshare-prefix-first-stop c = omega (arith, left-state _ (c .before .before .before .before .pre .0) .size, left-state _ (c .before .before .before .before .pre .0) .few)
+
+slice-aggregate-first-stop : tie.Need-slice-aggregate-first-stop
+slice-aggregate-first-stop c = sym (left-state _ (c .before .before .before .before .before .pre .0) .count)
+
+first-stop-requires : tie.Need-first-stop-requires
+first-stop-requires c κs = search needs
+
+enum-known-stop : tie.Need-enum-known-stop
+enum-known-stop c = search needs
+
+slice-reshare-prefix-complete : tie.Need-slice-reshare-prefix-complete
+slice-reshare-prefix-complete c = omega (arith, left-state _ (c .before .before .before .before .before .before .before .before .before .pre .0) .size, left-state _ (c .before .before .before .before .before .before .before .before .before .pre .0) .few)
+
+slice-aggregate-complete : tie.Need-slice-aggregate-complete
+slice-aggregate-complete c = sym (left-state _ (c .before .before .before .before .before .before .before .before .before .before .pre .0) .count)
+
+complete-requires : tie.Need-complete-requires
+complete-requires c κs = completes _ _ (c .before .before .before .before .before .before .before .before .before .before .before .pre .0) (c .before .before .before .before .before .before .before .offer .ensures) _ _ (sym (c .before .before .before .stop .given .1) ∙ c .before .before .before .before .before .first-stop .ensures) _ (c .before .before .before .before .before .before .before .before .before .before .before .pre .1)
+
+add-end : tie.Need-add-end
+add-end c = omega (arith, end-small _ _ (c .before .before .before .before .before .before .before .before .before .before .before .before .before .before .pre .0) (c .before .before .before .before .before .before .before .before .before .before .offer .ensures) _ _ (sym (c .before .before .before .before .before .before .stop .given .1) ∙ c .before .before .before .before .before .before .before .before .first-stop .ensures))
+
+add-end-2 : tie.Need-add-end-2
+add-end-2 c = omega (arith, end-small _ _ (c .before .before .before .before .before .before .before .before .before .before .before .before .before .before .pre .0) (c .before .before .before .before .before .before .before .before .before .before .offer .ensures) _ _ (sym (c .before .before .before .before .before .before .stop .given .1) ∙ c .before .before .before .before .before .before .before .before .first-stop .ensures))
+
+forget-requires : tie.Need-forget-requires
+forget-requires c κs = search needs
+
+sub-t22 : tie.Need-sub-t22
+sub-t22 c = omega (arith, end-beyond _ _ (c .before .before .before .before .before .before .before .before .before .before .before .before .before .before .before .pre .0) (c .before .before .before .before .before .before .before .before .before .before .before .offer .ensures) _ _ (sym (c .before .before .before .before .before .before .before .stop .given .1) ∙ c .before .before .before .before .before .before .before .before .before .first-stop .ensures))
+
+enum-known-stop-2 : tie.Need-enum-known-stop-2
+enum-known-stop-2 c = search needs
+
+keep-requires : tie.Need-keep-requires
+keep-requires c κs = (c .before .before .before .before .before .before .before .before .before .pre .0, (rest-inside _ _ (c .before .before .before .before .before .before .before .before .before .pre .0) (c .before .before .before .before .before .offer .ensures) _ (sym (c .before .stop2 .given .1) ∙ c .before .before .before .first-stop .ensures), rest-waits _ _ (c .before .before .before .before .before .before .before .before .before .pre .0) (c .before .before .before .before .before .offer .ensures) _ (sym (c .before .stop2 .given .1) ∙ c .before .before .before .first-stop .ensures)))
+
+same-length : tie.Need-same-length
+same-length c = search needs
+
+returns : tie.Need-returns
+returns c = absorbed-record _ _ (c .before .before .before .before .before .before .before .before .before .before .before .before .before .before .before .pre .0) (c .before .before .before .before .before .before .before .before .before .before .before .offer .ensures) _ _ (sym (c .before .before .before .before .before .before .before .stop .given .1) ∙ c .before .before .before .before .before .before .before .before .before .first-stop .ensures) _ (c .before .before .before .complete .ensures) (c .forget .ensures)
+
+returns-2 : tie.Need-returns-2
+returns-2 c = absorbed-none _ _ (c .before .before .before .before .before .before .before .before .before .before .pre .0) (c .before .before .before .before .before .before .offer .ensures) _ (sym (c .before .before .stop2 .given .1) ∙ c .before .before .before .before .first-stop .ensures) (c .keep .ensures)
+
+pub take-spec : {M : Type 1} → statement M
+take-spec =
+    tie.close
+    (tie.spec
+    offer-requires
+    slice-reshare-prefix-first-stop
+    slice-aggregate-first-stop
+    first-stop-requires
+    enum-known-stop
+    slice-reshare-prefix-complete
+    slice-aggregate-complete
+    complete-requires
+    add-end
+    add-end-2
+    forget-requires
+    sub-t22
+    enum-known-stop-2
+    keep-requires
+    same-length
+    returns
+    returns-2)
