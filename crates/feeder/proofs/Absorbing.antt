@@ -230,7 +230,11 @@ module _ (f : Feeder) (piece : List ℕ) (left : isLeft f ≡ true) {o : List �
     pub absorbed-record : (j : List ℕ) {c : Completed} {t : List ℕ} {g : Feeder}
         → record { completed = c; joined = t } ≡ completedAt (take (f .count) (f .waiting)) o (record { at = at; size = n }) j
         → g ≡ fresh
-        → record { absorbed = record { used = at + (commandAt + n) - f .count; skipped = at; completed = c; feeder = g }; joined = t }
+        → record {
+          absorbed = record { used = at + (commandAt + n) - f .count; skipped = at; completed = c; count = g .count };
+          waiting = g .waiting;
+          joined = t;
+        }
         ≡ absorbed f piece j
     unfolding absorbed orElse finishing waitingIn
     absorbed-record j h q = rw (found, ← eo, ← h, q, left-state f left .count)
@@ -263,7 +267,11 @@ module _ (f : Feeder) (piece : List ℕ) (left : isLeft f ≡ true) {o : List �
         ))
 
     pub absorbed-none : {j : List ℕ} {g : Feeder} → g ≡ stateOf (drop at (waitingIn f ++ o))
-        → record { absorbed = record { used = length o; skipped = at; completed = completions.Nothing; feeder = g }; joined = j }
+        → record {
+          absorbed = record { used = length o; skipped = at; completed = completions.Nothing; count = g .count };
+          waiting = g .waiting;
+          joined = j;
+        }
         ≡ absorbed f piece j
     unfolding absorbed orElse keeping
     absorbed-none h = rw (nothing, h, eo, leaves, skips)

@@ -122,7 +122,7 @@ answerOf piece b buffer h =
             used = h .absorbed .used;
             skipped = h .absorbed .skipped;
             replied = length (d .reply);
-            feeder = h .absorbed .feeder;
+            feeder = record { waiting = h .waiting; count = h .absorbed .count };
           };
       store = d .store;
       buffer = laidOver (d .reply) buffer;
@@ -157,7 +157,7 @@ module _ (f : Feeder) (piece j : List ℕ) (left : isLeft f ≡ true) (room : re
       go none e = tt
       go (some p) e = means-inside (waitingIn f) piece (p .at) (p .size) j (found-completes p e)
 
-  module _ {a : Absorbed} {t : List ℕ} (h : record { absorbed = a; joined = t } ≡ absorbed f piece j) where
+  module _ {a : Absorbed} {w t : List ℕ} (h : record { absorbed = a; waiting = w; joined = t } ≡ absorbed f piece j) where
     pub command-inside : CommandInside (a .completed) piece t
     command-inside =
         let e : a ≡ absorbed f piece j .absorbed = ap (λ (x : Handed). x .absorbed) h in
@@ -166,7 +166,7 @@ module _ (f : Feeder) (piece j : List ℕ) (left : isLeft f ≡ true) (room : re
 
     pub fed-whole : (b buffer : List ℕ) → wellFormed b ≡ true → bufferLeast ≤ length buffer → {after over : List ℕ} {r : ℕ}
         → Replied (doneFor (a .completed) piece t b) after buffer over r
-        → record { fed = record { refusal = 0; used = a .used; skipped = a .skipped; replied = r; feeder = a .feeder }; store = after; buffer = over }
+        → record { fed = record { refusal = 0; used = a .used; skipped = a .skipped; replied = r; feeder = record { waiting = w; count = a .count } }; store = after; buffer = over }
         ≡ feed f piece b buffer
     unfolding answerOf feed
     fed-whole b buffer well large d =

@@ -89,17 +89,20 @@ completedAt w piece p joined =
     })
     (record { completed = completions.InPiece clock (p .at - length w + commandAt) (p .size); joined = joined })
 
--- what taking bytes answers, with the bytes lent for joining as it leaves them
+-- what taking bytes answers, with the waiting bytes and those lent for joining as it leaves them
 pub record Handed : Type 0 where
   pub absorbed : Absorbed
+  pub waiting : List ℕ
   pub joined : List ℕ
 
 -- no record is completed
 unfoldable pub keeping : List ℕ → ℕ → List ℕ → Handed
 keeping s used joined =
+    let f : Feeder = stateOf (divide s .rest) in
     record {
       absorbed =
-          record { used = used; skipped = divide s .skipped; completed = completions.Nothing; feeder = stateOf (divide s .rest) };
+          record { used = used; skipped = divide s .skipped; completed = completions.Nothing; count = f .count };
+      waiting = f .waiting;
       joined = joined;
     }
 
@@ -113,8 +116,9 @@ finishing w piece p joined =
             used = p .at + (commandAt + p .size) - length w;
             skipped = p .at;
             completed = f .completed;
-            feeder = fresh;
+            count = fresh .count;
           };
+      waiting = fresh .waiting;
       joined = f .joined;
     }
 

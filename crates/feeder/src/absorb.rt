@@ -1,5 +1,4 @@
 // Taking bytes: up to the first record completed, the piece's end or 65,536 bytes.
-use crate::Feeder;
 use crate::heads::COMMAND;
 use crate::scan::Stop;
 use crate::scan::first_stop;
@@ -40,16 +39,8 @@ pub enum Completed {
     },
 }
 
-// What taking bytes of a piece comes to: bytes used and skipped, the record completed, and the state handed back.
+// What taking bytes of a piece comes to: bytes used and skipped, the record completed, and how many bytes then wait.
 pub struct Absorbed {
-    pub used: usize,
-    pub skipped: usize,
-    pub completed: Completed,
-    pub feeder: Feeder,
-}
-
-// The same where the bytes wait in lent places: the count of those that then wait.
-pub(crate) struct Taken {
     pub used: usize,
     pub skipped: usize,
     pub completed: Completed,
@@ -141,15 +132,15 @@ fn keep(waiting: &mut [u8], count: usize, piece: &[u8], at: usize) -> usize
 }
 
 // Takes bytes of a piece where so many of the lent places wait. A record that does not lie whole in it is joined in `joined`.
-pub(crate) fn take(
+pub fn absorb(
     waiting: &mut [u8; WAITING],
     count: usize,
     piece: &[u8],
     joined: &mut [u8],
-) -> Taken
+) -> Absorbed
     requires { ⌜ isLeft (record { waiting = now waiting; count = count }) ≡ true ⌝ }
     requires { ⌜ recordMost ≤ length (now joined) ⌝ }
-    ensures { λ r. ⌜ record { absorbed = record { used = r .used; skipped = r .skipped; completed = r .completed; feeder = record { waiting = now (waiting .exit); count = r .count } }; joined = now (joined .exit) } ≡ absorbed (record { waiting = now (waiting .entry); count = count }) (now (piece .entry)) (now (joined .entry)) ⌝ }
+    ensures { λ r. ⌜ record { absorbed = r; waiting = now (waiting .exit); joined = now (joined .exit) } ≡ absorbed (record { waiting = now (waiting .entry); count = count }) (now (piece .entry)) (now (joined .entry)) ⌝ }
 {
     let places = &mut waiting[..];
     let offered = offer(piece);
@@ -159,7 +150,7 @@ pub(crate) fn take(
             let completed = complete(&places[..count], offered, at, size, joined);
             let end = at + (COMMAND + size);
             forget(places, count);
-            Taken {
+            Absorbed {
                 used: end - count,
                 skipped: at,
                 completed,
@@ -168,32 +159,12 @@ pub(crate) fn take(
         }
         Stop::Rest(from) => {
             let kept = keep(places, count, offered, from);
-            Taken {
+            Absorbed {
                 used: offered.len(),
                 skipped: from,
                 completed: Completed::Nothing,
                 count: kept,
             }
-        }
-    }
-}
-
-impl Feeder {
-    // Takes bytes of a piece. A record that does not lie whole in it is joined in `joined`.
-    pub fn absorb(mut self, piece: &[u8], joined: &mut [u8]) -> Absorbed
-        requires { ⌜ isLeft self ≡ true ⌝ }
-        requires { ⌜ recordMost ≤ length (now joined) ⌝ }
-        ensures { λ r. ⌜ record { absorbed = r; joined = now (joined .exit) } ≡ absorbed self (now (piece .entry)) (now (joined .entry)) ⌝ }
-    {
-        let count = self.count;
-        let taken = take(&mut self.waiting, count, piece, joined);
-        self.count = taken.count;
-        let completed = taken.completed;
-        Absorbed {
-            used: taken.used,
-            skipped: taken.skipped,
-            completed,
-            feeder: self,
         }
     }
 }

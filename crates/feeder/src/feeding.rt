@@ -2,7 +2,7 @@
 use crate::Fed;
 use crate::Feeder;
 use crate::absorb::Completed;
-use crate::absorb::take;
+use crate::absorb::absorb;
 use crate::heads::COMMAND;
 use crate::heads::MOST;
 use crate::state::feeding_leaves;
@@ -73,14 +73,14 @@ impl Feeder {
             return refused(3, self);
         }
         let mut joined = [0u8; COMMAND + MOST];
-        let taken = take(&mut self.waiting, count, piece, &mut joined);
-        let completed = taken.completed;
+        let absorbed = absorb(&mut self.waiting, count, piece, &mut joined);
+        let completed = absorbed.completed;
         let replied = reply_to(completed, piece, &joined, store, reply);
-        self.count = taken.count;
+        self.count = absorbed.count;
         Fed {
             refusal: 0,
-            used: taken.used,
-            skipped: taken.skipped,
+            used: absorbed.used,
+            skipped: absorbed.skipped,
             replied,
             feeder: self,
         }

@@ -1,6 +1,6 @@
 // The feeder: records from a byte stream that arrives in pieces.
 
-pub mod absorb;
+mod absorb;
 mod feeding;
 mod heads;
 mod scan;

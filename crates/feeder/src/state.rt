@@ -51,11 +51,4 @@ impl Feeder {
             count: 0,
         }
     }
-
-    // Whether feeding leaves this state.
-    pub fn is_left(self) -> bool
-        ensures { λ r. ⌜ r ≡ isLeft self ⌝ }
-    {
-        feeding_leaves(&self.waiting, self.count)
-    }
 }

@@ -38,17 +38,17 @@ same-length-2 c = search needs
 returns-3 : tie.Need-returns-3
 returns-3 c = refused-buffer (c .before .before .before .before .before .before .before .before .before .before .before .before .before .args .t1) (c .before .before .before .before .before .before .before .before .before .before .before .before .before .args .piece .now) (c .before .before .before .before .before .before .before .before .before .before .before .before .before .args .store .now) (c .before .before .before .before .before .before .before .before .before .before .before .before .before .args .reply .now) (sym (c .before .before .before .before .before .before .feeding-leaves .ensures) ∙ not-false _ (c .before .before .before .before .before .if1 .left)) (sym (c .before .before .before .well-formed .ensures) ∙ not-false _ (c .before .before .if2 .left)) (c .before .if3 .taken) (c .refused3 .ensures)
 
-slice-aggregate-take : tie.Need-slice-aggregate-take
-slice-aggregate-take c = search needs
+slice-aggregate-absorb : tie.Need-slice-aggregate-absorb
+slice-aggregate-absorb c = search needs
 
-take-requires : tie.Need-take-requires
-take-requires c κs = (sym (c .before .before .before .before .before .before .before .feeding-leaves .ensures) ∙ not-false _ (c .before .before .before .before .before .before .if1 .left), omega (arith, length-replicate {A = ℕ} 1036 0))
+absorb-requires : tie.Need-absorb-requires
+absorb-requires c κs = (sym (c .before .before .before .before .before .before .before .feeding-leaves .ensures) ∙ not-false _ (c .before .before .before .before .before .before .if1 .left), omega (arith, length-replicate {A = ℕ} 1036 0))
 
 slice-aggregate-reply-to : tie.Need-slice-aggregate-reply-to
 slice-aggregate-reply-to c = search needs
 
 reply-to-requires : tie.Need-reply-to-requires
-reply-to-requires c κs = (command-inside (c .before .before .before .before .before .before .before .before .before .before .before .before .before .before .before .before .before .before .before .args .t1) (c .before .before .before .before .before .before .before .before .before .before .before .before .before .before .before .before .before .before .before .args .piece .now) (replicate 1036 0) (sym (c .before .before .before .before .before .before .before .before .before .before .before .before .feeding-leaves .ensures) ∙ not-false _ (c .before .before .before .before .before .before .before .before .before .before .before .if1 .left)) (omega (arith, length-replicate {A = ℕ} 1036 0)) (c .before .before .before .before .take .ensures), (sym (c .before .before .before .before .before .before .before .before .before .well-formed .ensures) ∙ not-false _ (c .before .before .before .before .before .before .before .before .if2 .left), c .before .before .before .before .before .before .before .if3 .left))
+reply-to-requires c κs = (command-inside (c .before .before .before .before .before .before .before .before .before .before .before .before .before .before .before .before .before .before .before .args .t1) (c .before .before .before .before .before .before .before .before .before .before .before .before .before .before .before .before .before .before .before .args .piece .now) (replicate 1036 0) (sym (c .before .before .before .before .before .before .before .before .before .before .before .before .feeding-leaves .ensures) ∙ not-false _ (c .before .before .before .before .before .before .before .before .before .before .before .if1 .left)) (omega (arith, length-replicate {A = ℕ} 1036 0)) (c .before .before .before .before .absorb .ensures), (sym (c .before .before .before .before .before .before .before .before .before .well-formed .ensures) ∙ not-false _ (c .before .before .before .before .before .before .before .before .if2 .left), c .before .before .before .before .before .before .before .if3 .left))
 
 same-length-3 : tie.Need-same-length-3
 same-length-3 c = search needs
@@ -57,7 +57,7 @@ same-length-4 : tie.Need-same-length-4
 same-length-4 c = search needs
 
 returns-4 : tie.Need-returns-4
-returns-4 c = fed-whole (c .before .before .before .before .before .before .before .before .before .before .before .before .before .before .before .before .before .before .before .before .before .before .before .before .args .t1) (c .before .before .before .before .before .before .before .before .before .before .before .before .before .before .before .before .before .before .before .before .before .before .before .before .args .piece .now) (replicate 1036 0) (sym (c .before .before .before .before .before .before .before .before .before .before .before .before .before .before .before .before .before .feeding-leaves .ensures) ∙ not-false _ (c .before .before .before .before .before .before .before .before .before .before .before .before .before .before .before .before .if1 .left)) (omega (arith, length-replicate {A = ℕ} 1036 0)) (c .before .before .before .before .before .before .before .before .before .take .ensures) (c .before .before .before .before .before .before .before .before .before .before .before .before .before .before .before .before .before .before .before .before .before .before .before .before .args .store .now) (c .before .before .before .before .before .before .before .before .before .before .before .before .before .before .before .before .before .before .before .before .before .before .before .before .args .reply .now) (sym (c .before .before .before .before .before .before .before .before .before .before .before .before .before .before .well-formed .ensures) ∙ not-false _ (c .before .before .before .before .before .before .before .before .before .before .before .before .before .if2 .left)) (c .before .before .before .before .before .before .before .before .before .before .before .before .if3 .left) (c .before .before .before .before .reply-to .ensures)
+returns-4 c = fed-whole (c .before .before .before .before .before .before .before .before .before .before .before .before .before .before .before .before .before .before .before .before .before .before .before .before .args .t1) (c .before .before .before .before .before .before .before .before .before .before .before .before .before .before .before .before .before .before .before .before .before .before .before .before .args .piece .now) (replicate 1036 0) (sym (c .before .before .before .before .before .before .before .before .before .before .before .before .before .before .before .before .before .feeding-leaves .ensures) ∙ not-false _ (c .before .before .before .before .before .before .before .before .before .before .before .before .before .before .before .before .if1 .left)) (omega (arith, length-replicate {A = ℕ} 1036 0)) (c .before .before .before .before .before .before .before .before .before .absorb .ensures) (c .before .before .before .before .before .before .before .before .before .before .before .before .before .before .before .before .before .before .before .before .before .before .before .before .args .store .now) (c .before .before .before .before .before .before .before .before .before .before .before .before .before .before .before .before .before .before .before .before .before .before .before .before .args .reply .now) (sym (c .before .before .before .before .before .before .before .before .before .before .before .before .before .before .well-formed .ensures) ∙ not-false _ (c .before .before .before .before .before .before .before .before .before .before .before .before .before .if2 .left)) (c .before .before .before .before .before .before .before .before .before .before .before .before .if3 .left) (c .before .before .before .before .reply-to .ensures)
 
 pub feed-spec : {M : Type 1} → statement M
 feed-spec =
@@ -73,8 +73,8 @@ feed-spec =
     refused-requires-3
     same-length-2
     returns-3
-    slice-aggregate-take
-    take-requires
+    slice-aggregate-absorb
+    absorb-requires
     slice-aggregate-reply-to
     reply-to-requires
     same-length-3

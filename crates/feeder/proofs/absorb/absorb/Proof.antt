@@ -3,8 +3,8 @@ use native.Mathlib.Omega.{arith}
 use Rattle.feeder.proofs.Waiting.{left-state}
 use Rattle.feeder.proofs.Absorbing.{completes, end-small, end-beyond, rest-inside, rest-waits, absorbed-record, absorbed-none}
 use borrow.Author.Needs.{needs}
-use Rattle.feeder.proofs.absorb.take.Statement.{statement}
-use Rattle.feeder.proofs.absorb.take.Tie as tie
+use Rattle.feeder.proofs.absorb.absorb.Statement.{statement}
+use Rattle.feeder.proofs.absorb.absorb.Tie as tie
 
 offer-requires : tie.Need-offer-requires
 offer-requires c κs = search needs
@@ -57,8 +57,8 @@ returns c = absorbed-record _ _ (c .before .before .before .before .before .befo
 returns-2 : tie.Need-returns-2
 returns-2 c = absorbed-none _ _ (c .before .before .before .before .before .before .before .before .before .before .pre .0) (c .before .before .before .before .before .before .offer .ensures) _ (sym (c .before .before .stop2 .given .1) ∙ c .before .before .before .before .first-stop .ensures) (c .keep .ensures)
 
-pub take-spec : {M : Type 1} → statement M
-take-spec =
+pub absorb-spec : {M : Type 1} → statement M
+absorb-spec =
     tie.close
     (tie.spec
     offer-requires
