@@ -9,7 +9,7 @@ use std::hint::black_box;
 use std::time::Instant;
 
 const ROUNDS: usize = 41;
-const READS: usize = 200;
+const READS: usize = 50;
 const REPLY_SIZE: usize = 56_000;
 
 /// An implementation's feeder.
@@ -91,8 +91,8 @@ struct Times {
     ratio: f64,
 }
 
-/// Medians of rounds made in turns, once one and once the other first.
-fn times(load: &Load, lent: &mut Lent) -> Times {
+/// Both implementations do a load's records, and leave the same.
+fn assert_alike(load: &Load, lent: &mut Lent) {
     let done = outcome::<exhash::Feeder>(load, lent);
     assert_eq!(done.1, load.records, "{}", load.name);
     assert!(
@@ -100,6 +100,11 @@ fn times(load: &Load, lent: &mut Lent) -> Times {
         "{}",
         load.name
     );
+}
+
+/// Medians of rounds made in turns, once one and once the other first.
+fn times(load: &Load, lent: &mut Lent) -> Times {
+    assert_alike(load, lent);
     let pairs = (0..ROUNDS).map(|at| {
         if at % 2 == 0 {
             let library = round::<exhash::Feeder>(load, lent);
@@ -135,13 +140,11 @@ fn sum_modulo_256(bytes: &[u8]) -> u8 {
 
 /// Nanoseconds to read a store's bytes once.
 fn time_of_reading<T>(store: &[u8], read: impl Fn(&[u8]) -> T) -> f64 {
-    median((0..ROUNDS).map(|_| {
-        let start = Instant::now();
-        for _ in 0..READS {
-            black_box(read(black_box(store)));
-        }
-        start.elapsed().as_nanos() as f64 / READS as f64
-    }))
+    let start = Instant::now();
+    for _ in 0..READS {
+        black_box(read(black_box(store)));
+    }
+    start.elapsed().as_nanos() as f64 / READS as f64
 }
 
 fn print_row(name: &str, times: &Times) {
@@ -190,20 +193,29 @@ fn print_growth(lent: &mut Lent) {
 
 /// One byte fed beside two ways to read the store's bytes once, both made of vectors by the compiler.
 fn print_single_byte(lent: &mut Lent) {
+    let names = [
+        "sum of the store's bytes",
+        "sum of the store's bytes modulo 256",
+        "one byte fed, exhash",
+        "one byte fed, model",
+    ];
     let load = load::single_bytes(500);
-    let fastest = time_of_reading(&load.store, sum_modulo_256);
-    let plain = time_of_reading(&load.store, sum);
-    let Times { library, model, .. } = times(&load, lent);
+    assert_alike(&load, lent);
+    let rounds = (0..ROUNDS).map(|_| {
+        [
+            time_of_reading(&load.store, sum),
+            time_of_reading(&load.store, sum_modulo_256),
+            round::<exhash::Feeder>(&load, lent),
+            round::<model::Feeder>(&load, lent),
+        ]
+    });
+    let rounds: Vec<[f64; 4]> = rounds.collect();
     println!("\n| 500 slots held | ns | times the sum | times the sum modulo 256 |");
     println!("|---|---|---|---|");
-    let rows = [
-        ("sum of the store's bytes", plain),
-        ("sum of the store's bytes modulo 256", fastest),
-        ("one byte fed, exhash", library),
-        ("one byte fed, model", model),
-    ];
-    for (name, ns) in rows {
-        let (plain, fastest) = (ns / plain, ns / fastest);
+    for (row, name) in names.iter().enumerate() {
+        let ns = median(rounds.iter().map(|times| times[row]));
+        let plain = median(rounds.iter().map(|times| times[row] / times[0]));
+        let fastest = median(rounds.iter().map(|times| times[row] / times[1]));
         println!("| {name} | {ns:.1} | {plain:.1} | {fastest:.1} |");
     }
 }
