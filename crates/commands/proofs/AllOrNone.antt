@@ -21,8 +21,6 @@ use Rattle.commands.specs.Command.{Pair, keyOf, fieldsOf}
 use Rattle.commands.specs.Command.Command.{setMany}
 use Rattle.commands.specs.Parse.{parse}
 use Rattle.commands.specs.Parse.Parsed.{accepted}
-use Rattle.commands.specs.declared.Versioning.the-variants.{Next}
-use Rattle.commands.specs.declared.Lifetime.the-variants.{Clear}
 use Rattle.commands.specs.Effect.{Change, change, changeAll, nextExpiry, written, writesOf, effect}
 use Rattle.commands.specs.Execute.{Outcome, exec}
 use Rattle.commands.proofs.Writes.{changes-apart}

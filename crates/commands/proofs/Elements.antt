@@ -1,14 +1,10 @@
 -- An array laid element by element: what is laid, and what is left to lay.
-use mathlib.Core.Path.{_≡_, refl, sym, ap, _∙_}
-use mathlib.Core.Bool.{Bool, true, false, cond}
-use mathlib.Core.List.{List, [], _∷_, _++_, map, flatten, flatMap, append-assoc, append-nil}
-use mathlib.Core.Option.{Option, none, some, Option·map}
-use Prim.Native.Nat.{ℕ, zero, suc, _+_, _-_, _*_, _≤_, _<_}
+use mathlib.Core.Path.{_≡_, sym, ap, _∙_}
+use mathlib.Core.List.{List, [], _++_, append-assoc, append-nil}
+use Prim.Native.Nat.{ℕ, _+_, _-_, _≤_}
 use native.Mathlib.Omega.{arith}
 use borrow.Rule.Slice.PartMut.{putMid}
 use lib.ListN.{length, take, drop, length-append, length-take, length-drop}
-use Rattle.wire.specs.Lists.{keep, orElse}
-use Rattle.wire.specs.Reply.{header, array}
 use Rattle.wire.specs.Promises.{Laid}
 use Rattle.wire.proofs.Laying.{laid-tail, laid-within, laid-length, tail-inside, tail-room}
 

@@ -25,12 +25,12 @@ use Rattle.commands.specs.declared.KeyDeed.{KeyDeed}
 use Rattle.commands.specs.declared.Parsed.{Parsed}
 use Rattle.commands.specs.declared.Parsed.the-variants as parses
 use Rattle.commands.specs.Refusal.{table, errorLine}
-use Rattle.commands.specs.Command.{Command, keyOf, fieldsOf}
+use Rattle.commands.specs.Command.{Command}
 use Rattle.commands.specs.Command.Command.{onField}
 use Rattle.commands.specs.Parse as P
 use Rattle.commands.specs.Parse.{commands, commandNamed, countFits, wordAt, parse}
 use Rattle.commands.specs.Parse.Parsed.{refused, accepted}
-use Rattle.commands.specs.Execute.{Outcome, run, perform, exec, execBytes, sweep, namedDead}
+use Rattle.commands.specs.Execute.{run, perform, exec, execBytes, sweep, namedDead}
 use Rattle.commands.specs.Promises.{Does, Passed, runOn, settle, withoutDead, meant, deedOf, commandFor, amountFits, isRefusal}
 use Rattle.commands.proofs.Acts.{holds-self}
 use Rattle.commands.proofs.Checks.{checks-clear, givenIn, builtOf, parse-refused, parse-accepted}

@@ -1,17 +1,17 @@
 -- Loops over the fields that the words of a command name, from word 2 on: what is left does the same.
 use mathlib.Core.Path.{_≡_, refl, sym, ap, _∙_}
-use mathlib.Core.Bool.{Bool, true, false}
+use mathlib.Core.Bool.{true}
 use mathlib.Core.List.{List, [], _∷_, _++_, map, flatten, flatMap}
 use Prim.Native.Nat.{ℕ, _+_, _-_, _*_, _≤_, _<_}
 use native.Mathlib.Numerals.{add-one}
 use native.Mathlib.Omega.{arith}
-use lib.ListN.{length, drop, getD, length-map, length-drop, drop-of-length-le}
+use lib.ListN.{length, drop, length-map, length-drop, drop-of-length-le}
 use lib.Seq.{drop-cons}
 use Rattle.wire.specs.Lists.{any, keep, orElse}
 use Rattle.wire.specs.Words.{Word}
 use Rattle.wire.specs.Reply.{header, array}
 use Rattle.wire.proofs.Lists.{length-keep}
-use Rattle.store.specs.Store.{Slot, Store, decode, wellFormed, holds}
+use Rattle.store.specs.Store.{Slot, Store, decode, wellFormed}
 use Rattle.store.specs.Time.{liveOfKey}
 use Rattle.store.specs.Promises.{Holds}
 use Rattle.store.proofs.Encode.{decode-valid}

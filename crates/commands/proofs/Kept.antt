@@ -3,7 +3,7 @@ use mathlib.Core.Path.{_≡_, refl, sym, ap, _∙_}
 use mathlib.Core.Bool.{Bool, true, false, cond, _&&_, false≢true}
 use mathlib.Core.List.{List, [], _∷_, _++_, flatten, flatMap, append-nil}
 use mathlib.Core.Option.{Option, none, some, Option·map}
-use Prim.Native.Nat.{ℕ, zero, suc, _+_, _*_, _≤_, _<_}
+use Prim.Native.Nat.{ℕ, suc, _+_, _*_, _≤_, _<_}
 use native.Mathlib.Nat.{suc-mul, add-comm}
 use native.Mathlib.Omega.{arith}
 use borrow.Author.Tests.{eqb-true, eqb-false}
@@ -13,10 +13,9 @@ use lib.Seq.{drop-drop, getD-drop, ext-getD}
 use Rattle.wire.specs.Lists.{keep, orElse}
 use Rattle.wire.specs.Bytes.{same}
 use Rattle.wire.specs.Words.{Word}
-use Rattle.wire.specs.Reply.{bulk, header, array}
-use Rattle.store.specs.declared.Found.{Found}
+use Rattle.wire.specs.Reply.{bulk}
 use Rattle.store.specs.declared.Found.the-variants as founds
-use Rattle.store.specs.Store.{Entry, Slot, Store, decodeSlot, slotCount, decode, wellFormed, holds}
+use Rattle.store.specs.Store.{Entry, Slot, decodeSlot, slotCount, decode, wellFormed, holds}
 use Rattle.store.specs.Time.{lowestSlot, emptySlot, without}
 use Rattle.store.specs.Promises.{Held, Holds, slotAt, foundFor, lowestFrom, entryAt, withSlot}
 use Rattle.store.proofs.At.{slot-means}

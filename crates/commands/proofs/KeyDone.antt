@@ -1,9 +1,8 @@
 -- What a command on the fields of a key comes to.
 use mathlib.Core.Path.{_≡_, refl, sym, ap, subst, _∙_}
-use mathlib.Core.Bool.{Bool, true, false, cond}
+use mathlib.Core.Bool.{Bool, true, false}
 use mathlib.Core.List.{List, [], _∷_, map, flatMap}
-use mathlib.Core.Option.{none}
-use Prim.Native.Nat.{ℕ, _+_, _≤_}
+use Prim.Native.Nat.{ℕ, _≤_}
 use native.Mathlib.Omega.{arith}
 use borrow.Author.Tests.{le-ltb}
 use lib.ListN.{length}
@@ -22,9 +21,9 @@ use Rattle.commands.specs.declared.KeyDeed.{KeyDeed}
 use Rattle.commands.specs.Command.{Command, keyOf, fieldsOf}
 use Rattle.commands.specs.Command.Command.{getMany, delete, countHeld, countLive, list}
 use Rattle.commands.specs.Refusal.{lowest}
-use Rattle.commands.specs.Effect.{answer, changeAll, listedSlot, effect}
+use Rattle.commands.specs.Effect.{answer, listedSlot, effect}
 use Rattle.commands.specs.Effect.Change.{remove}
-use Rattle.commands.specs.Execute.{Outcome, passes, adds, added, room, lateChecks}
+use Rattle.commands.specs.Execute.{passes, adds, added, room, lateChecks}
 use Rattle.commands.specs.Promises.{withoutDead, Passed, settle, runOn, Does, Deletes, answerAbout, commandFor}
 use Rattle.commands.proofs.Settling.{does-answer}
 use Rattle.commands.proofs.Sweeps.{dead-none}

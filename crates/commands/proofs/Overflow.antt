@@ -1,28 +1,25 @@
 -- The versions that an EXHMSET would write pass their largest exactly where the code's test of the fields says so, also where the store is too full.
 use mathlib.Core.Path.{_≡_, refl, sym, ap, subst, _∙_}
-use mathlib.Core.Bool.{Bool, true, false, cond, _&&_, _||_, and-false}
+use mathlib.Core.Bool.{Bool, true, false, cond, _||_, and-false}
 use mathlib.Core.List.{List, [], _∷_, map}
 use mathlib.Core.Option.{Option, none, some}
-use Prim.Native.Nat.{ℕ, zero, suc, _+_, _≤_, _<_}
+use Prim.Native.Nat.{ℕ, suc, _+_, _≤_}
 use native.Mathlib.Omega.{arith}
-use borrow.Author.Tests.{eqb-true, eqb-false, le-ltb}
+use borrow.Author.Tests.{le-ltb}
 use lib.Dec.{ltb, eqb}
 use lib.ListN.{length, getD, set}
 use Rattle.wire.specs.Lists.{any, keep, orElse}
 use Rattle.wire.specs.Bytes.{same}
 use Rattle.wire.specs.Words.{Word}
-use Rattle.wire.proofs.Lists.{or-neither, or-late, both-ways, length-keep}
+use Rattle.wire.proofs.Lists.{or-late, both-ways}
 use Rattle.wire.proofs.Bytes.{same-refl, same-true, same-sym}
 use Rattle.store.specs.Layout.{versionMost}
-use Rattle.store.specs.declared.Expiry.the-variants.{Never}
 use Rattle.store.specs.Store.{Entry, Slot, holds}
 use Rattle.store.specs.Time.{before, live, liveSlot, emptySlot, deadSlot, lowestSlot, slotFor, entryOf, put}
 use Rattle.store.proofs.Valid.{Apart}
-use Rattle.store.proofs.Slots.{Stands, holds-own, holds-named, entry-some, entry-none, entry-is, lowest-entry-none}
-use Rattle.store.proofs.Put.{put-apart, put-keeps, put-nowhere, put-entry, put-here, slot-place, getD-set}
+use Rattle.store.proofs.Slots.{Stands, entry-some, entry-none, entry-is, lowest-entry-none}
+use Rattle.store.proofs.Put.{put-apart, put-keeps, put-nowhere, put-entry, slot-place, getD-set}
 use Rattle.commands.specs.Command.{Pair}
-use Rattle.commands.specs.declared.Versioning.the-variants.{Next}
-use Rattle.commands.specs.declared.Lifetime.the-variants.{Clear}
 use Rattle.commands.specs.Effect.{nextVersion, nextExpiry, written, writesOf}
 use Rattle.commands.specs.Execute.{passes}
 use Rattle.commands.specs.Promises.{heldVersion, versionIn, timesIn, overflowing}

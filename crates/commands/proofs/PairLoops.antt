@@ -3,12 +3,11 @@ use mathlib.Core.Path.{_≡_, refl, sym, ap, subst, _∙_}
 use mathlib.Core.Bool.{Bool, true, false, cond, not, _||_}
 use mathlib.Core.List.{List, [], _∷_, map}
 use mathlib.Core.Option.{Option, none, some}
-use Prim.Native.Nat.{ℕ, zero, suc, _+_, _-_, _≤_, _<_}
+use Prim.Native.Nat.{ℕ, suc, _+_, _≤_, _<_}
 use native.Mathlib.Omega.{arith}
-use borrow.Author.Tests.{ltb-true, ltb-false, lt-ltb, le-ltb, eqb-true, eqb-false, eq-eqb, ne-eqb}
+use borrow.Author.Tests.{ltb-false, lt-ltb, le-ltb, ne-eqb}
 use lib.Dec.{ltb, eqb}
-use lib.ListN.{length, drop, getD, length-drop, length-map}
-use lib.Seq.{drop-cons}
+use lib.ListN.{length, drop, length-drop, length-map}
 use Rattle.wire.specs.Lists.{any, keep, orElse, isSome}
 use Rattle.wire.specs.Bytes.{same}
 use Rattle.wire.specs.Words.{Word}
@@ -24,10 +23,7 @@ use Rattle.store.specs.declared.Expiry.the-variants.{Never}
 use Rattle.store.specs.Promises.{Holds, foundFor, entry}
 use Rattle.store.proofs.Valid.{FitsSlot}
 use Rattle.store.proofs.Encode.{decode-valid}
-use Rattle.store.proofs.Searches.{any-lowest, found-at, found-nothing}
-use Rattle.commands.specs.declared.Versioning.the-variants.{Next}
-use Rattle.commands.specs.declared.Lifetime.the-variants.{Clear}
-use Rattle.commands.specs.declared.pairs.Survey.{Survey}
+use Rattle.store.proofs.Searches.{any-lowest}
 use Rattle.commands.specs.declared.pairs.Survey.the-variants as surveys
 use Rattle.commands.specs.Command.{Pair, keyOf, fieldsOf, valuesOf}
 use Rattle.commands.specs.Command.Command.{setMany}

@@ -1,9 +1,9 @@
 -- Entries of a key taken out of the slots one field after the other.
-use mathlib.Core.Path.{_≡_, refl, sym, ap, _∙_}
-use mathlib.Core.Bool.{Bool, true, false, cond, not, _&&_, _||_, and-false}
-use mathlib.Core.List.{List, [], _∷_, map}
-use mathlib.Core.Option.{Option, none, some}
-use Prim.Native.Nat.{ℕ, zero, suc, _+_, _≤_, _<_}
+use mathlib.Core.Path.{_≡_, refl, ap}
+use mathlib.Core.Bool.{Bool, true, false, cond, not, _&&_, _||_}
+use mathlib.Core.List.{List, [], _∷_}
+use mathlib.Core.Option.{none, some}
+use Prim.Native.Nat.{ℕ, _+_}
 use native.Mathlib.Omega.{arith}
 use lib.ListN.{length}
 use Rattle.wire.specs.Lists.{any, keep, orElse}
@@ -11,7 +11,7 @@ use Rattle.wire.specs.Bytes.{same}
 use Rattle.wire.specs.Words.{Word}
 use Rattle.store.specs.Store.{Entry, Slot, Store, holds}
 use Rattle.store.specs.Time.{live, without}
-use Rattle.commands.specs.Effect.{change, changeAll}
+use Rattle.commands.specs.Effect.{change}
 use Rattle.commands.specs.Effect.Change.{remove}
 use Rattle.commands.specs.Promises.{withSwept, withoutDead}
 

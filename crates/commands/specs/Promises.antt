@@ -25,7 +25,6 @@ use Rattle.store.specs.Layout.{keyMost, fieldMost, valueMost, versionMost, time
 use Rattle.store.specs.Store.{Entry, Slot, Store, decode, wellFormed, instantOf, holds}
 use Rattle.store.specs.Time.{live, keyExists, lowestSlot, entryOf, slotFor, put, without, emptySlot, deadSlot}
 use Rattle.store.specs.Promises.{foundFor, entryAt, Held, Holds, entry}
-use Rattle.commands.specs.declared.Sum.{Sum}
 use Rattle.commands.specs.declared.FieldDeed.{FieldDeed}
 use Rattle.commands.specs.declared.FieldDeed.the-variants as fieldDeeds
 use Rattle.commands.specs.declared.KeyDeed.{KeyDeed}

@@ -5,7 +5,6 @@ use mathlib.Core.List.{List, _++_}
 use mathlib.Core.Option.{none, some}
 use Prim.Native.Nat.{ℕ, _+_, _-_, _≤_, _<_}
 use native.Mathlib.Omega.{arith}
-use lib.Dec.{ltb}
 use lib.ListN.{length, take, drop, replicate, length-append, length-drop, length-take, length-replicate, replicate-append-replicate, take-append-drop}
 use lib.Seq.{take-all, length-take-le, drop-append-le, drop-append-add, drop-drop, take-append-add}
 use borrow.Author.Tests.{lt-ltb, le-ltb}
@@ -20,16 +19,16 @@ use Rattle.feeder.specs.declared.Feeder.{Feeder}
 use Rattle.feeder.specs.declared.absorb.Completed.{Completed}
 use Rattle.feeder.specs.declared.absorb.Completed.the-variants as completions
 use Rattle.feeder.specs.declared.scan.Stop.the-variants as stops
-use Rattle.feeder.specs.Record.{recordOf, commandAt, commandMost}
+use Rattle.feeder.specs.Record.{recordOf, commandAt}
 use Rattle.feeder.specs.Stream.{divide}
-use Rattle.feeder.specs.Feed.{waitingMost, usedMost, stateOf, fresh, waitingIn, isLeft, Place, firstRecord, offered}
-use Rattle.feeder.specs.Promises.{recordMost, stopOf, Completing, Finished, completedAt, Handed, keeping, finishing, absorbed}
+use Rattle.feeder.specs.Feed.{waitingMost, usedMost, stateOf, fresh, waitingIn, isLeft, firstRecord, offered}
+use Rattle.feeder.specs.Promises.{recordMost, stopOf, Completing, completedAt, keeping, finishing, absorbed}
 use Rattle.feeder.proofs.Head.{part-more}
 use Rattle.feeder.proofs.Divide.{rest-short}
-use Rattle.feeder.proofs.First.{endOf, First, first-found, first-fits, first-most, none-rest, none-skipped}
+use Rattle.feeder.proofs.First.{First, first-found, first-fits, first-most, none-rest, none-skipped}
 use Rattle.feeder.proofs.Call.{beyond}
 use Rattle.feeder.proofs.Stops.{stop-record, stop-none, stop-skipped}
-use Rattle.feeder.proofs.Waiting.{tail-part, LeftState, left-state}
+use Rattle.feeder.proofs.Waiting.{tail-part, left-state}
 
 -- ---- the bytes of a piece that a call looks at
 

@@ -1,6 +1,6 @@
 -- A feeding call: the bytes absorbed, and then the record done, answer what the definition says.
 use mathlib.Core.Path.{_≡_, refl, sym, ap, _∙_}
-use mathlib.Core.Bool.{Bool, true, false, cond, not}
+use mathlib.Core.Bool.{Bool, true, false}
 use mathlib.Core.List.{List, _++_}
 use mathlib.Core.Option.{Option, none, some}
 use Prim.Native.Nat.{ℕ, _+_, _-_, _≤_, _<_}
@@ -19,7 +19,7 @@ use Rattle.feeder.specs.declared.Fed.{Fed}
 use Rattle.feeder.specs.declared.absorb.Completed.{Completed}
 use Rattle.feeder.specs.declared.absorb.Completed.the-variants as completions
 use Rattle.feeder.specs.declared.absorb.Absorbed.{Absorbed}
-use Rattle.feeder.specs.Record.{Record, recordOf, commandAt}
+use Rattle.feeder.specs.Record.{recordOf, commandAt}
 use Rattle.feeder.specs.Feed.{usedMost, bufferLeast, waitingIn, isLeft, Place, firstRecord, Answer, refusing, absorbing, completing, offered, taking, feed}
 use Rattle.feeder.specs.Promises.{recordMost, Completing, completedAt, Handed, keeping, finishing, absorbed, CommandInside, doneFor, Replied}
 use Rattle.feeder.proofs.Head.{part-more}

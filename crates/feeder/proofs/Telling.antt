@@ -1,13 +1,11 @@
 -- What the tests of the code tell of the head at a place of two lists, w and then p, taken as one.
-use mathlib.Core.Path.{_≡_, refl, sym, ap, _∙_}
-use mathlib.Core.Bool.{cond}
+use mathlib.Core.Path.{_≡_, sym, ap, _∙_}
 use mathlib.Core.List.{List, _++_}
-use Prim.Native.Nat.{ℕ, suc, _+_, _-_, _*_, _≤_, _<_}
+use Prim.Native.Nat.{ℕ, _+_, _-_, _*_, _≤_, _<_}
 use native.Mathlib.Nat.{add-zero}
 use native.Mathlib.Omega.{arith}
-use lib.Dec.{ltb, eqb}
 use lib.ListN.{length, drop, getD, length-append, length-drop, List·getD-append}
-use lib.Seq.{drop-cons, drop-drop, getD-drop, getD-append-add}
+use lib.Seq.{drop-cons, getD-drop, getD-append-add}
 use borrow.Author.Tests.{eq-eqb, ne-eqb, lt-ltb, le-ltb}
 use Rattle.wire.specs.Bytes.{fromLE, part}
 use Rattle.feeder.specs.declared.heads.Head.the-variants as heads

@@ -12,7 +12,6 @@ ghost use mathlib.Core.List.{_++_};
 ghost use Prim.Native.Nat.{_+_, _≤_};
 ghost use lib.ListN.{length, take, drop};
 ghost use Rattle.wire.specs.Reply.{laidOver};
-ghost use Rattle.feeder.specs.Record.{commandAt};
 ghost use Rattle.feeder.specs.Feed.{waitingMost, stateOf, fresh, waitingIn, isLeft, offered};
 ghost use Rattle.feeder.specs.Promises.{recordMost, Completing, completedAt, absorbed};
 

@@ -1,8 +1,10 @@
 // The store: fields in lent bytes. The crates above see what the bytes mean, never the bytes.
 pub mod change;
 pub mod check;
+mod duplicates;
 pub mod find;
 pub mod layout;
+mod padding;
 pub mod read;
 pub mod slot;
 

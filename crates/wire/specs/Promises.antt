@@ -1,12 +1,12 @@
 -- What the functions of wire answer, in the terms of the other definitions.
 use mathlib.Core.Path.{_≡_}
-use mathlib.Core.Bool.{Bool, true, false, cond}
+use mathlib.Core.Bool.{true, false, cond}
 use mathlib.Core.List.{List, [], _∷_, map}
 use mathlib.Core.Option.{Option, none, some}
 use Prim.Native.Nat.{ℕ, zero, suc, _+_, _-_, _*_, _/_, _≤_, _<_}
-use lib.Dec.{leb, ltb, eqb}
+use lib.Dec.{ltb, eqb}
 use lib.IntN.{ℤ, pos, negsuc, negℤ}
-use lib.ListN.{length, take, drop, getD}
+use lib.ListN.{length, drop, getD}
 use Rattle.wire.specs.declared.integers.Natural.{Natural}
 use Rattle.wire.specs.declared.integers.Natural.the-variants as naturals
 use Rattle.wire.specs.declared.integers.Integer.{Integer}
@@ -20,7 +20,6 @@ use Rattle.wire.specs.declared.places.Counted.{Counted}
 use Rattle.wire.specs.declared.places.Counted.the-variants as counts
 use Rattle.wire.specs.declared.places.Placed.{Placed}
 use Rattle.wire.specs.declared.places.Placed.the-variants as placed
-use Rattle.wire.specs.Lists.{orElse}
 use Rattle.wire.specs.Bytes.{part, same, upper}
 use Rattle.wire.specs.Words.{Word, Read, wordsOf}
 use Rattle.wire.specs.Reply.{laidOver}

@@ -1,6 +1,5 @@
 use borrow.Author.Needs.{needs}
 use Rattle.store.proofs.At.{slot-inside, slot-bytes}
-use denote.Ref.{now}
 use Rattle.commands.proofs.Kept.{slot-held}
 use Rattle.marked.proofs.show_slot.Statement.{statement}
 use Rattle.marked.proofs.show_slot.Tie as tie

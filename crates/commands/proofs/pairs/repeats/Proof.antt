@@ -11,7 +11,6 @@ use Rattle.commands.specs.Parse.{wordAt}
 use Rattle.commands.specs.Promises.{fieldsIn, timesIn}
 use Rattle.commands.proofs.WordPlaces.{length-words}
 use Rattle.commands.proofs.PairLoops.{Repeating, repeating-hit, repeating-skip, repeating-ends, next-named, none-named}
-use borrow.Author.Needs.{needs}
 use Rattle.commands.proofs.pairs.repeats.Statement.{statement}
 use Rattle.commands.proofs.pairs.repeats.Tie as tie
 

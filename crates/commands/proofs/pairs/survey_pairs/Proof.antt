@@ -12,7 +12,6 @@ use Rattle.commands.specs.Promises.{fieldsIn, timesIn}
 use Rattle.commands.proofs.WordPlaces.{length-words}
 use Rattle.commands.proofs.Deeds.{seen-held}
 use Rattle.commands.proofs.PairLoops.{Surveying, surveying-begins, surveying-few, surveying-ends, surveying-over, surveying-on, next-named, none-named, few-named, few-times, version-seen, version-most}
-use borrow.Author.Needs.{needs}
 use Rattle.commands.proofs.pairs.survey_pairs.Statement.{statement}
 use Rattle.commands.proofs.pairs.survey_pairs.Tie as tie
 

@@ -1,5 +1,4 @@
 use mathlib.Core.List.{_++_}
-use native.Mathlib.Omega.{arith}
 use borrow.Author.Needs.{needs}
 use lib.ListN.{length-append}
 use Rattle.feeder.proofs.Stops.{next-waiting, next-marked}

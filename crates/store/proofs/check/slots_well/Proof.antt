@@ -19,11 +19,11 @@ loop-holds c = judge-begins (c .before .args .count) (now (c .before .args .stor
 bytes-requires : tie.Need-bytes-requires Inv-loop μ-loop
 bytes-requires c κs = omega arith
 
-well-requires : tie.Need-well-requires Inv-loop μ-loop
-well-requires c κs = rw (c .bytes .ensures) (slot-size (c .before .before .before .before .args .count) (now (c .before .before .before .before .args .store)) (c .before .before .loop .i) (c .before .before .before .before .pre) (c .before .loop-test .taken))
+slot-well-requires : tie.Need-slot-well-requires Inv-loop μ-loop
+slot-well-requires c κs = rw (c .bytes .ensures) (slot-size (c .before .before .before .before .args .count) (now (c .before .before .before .before .args .store)) (c .before .before .loop .i) (c .before .before .before .before .pre) (c .before .loop-test .taken))
 
 returns : tie.Need-returns Inv-loop μ-loop
-returns c = sym (judge-fails _ _ _ (c .before .before .before .before .loop .inv) (c .before .before .before .loop-test .taken) (sym (rw (c .before .before .bytes .ensures) at (c .before .well .ensures)) ∙ not-true (c .before .well .result) (c .if1 .taken)))
+returns c = sym (judge-fails _ _ _ (c .before .before .before .before .loop .inv) (c .before .before .before .loop-test .taken) (sym (rw (c .before .before .bytes .ensures) at (c .before .slot-well .ensures)) ∙ not-true (c .before .slot-well .result) (c .if1 .taken)))
 
 add-i : tie.Need-add-i Inv-loop μ-loop
 add-i c = omega arith
@@ -32,7 +32,7 @@ loop-less : tie.Need-loop-less Inv-loop μ-loop
 loop-less c = omega arith
 
 loop-again : tie.Need-loop-again Inv-loop μ-loop
-loop-again c = judge-goes-on _ _ _ (c .before .before .before .before .loop .inv) (c .before .before .before .loop-test .taken) (sym (rw (c .before .before .bytes .ensures) at (c .before .well .ensures)) ∙ not-false (c .before .well .result) (c .if1 .left))
+loop-again c = judge-goes-on _ _ _ (c .before .before .before .before .loop .inv) (c .before .before .before .loop-test .taken) (sym (rw (c .before .before .bytes .ensures) at (c .before .slot-well .ensures)) ∙ not-false (c .before .slot-well .result) (c .if1 .left))
 
 returns-2 : tie.Need-returns-2 Inv-loop μ-loop
 returns-2 c = sym (judge-ends _ _ _ (c .before .loop .inv) (c .loop-test .left))
@@ -45,7 +45,7 @@ slots-well-spec =
     μ-loop
     loop-holds
     bytes-requires
-    well-requires
+    slot-well-requires
     returns
     add-i
     loop-less

@@ -1,7 +1,6 @@
 use Prim.Native.Nat.{_+_, _*_}
 use denote.Ref.{now}
 use Rattle.store.proofs.SlotParts.{part-of}
-use Rattle.wire.specs.Bytes.{part}
 use borrow.Author.Needs.{needs}
 use Rattle.store.proofs.slot.bytes.Statement.{statement}
 use Rattle.store.proofs.slot.bytes.Tie as tie

@@ -1,9 +1,6 @@
 use mathlib.Core.Path.{sym}
 use denote.Ref.{now}
 use Rattle.store.proofs.SlotParts.{empty-state}
-use Rattle.wire.specs.Lists.{orElse}
-use Rattle.store.specs.Store.{decodeSlot}
-use Rattle.store.specs.Time.{emptySlot}
 use borrow.Author.Needs.{needs}
 use Rattle.store.proofs.slot.is_empty.Statement.{statement}
 use Rattle.store.proofs.slot.is_empty.Tie as tie

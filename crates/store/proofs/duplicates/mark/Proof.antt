@@ -1,0 +1,20 @@
+use Rattle.store.specs.Promises.{firstMark, secondMark, seen, withMark}
+use borrow.Author.Needs.{needs}
+use Rattle.store.proofs.duplicates.mark.Statement.{statement}
+use Rattle.store.proofs.duplicates.mark.Tie as tie
+
+set-bit-requires : tie.Need-set-bit-requires
+set-bit-requires c κs = search needs
+
+set-bit-requires-2 : tie.Need-set-bit-requires-2
+set-bit-requires-2 c κs = search needs
+
+same-length : tie.Need-same-length
+same-length c = search needs
+
+returns : tie.Need-returns
+unfolding firstMark secondMark seen withMark
+returns c = (rw (c .before .before .before .before .before .before .set-bit .ensures .0, c .before .before .set-bit2 .ensures .0, c .before .before .before .before .before .before .set-bit .ensures .1), rw (c .before .before .set-bit2 .ensures .1, c .before .before .before .before .before .before .set-bit .ensures .1))
+
+pub mark-spec : {M : Type 1} → statement M
+mark-spec = tie.close (tie.spec set-bit-requires set-bit-requires-2 same-length returns)

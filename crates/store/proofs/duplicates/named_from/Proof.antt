@@ -1,0 +1,52 @@
+use mathlib.Core.Path.{sym, _∙_}
+use native.Mathlib.Omega.{arith}
+use Prim.Native.Nat.{_-_}
+use denote.Ref.{now}
+use Rattle.store.proofs.StoreChecks.{slot-bytes, Seeking, seek-begins, seek-finds, seek-goes-on, seek-ends}
+use Rattle.store.proofs.duplicates.named_from.Statement.{statement}
+use Rattle.store.proofs.duplicates.named_from.Tie as tie
+
+abbrev Inv-loop : tie.InvT-loop
+Inv-loop store count from key field i₀ i = Seeking key field count store from i
+
+abbrev μ-loop : tie.MeasureT-loop
+μ-loop store count from key field i₀ i = count - i
+
+loop-holds : tie.Need-loop-holds Inv-loop μ-loop
+loop-holds c = seek-begins _ _ _ _ _ (c .before .before .before .pre .1)
+
+bytes-requires : tie.Need-bytes-requires Inv-loop μ-loop
+bytes-requires c κs = omega (arith, c .before .before .before .before .before .pre .0 .size)
+
+holds-requires : tie.Need-holds-requires Inv-loop μ-loop
+holds-requires c κs = rw (c .bytes .ensures) (slot-bytes (c .before .before .before .before .before .before .args .count) (now (c .before .before .before .before .before .before .args .store)) (c .before .before .loop .i) (c .before .before .before .before .before .before .pre .0) (c .before .loop-test .taken))
+
+returns : tie.Need-returns Inv-loop μ-loop
+returns c = sym (seek-finds _ _ _ _ _ _ (c .before .before .before .before .loop .inv) (c .before .before .before .loop-test .taken) (sym (rw (c .before .before .bytes .ensures) at (c .before .holds .ensures)) ∙ c .if1 .taken))
+
+add-i : tie.Need-add-i Inv-loop μ-loop
+add-i c = omega arith
+
+loop-less : tie.Need-loop-less Inv-loop μ-loop
+loop-less c = omega arith
+
+loop-again : tie.Need-loop-again Inv-loop μ-loop
+loop-again c = seek-goes-on _ _ _ _ _ _ (c .before .before .before .before .loop .inv) (c .before .before .before .loop-test .taken) (sym (rw (c .before .before .bytes .ensures) at (c .before .holds .ensures)) ∙ c .if1 .left)
+
+returns-2 : tie.Need-returns-2 Inv-loop μ-loop
+returns-2 c = sym (seek-ends _ _ _ _ _ _ (c .before .loop .inv) (c .loop-test .left))
+
+pub named-from-spec : {M : Type 1} → statement M
+named-from-spec =
+    tie.close
+    (tie.spec
+    Inv-loop
+    μ-loop
+    loop-holds
+    bytes-requires
+    holds-requires
+    returns
+    add-i
+    loop-less
+    loop-again
+    returns-2)

@@ -1,0 +1,27 @@
+use denote.Ref.{now}
+use Rattle.store.proofs.Marks.{bit-told, bit-written}
+use borrow.Author.Needs.{needs}
+use Rattle.store.proofs.duplicates.set_bit.Statement.{statement}
+use Rattle.store.proofs.duplicates.set_bit.Tie as tie
+
+slice-read-old : tie.Need-slice-read-old
+slice-read-old c = search needs
+
+cast-new : tie.Need-cast-new
+cast-new c = search needs
+
+shl-new : tie.Need-shl-new
+shl-new c = search needs
+
+slice-write-marks : tie.Need-slice-write-marks
+slice-write-marks c = search needs
+
+same-length : tie.Need-same-length
+same-length c = search needs
+
+returns : tie.Need-returns
+returns c = (bit-told (c .before .args .a) (now (c .before .args .marks)), bit-written (c .before .args .a) (now (c .before .args .marks)))
+
+pub set-bit-spec : {M : Type 1} → statement M
+set-bit-spec =
+    tie.close (tie.spec slice-read-old cast-new shl-new slice-write-marks same-length returns)

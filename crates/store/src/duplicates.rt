@@ -1,0 +1,137 @@
+// The rule against duplicates: no two slots hold entries of the same key and field.
+use crate::layout::FIELD;
+use crate::layout::KEY;
+use crate::layout::VALUE;
+use crate::slot;
+use crate::slot::word;
+ghost use mathlib.Core.Path.{_≡_};
+ghost use Prim.Native.Nat.{_/_, _≤_, _<_};
+ghost use lib.ListN.{length, drop};
+ghost use Rattle.wire.specs.Lists.{any};
+ghost use Rattle.store.specs.Layout.{slotSize, keyMost, fieldMost};
+ghost use Rattle.store.specs.Store.{holds, distinct};
+ghost use Rattle.store.specs.Promises.{slotsOf, SlotsWell, rotated, keyWord, fieldWord, spreadOf, nameOf, marksSize, hasBit, withBit, seen, withMark, Turn, Turned};
+
+// The halves of a word are below it.
+const HALF: u64 = 0x1_0000_0000;
+
+// The size of the marks of the names that were seen, of which a byte has eight.
+const MARKS: usize = 4096;
+
+const BITS: u64 = 32768;
+
+// Whether a slot from a slot on holds an entry of a key and a field.
+fn named_from(store: &[u8], count: usize, from: usize, key: &[u8], field: &[u8]) -> bool
+    requires { ⌜ SlotsWell count (now store) ⌝ }
+    requires { ⌜ from ≤ count ⌝ }
+    ensures { λ r. ⌜ r ≡ any (holds (now (key .entry)) (now (field .entry))) (drop from (slotsOf count (now (store .entry)))) ⌝ }
+{
+    let mut i = from;
+    while i < count {
+        if slot::holds(slot::bytes(store, i), key, field) {
+            return true;
+        }
+        i += 1;
+    }
+    false
+}
+
+// A word rotated to the left.
+fn rotate(n: u64, k: usize) -> u64
+    requires { ⌜ 1 ≤ k ⌝ }
+    requires { ⌜ k < 64 ⌝ }
+    ensures { λ r. ⌜ r ≡ rotated k n ⌝ }
+{
+    n << k | n >> (64 - k)
+}
+
+// A key's words as one. The second is rotated, so that equal ones do not cancel each other.
+fn key_word(key: &[u8]) -> u64
+    requires { ⌜ length (now key) ≡ keyMost ⌝ }
+    ensures { λ r. ⌜ r ≡ keyWord (now (key .entry)) ⌝ }
+{
+    word(key, 0) ^ rotate(word(key, 8), 4)
+}
+
+// A field's words as one.
+fn field_word(field: &[u8]) -> u64
+    requires { ⌜ length (now field) ≡ fieldMost ⌝ }
+    ensures { λ r. ⌜ r ≡ fieldWord (now (field .entry)) ⌝ }
+{
+    let low = word(field, 0) ^ rotate(word(field, 8), 4);
+    let high = rotate(word(field, 16), 2) ^ rotate(word(field, 24), 6);
+    low ^ high
+}
+
+// Two words as one number: their halves, each times an odd factor, and what is high in the sum brought down.
+fn spread(x: u64, y: u64) -> u64
+    ensures { λ r. ⌜ r ≡ spreadOf x y ⌝ }
+{
+    let a = x % HALF * 0x1e37_79b1 + x / HALF * 0x2545_f491;
+    let b = y % HALF * 0x3c6e_f373 + y / HALF * 0x3f1b_bcdd;
+    let h = a + b;
+    (h ^ h / 0x8000_0000) % HALF
+}
+
+// A number of a slot's key and field: the same for the same ones.
+fn name_of(t: &[u8]) -> u64
+    requires { ⌜ length (now t) ≡ slotSize ⌝ }
+    ensures { λ r. ⌜ r ≡ nameOf (now (t .entry)) ⌝ }
+{
+    spread(key_word(&t[KEY..FIELD]), field_word(&t[FIELD..VALUE]))
+}
+
+// Sets a bit of the marks, and answers whether it was set before.
+fn set_bit(marks: &mut [u8], a: usize) -> bool
+    requires { ⌜ a / 8 < length (now marks) ⌝ }
+    ensures { λ r. ⌜ r ≡ hasBit a (now (marks .entry)) ⌝ }
+    ensures { λ _. ⌜ now (marks .exit) ≡ withBit a (now (marks .entry)) ⌝ }
+{
+    let i = a / 8;
+    let old = marks[i];
+    let new = old | 1 << (a % 8);
+    marks[i] = new;
+    new == old
+}
+
+// Marks a name by its two bits, and answers whether both were set before.
+fn mark(marks: &mut [u8], name: u64) -> bool
+    requires { ⌜ length (now marks) ≡ marksSize ⌝ }
+    ensures { λ r. ⌜ r ≡ seen name (now (marks .entry)) ⌝ }
+    ensures { λ _. ⌜ now (marks .exit) ≡ withMark name (now (marks .entry)) ⌝ }
+{
+    let first = set_bit(marks, (name / 0x2_0000 % BITS) as usize);
+    let second = set_bit(marks, (name % BITS) as usize);
+    first & second
+}
+
+// Whether a slot after slot i holds an entry of its key and field. They are searched only where both marks of the name are there, which are left.
+fn repeats(store: &[u8], count: usize, i: usize, marks: &mut [u8]) -> bool
+    requires { ⌜ Turn count (now store) i (now marks) ⌝ }
+    ensures { λ r. ⌜ Turned count (now (store .entry)) i (now (marks .entry)) (now (marks .exit)) r ⌝ }
+{
+    let t = slot::bytes(store, i);
+    if slot::is_empty(t) {
+        return false;
+    }
+    if !mark(marks, name_of(t)) {
+        return false;
+    }
+    named_from(store, count, i + 1, slot::key(t), slot::field(t))
+}
+
+// Whether no two slots hold entries of the same key and field, looked at from the last to the first.
+pub fn all_distinct(store: &[u8], count: usize) -> bool
+    requires { ⌜ SlotsWell count (now store) ⌝ }
+    ensures { λ r. ⌜ r ≡ distinct (slotsOf count (now (store .entry))) ⌝ }
+{
+    let mut marks = [0u8; MARKS];
+    let mut i = count;
+    while 0 < i {
+        i -= 1;
+        if repeats(store, count, i, &mut marks) {
+            return false;
+        }
+    }
+    true
+}
