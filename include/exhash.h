@@ -4,7 +4,7 @@
  * A handset lends the library three things at each call: a piece of the stream, its store and a reply buffer. The
  * library reads records out of the stream, does the command in each and writes the reply. It allocates nothing, keeps
  * nothing and knows no clock of its own: all that lasts from call to call is the store and the feeder's state, and
- * the caller holds both. Calls on different stores may run at the same time.
+ * the caller holds both. Calls on different stores may run at the same time. A call takes some 12 KB of stack.
  *
  *     static uint8_t store[EXH_STORE_SIZE(100)];        zero bytes: an empty store of 100 slots
  *     static uint8_t reply[EXH_REPLY_SIZE];
