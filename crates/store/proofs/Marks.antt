@@ -98,31 +98,31 @@ set-keeps (a ∷ m) zero (suc j) x y h = h
 set-keeps (a ∷ m) (suc i) zero x y h = h
 set-keeps (a ∷ m) (suc i) (suc j) x y h = set-keeps m i j x y h
 
--- a 1 shifted to a place of a byte
-bit-byte : (a : ℕ) → 1 * 2 ^ (a % 8) % 256 ≡ 2 ^ (a % 8)
-bit-byte a = shl-exact 1 (a % 8) 8 (lit< tt) (omega arith) ∙ one-mul (2 ^ (a % 8))
+-- a 1 shifted to a place of a word
+bit-word : (a : ℕ) → 1 * 2 ^ (a % 64) % 2 ^ 64 ≡ 2 ^ (a % 64)
+bit-word a = shl-exact 1 (a % 64) 64 (lit< tt) (omega arith) ∙ one-mul (2 ^ (a % 64))
 
 module _ (a : ℕ) (m : List ℕ) where
   -- whether a bit is set, and the marks with it, by a shifted 1
-  pub bit-told : eqb (bitOr (getD m (a / 8) 0) (1 * 2 ^ (a % 8) % 256)) (getD m (a / 8) 0) ≡ hasBit a m
+  pub bit-told : eqb (bitOr (getD m (a / 64) 0) (1 * 2 ^ (a % 64) % 2 ^ 64)) (getD m (a / 64) 0) ≡ hasBit a m
   unfolding hasBit
-  bit-told = rw (bit-byte a)
+  bit-told = rw (bit-word a)
 
-  pub bit-written : set m (a / 8) (bitOr (getD m (a / 8) 0) (1 * 2 ^ (a % 8) % 256)) ≡ withBit a m
+  pub bit-written : set m (a / 64) (bitOr (getD m (a / 64) 0) (1 * 2 ^ (a % 64) % 2 ^ 64)) ≡ withBit a m
   unfolding withBit
-  bit-written = rw (bit-byte a)
+  bit-written = rw (bit-word a)
 
   -- a bit that is set stays
   bit-keeps : (b : ℕ) → hasBit b m ≡ true → hasBit b (withBit a m) ≡ true
   unfolding hasBit withBit
-  bit-keeps b h = eq-eqb _ _ (set-keeps m (a / 8) (b / 8) (2 ^ (b % 8)) (2 ^ (a % 8)) (eqb-true _ _ h))
+  bit-keeps b h = eq-eqb _ _ (set-keeps m (a / 64) (b / 64) (2 ^ (b % 64)) (2 ^ (a % 64)) (eqb-true _ _ h))
 
   -- one that was set is
-  bit-has : a / 8 < length m → hasBit a (withBit a m) ≡ true
+  bit-has : a / 64 < length m → hasBit a (withBit a m) ≡ true
   unfolding hasBit withBit
   bit-has l =
-      rw (getD-set-same m (a / 8) (bitOr (getD m (a / 8) 0) (2 ^ (a % 8))) 0 l)
-      (eq-eqb _ _ (or-join (getD m (a / 8) 0) (2 ^ (a % 8)) (2 ^ (a % 8)) ∙ ap (bitOr (getD m (a / 8) 0)) (or-self (2 ^ (a % 8)))))
+      rw (getD-set-same m (a / 64) (bitOr (getD m (a / 64) 0) (2 ^ (a % 64))) 0 l)
+      (eq-eqb _ _ (or-join (getD m (a / 64) 0) (2 ^ (a % 64)) (2 ^ (a % 64)) ∙ ap (bitOr (getD m (a / 64) 0)) (or-self (2 ^ (a % 64)))))
 
   -- and there are as many
   length-bit : length (withBit a m) ≡ length m
@@ -132,11 +132,11 @@ module _ (a : ℕ) (m : List ℕ) where
 -- ---- one mark more
 
 -- both bits are inside
-first-inside : (name : ℕ) → firstMark name / 8 < marksSize
+first-inside : (name : ℕ) → firstMark name / 64 < marksSize
 unfolding firstMark
 first-inside name = omega arith
 
-second-inside : (name : ℕ) → secondMark name / 8 < marksSize
+second-inside : (name : ℕ) → secondMark name / 64 < marksSize
 unfolding secondMark
 second-inside name = omega arith
 
@@ -155,8 +155,8 @@ module _ (name : ℕ) (m : List ℕ) where
   mark-has : length m ≡ marksSize → HasMarks name (withMark name m)
   unfolding withMark
   mark-has e =
-      let l : firstMark name / 8 < length m = omega (arith, first-inside name) in
-      let k : secondMark name / 8 < length (withBit (firstMark name) m) = omega (arith, second-inside name, length-bit (firstMark name) m) in
+      let l : firstMark name / 64 < length m = omega (arith, first-inside name) in
+      let k : secondMark name / 64 < length (withBit (firstMark name) m) = omega (arith, second-inside name, length-bit (firstMark name) m) in
       record {
         first = bit-keeps (secondMark name) (withBit (firstMark name) m) (firstMark name) (bit-has (firstMark name) m l);
         second = bit-has (secondMark name) (withBit (firstMark name) m) k;

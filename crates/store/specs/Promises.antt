@@ -113,14 +113,14 @@ nameOf t = spreadOf (keyWord (part keyAt keyMost t)) (fieldWord (part fieldAt fi
 
 -- The marks of names are bits: each name has two, which are set where the name was seen.
 abbrev pub marksSize : ℕ
-marksSize = 4096
+marksSize = 512
 
 -- bit a is set where setting it changes nothing
 unfoldable pub hasBit : ℕ → List ℕ → Bool
-hasBit a m = eqb (bitOr (getD m (a / 8) 0) (2 ^ (a % 8))) (getD m (a / 8) 0)
+hasBit a m = eqb (bitOr (getD m (a / 64) 0) (2 ^ (a % 64))) (getD m (a / 64) 0)
 
 unfoldable pub withBit : ℕ → List ℕ → List ℕ
-withBit a m = set m (a / 8) (bitOr (getD m (a / 8) 0) (2 ^ (a % 8)))
+withBit a m = set m (a / 64) (bitOr (getD m (a / 64) 0) (2 ^ (a % 64)))
 
 unfoldable pub firstMark : ℕ → ℕ
 firstMark name = name / 2 ^ 17 % 32768

@@ -15,8 +15,8 @@ ghost use Rattle.store.specs.Promises.{slotsOf, SlotsWell, rotated, keyW
 // The halves of a word are below it.
 const HALF: u64 = 0x1_0000_0000;
 
-// The size of the marks of the names that were seen, of which a byte has eight.
-const MARKS: usize = 4096;
+// The size of the marks of the names that were seen, of which a word has 64.
+const MARKS: usize = 512;
 
 const BITS: u64 = 32768;
 
@@ -82,20 +82,20 @@ fn name_of(t: &[u8]) -> u64
 }
 
 // Sets a bit of the marks, and answers whether it was set before.
-fn set_bit(marks: &mut [u8], a: usize) -> bool
-    requires { ⌜ a / 8 < length (now marks) ⌝ }
+fn set_bit(marks: &mut [u64], a: usize) -> bool
+    requires { ⌜ a / 64 < length (now marks) ⌝ }
     ensures { λ r. ⌜ r ≡ hasBit a (now (marks .entry)) ⌝ }
     ensures { λ _. ⌜ now (marks .exit) ≡ withBit a (now (marks .entry)) ⌝ }
 {
-    let i = a / 8;
+    let i = a / 64;
     let old = marks[i];
-    let new = old | 1 << (a % 8);
+    let new = old | 1 << (a % 64);
     marks[i] = new;
     new == old
 }
 
 // Marks a name by its two bits, and answers whether both were set before.
-fn mark(marks: &mut [u8], name: u64) -> bool
+fn mark(marks: &mut [u64], name: u64) -> bool
     requires { ⌜ length (now marks) ≡ marksSize ⌝ }
     ensures { λ r. ⌜ r ≡ seen name (now (marks .entry)) ⌝ }
     ensures { λ _. ⌜ now (marks .exit) ≡ withMark name (now (marks .entry)) ⌝ }
@@ -106,7 +106,7 @@ fn mark(marks: &mut [u8], name: u64) -> bool
 }
 
 // Whether a slot after slot i holds an entry of its key and field. They are searched only where both marks of the name are there, which are left.
-fn repeats(store: &[u8], count: usize, i: usize, marks: &mut [u8]) -> bool
+fn repeats(store: &[u8], count: usize, i: usize, marks: &mut [u64]) -> bool
     requires { ⌜ Turn count (now store) i (now marks) ⌝ }
     ensures { λ r. ⌜ Turned count (now (store .entry)) i (now (marks .entry)) (now (marks .exit)) r ⌝ }
 {
@@ -125,7 +125,7 @@ pub fn all_distinct(store: &[u8], count: usize) -> bool
     requires { ⌜ SlotsWell count (now store) ⌝ }
     ensures { λ r. ⌜ r ≡ distinct (slotsOf count (now (store .entry))) ⌝ }
 {
-    let mut marks = [0u8; MARKS];
+    let mut marks = [0u64; MARKS];
     let mut i = count;
     while 0 < i {
         i -= 1;

@@ -13,7 +13,7 @@ abbrev μ-loop : tie.MeasureT-loop
 μ-loop store count marks₀ i₀ marks i = i
 
 loop-holds : tie.Need-loop-holds Inv-loop μ-loop
-loop-holds c = sift-begins _ _ _ (length-replicate {A = ℕ} 4096 0)
+loop-holds c = sift-begins _ _ _ (length-replicate {A = ℕ} 512 0)
 
 sub-i : tie.Need-sub-i Inv-loop μ-loop
 sub-i c = omega arith

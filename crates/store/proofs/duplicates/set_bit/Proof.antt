@@ -4,14 +4,17 @@ use borrow.Author.Needs.{needs}
 use Rattle.store.proofs.duplicates.set_bit.Statement.{statement}
 use Rattle.store.proofs.duplicates.set_bit.Tie as tie
 
+mul-old : tie.Need-mul-old
+mul-old c = search needs
+
 slice-read-old : tie.Need-slice-read-old
 slice-read-old c = search needs
 
-cast-new : tie.Need-cast-new
-cast-new c = search needs
-
 shl-new : tie.Need-shl-new
 shl-new c = search needs
+
+mul-marks : tie.Need-mul-marks
+mul-marks c = search needs
 
 slice-write-marks : tie.Need-slice-write-marks
 slice-write-marks c = search needs
@@ -24,4 +27,4 @@ returns c = (bit-told (c .before .args .a) (now (c .before .args .marks)), bit-w
 
 pub set-bit-spec : {M : Type 1} → statement M
 set-bit-spec =
-    tie.close (tie.spec slice-read-old cast-new shl-new slice-write-marks same-length returns)
+    tie.close (tie.spec mul-old slice-read-old shl-new mul-marks slice-write-marks same-length returns)
