@@ -4,11 +4,13 @@
 EXHASH_LIB ?= target/staticlib/libexhash.a
 LIBRARY := $(abspath $(or $(wildcard $(EXHASH_LIB)/libexhash.a),$(EXHASH_LIB)))
 WARNINGS := -Wall -Wextra -Werror
+C := $(CC) -std=c99 -O2 $(WARNINGS) -Iinclude
 CARGO := cd rust && EXHASH_LIB=$(LIBRARY) cargo
 
 # The mistakes that trainees make, played against the proved library. The first time proves it, which takes minutes.
 demo:
 	@mkdir -p target
+	@test -x target/bin/demo || echo "proving the library: some minutes" >&2
 	@rt check demo >target/demo.log 2>&1 || { cat target/demo.log; exit 1; }
 	@target/bin/demo <crates/demo/stdin
 
@@ -17,16 +19,17 @@ test:
 	@.ci/run
 
 # The time of the store's check, by its size, in one run.
-bench: $(LIBRARY)
-	@mkdir -p target
-	@$(CC) -O2 $(WARNINGS) -Iinclude bench/check.c $(LIBRARY) -o target/bench-check
+bench: c-example
 	@target/bench-check
 
-# The C example prints what examples/c/session.expected says, and the header is good C++ too.
+# The C example prints what examples/c/session.expected says, the header's numbers are the library's, and it is good C++ too.
 c-example: $(LIBRARY)
 	@mkdir -p target
-	@$(CC) -std=c99 -O2 $(WARNINGS) -Iinclude examples/c/session.c $(LIBRARY) -o target/session
-	@target/session | diff examples/c/session.expected -
+	@$(C) examples/c/session.c $(LIBRARY) -o target/session
+	@target/session >target/session.out && diff examples/c/session.expected target/session.out
+	@$(C) tests/c/refusals.c $(LIBRARY) -o target/refusals
+	@target/refusals
+	@$(C) bench/check.c $(LIBRARY) -o target/bench-check
 	@$(CXX) -x c++ -fsyntax-only $(WARNINGS) include/exhash.h
 
 # The Rust crates: format, lints and tests, with nothing printed if all is well.
@@ -49,7 +52,7 @@ differ-quiet: $(LIBRARY)
 bench-rust: $(LIBRARY)
 	@$(CARGO) run --offline --quiet --release -p bench
 
-# What Redis clients see in the replies of the demo's session; installs Debian's python3-redis and python3-hiredis.
+# What Redis clients see in the replies of the demo's session; needs python3, and root where Debian's python3-redis and python3-hiredis are to be installed.
 clients: $(LIBRARY)
 	@$(CARGO) build --offline --quiet --release -p exhash --example replies
 	@examples/clients/read_replies.py crates/demo/stdin rust/target/release/examples/replies
@@ -58,5 +61,7 @@ clients: $(LIBRARY)
 model-cases:
 	@cd rust && cargo run --offline --quiet --release -p make_cases ../crates/cases/stdin
 
+.DELETE_ON_ERROR:
 $(abspath target/staticlib/libexhash.a): $(wildcard crates/*/src/*.rt crates/*/src/*/*.rt)
-	@rt staticlib exhash >/dev/null
+	@mkdir -p target
+	@rt staticlib exhash >target/staticlib.log 2>&1 || { cat target/staticlib.log; exit 1; }

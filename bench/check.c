@@ -1,14 +1,15 @@
 /* Prints the time of one check of a store, all slots held, by its number of slots, beside that of a plain loop that
    adds up its bytes, and the growth from 50 to 500. */
+#define _POSIX_C_SOURCE 199309L
 #include "exhash.h"
 
 #include <stdio.h>
 #include <string.h>
 #include <time.h>
 
-enum { HEADER = 16, SLOT = 128, MOST = 500, ROUNDS = 7, CALLS = 2000 };
+enum { HEADER = 16, SLOT = 128, ROUNDS = 7, CALLS = 2000 };
 
-static uint8_t store[HEADER + SLOT * MOST];
+static uint8_t store[EXH_STORE_SIZE(EXH_SLOTS_MOST)];
 
 static void fill(int held)
 {
@@ -63,7 +64,7 @@ int main(void)
     static const int sizes[] = {10, 50, 100, 250, 500};
     double at50 = 0, at500 = 0;
     for (size_t i = 0; i < sizeof sizes / sizeof *sizes; i++) {
-        size_t size = HEADER + SLOT * (size_t)sizes[i];
+        size_t size = EXH_STORE_SIZE(sizes[i]);
         uint32_t refused, total;
         fill(sizes[i]);
         double check = measure(exh_store_check, size, &refused), plain = measure(sum, size, &total);

@@ -4,7 +4,8 @@
  * A handset lends the library three things at each call: a piece of the stream, its store and a reply buffer. The
  * library reads records out of the stream, does the command in each and writes the reply. It allocates nothing, keeps
  * nothing and knows no clock of its own: all that lasts from call to call is the store and the feeder's state, and
- * the caller holds both. Calls on different stores may run at the same time. A call takes some 12 KB of stack.
+ * the caller holds both. Calls on different stores may run at the same time. A call takes some 12 KB of stack. The archive
+ * is for x86-64 Linux, where size_t has 64 bits, and needs memcpy and memset, nothing else.
  *
  *     static uint8_t store[EXH_STORE_SIZE(100)];        zero bytes: an empty store of 100 slots
  *     static uint8_t reply[EXH_REPLY_SIZE];
@@ -21,8 +22,9 @@
  *         len -= fed.used;
  *     }
  *
- * Pointers: none may be null, even with length 0. piece, store and reply must not overlap, and nobody else may write
- * them during a call. Each length is the number of bytes that may be read, and for store and reply written.
+ * Pointers: none may be null, even with length 0. piece, store and reply must not overlap. During a call nobody else may
+ * write piece, nor read or write store and reply, an interrupt or a DMA channel included. Each length is the number of
+ * bytes that may be read, and for store and reply written.
  */
 #ifndef EXHASH_H
 #define EXHASH_H
@@ -61,7 +63,7 @@ enum {
 /*
  * The feeder's state: the bytes that wait for the rest of their record, how many they are, and zero in the places
  * after them. It goes in by value and comes back by value; hand it on as it came. Where the stream starts again, as
- * after a lost link, a fresh state is right.
+ * after a lost link, a fresh state is right. The struct has padding before count: compare the two fields, not its bytes.
  */
 typedef struct {
     uint8_t waiting[EXH_WAITING_MOST];

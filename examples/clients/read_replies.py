@@ -2,7 +2,7 @@
 """Reads the replies of the demo's session with the two parsers of redis-py, its own and hiredis, and prints what they saw.
 
 usage: read_replies.py SCRIPT PLAYER: the demo's script, and the program made from rust/exhash/examples/replies.rs, which plays it.
-Debian's packages are installed if missing.
+Debian's packages are installed if missing, which needs root.
 """
 import socket
 import subprocess
@@ -14,6 +14,7 @@ try:
     import hiredis
     import redis
 except ImportError:
+    subprocess.run(["apt-get", "update", "-qq"], check=True, stdout=subprocess.DEVNULL)
     subprocess.run(["apt-get", "install", "-qq", "-y", "--no-install-recommends", *PACKAGES],
                    check=True, stdout=subprocess.DEVNULL)
     import hiredis

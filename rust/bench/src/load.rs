@@ -169,7 +169,7 @@ fn tag(number: usize) -> String {
 
 /// A store whose first slots hold a tag with value 1 and version 1.
 fn store(slots: usize, held: usize, order: Order) -> Vec<u8> {
-    let mut store = vec![0; HEADER + SLOT * slots];
+    let mut store = vec![0; exhash::store_size(slots)];
     let numbers = order.numbers(held);
     for (slot, number) in store[HEADER..].chunks_mut(SLOT).zip(numbers) {
         let field = tag(number);
@@ -188,7 +188,7 @@ fn record(command: &str) -> Vec<u8> {
     for word in words {
         body += &format!("${}\r\n{word}\r\n", word.len());
     }
-    let length = (body.len() as u16).to_le_bytes();
+    let length = u16::try_from(body.len()).unwrap().to_le_bytes();
     let clock = CLOCK.to_le_bytes();
     [b"\x45\x57", &clock[..], &length, body.as_bytes()].concat()
 }

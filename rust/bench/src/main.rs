@@ -10,7 +10,6 @@ use std::time::Instant;
 
 const ROUNDS: usize = 41;
 const READS: usize = 50;
-const REPLY_SIZE: usize = 56_000;
 
 /// An implementation's feeder.
 trait Feeding {
@@ -223,7 +222,7 @@ fn print_single_byte(lent: &mut Lent) {
 fn main() {
     let mut lent = Lent {
         store: Vec::new(),
-        reply: vec![0; REPLY_SIZE],
+        reply: vec![0; exhash::REPLY_SIZE],
     };
     print_loads(&mut lent);
     print_growth(&mut lent);

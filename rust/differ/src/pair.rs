@@ -140,13 +140,18 @@ impl Pair {
         self.before.store.clone_from(&self.library.store);
         let ours = self.library.feed_library(piece, buffer);
         let models = self.model.feed_model(piece, buffer);
-        if ours != models || self.library != self.model {
-            return Err(self
-                .describe(piece, buffer, ours, models)
-                .unwrap_or_default());
-        }
+        self.compare(piece, buffer, ours, models)?;
         self.count(ours);
         Ok(ours)
+    }
+
+    /// Both answers and both memories.
+    fn compare(&self, piece: &[u8], buffer: usize, ours: Call, models: Call) -> Result<(), String> {
+        if ours == models && self.library == self.model {
+            return Ok(());
+        }
+        let text = self.describe(piece, buffer, ours, models);
+        Err(text.unwrap_or_default())
     }
 
     /// The store's check alone.
@@ -249,5 +254,28 @@ mod tests {
         assert!(reported(|memory| memory.store[0] = 1).contains("store: bytes 0 to 0: 01"));
         let past_the_end = |memory: &mut Memory| memory.reply[REPLY_SPACE - 1] = 8;
         assert!(reported(past_the_end).contains("reply: bytes 63999 to 63999: 08, model 07"));
+    }
+
+    #[test]
+    fn every_number_is_compared() {
+        let pair = Pair::default();
+        let call = Call {
+            refusal: 0,
+            used: 1,
+            skipped: 1,
+            reply_len: 0,
+        };
+        assert_eq!(pair.compare(b"x", 0, call, call), Ok(()));
+        for other in [
+            Call { refusal: 2, ..call },
+            Call { used: 0, ..call },
+            Call { skipped: 0, ..call },
+            Call {
+                reply_len: 5,
+                ..call
+            },
+        ] {
+            assert!(pair.compare(b"x", 0, call, other).is_err());
+        }
     }
 }

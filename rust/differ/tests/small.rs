@@ -31,6 +31,14 @@ fn the_library_agrees_with_the_model() {
     assert_eq!(cases, sizes);
     let (_, of_commands) = &tallies[0];
     assert_eq!(of_commands.records, commands);
+    let [.., (_, of_stores), (_, of_states)] = &tallies[..] else {
+        panic!("six kinds");
+    };
+    assert_eq!(
+        (of_stores.checks, of_stores.calls),
+        (3 * stores, 3 * stores)
+    );
+    assert_eq!(of_states.calls, 2 * states);
     let answers = |number: usize| tallies.iter().map(move |(_, tally)| tally.answers[number]);
     assert!((0..4).all(|number| answers(number).sum::<u64>() > 0));
     assert_eq!(errors(&tallies).len(), REFUSALS_OF_COMMANDS);

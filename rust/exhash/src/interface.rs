@@ -21,6 +21,8 @@ pub struct Answer {
     pub state: State,
 }
 
+// SAFETY: the signatures and the two structs are those of include/exhash.h; exh_feeder_fresh takes
+// nothing and is proved for every call.
 unsafe extern "C" {
     safe fn exh_feeder_fresh() -> State;
     fn exh_feed(

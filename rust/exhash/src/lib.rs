@@ -21,7 +21,7 @@
 #[allow(unsafe_code)]
 pub mod interface;
 
-use interface::State;
+pub use interface::State;
 use std::error::Error;
 use std::fmt;
 
@@ -50,17 +50,20 @@ pub struct Feeder {
 pub struct Fed {
     /// Bytes used, from the piece's start.
     pub used: usize,
-    /// Bytes told in this call to be in no record, also those that waited.
+    /// Bytes told in this call to be in no record, also those that waited: it can exceed `used`.
     pub skipped: usize,
     /// Bytes of reply at the buffer's start; 0 if no record was completed.
     pub reply_len: usize,
 }
 
-/// Why a call used and changed nothing.
+/// Why a call used and changed nothing. Where several apply, the lowest number is given.
 #[derive(Clone, Copy, Debug, PartialEq, Eq)]
 pub enum Refusal {
+    /// A state that no feeding leaves.
     State = 1,
+    /// Not the bytes of a well-formed store, or not [`store_size`] of them.
     Store = 2,
+    /// A reply buffer under [`REPLY_SIZE`] bytes.
     ShortReply = 3,
 }
 
@@ -83,7 +86,9 @@ impl Feeder {
         &self.state
     }
 
-    /// Up to one record. Offer the rest of the piece in the next call.
+    /// Reads until one record is completed, the piece ends or [`USED_MOST`] bytes are used, and does
+    /// that record. Uses at least one byte of a piece that is not empty; offer the rest in the next
+    /// call. With an error nothing was used or changed: state, store and buffer are as they were.
     pub fn feed(
         &mut self,
         piece: &[u8],

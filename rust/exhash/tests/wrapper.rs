@@ -1,7 +1,9 @@
 //! The wrapper: the paper's whole example, the waiting bytes and the refusals.
 
 use exhash::interface::State;
-use exhash::{Fed, Feeder, REPLY_SIZE, Refusal, WAITING_MOST, store_check, store_size};
+use exhash::{
+    Fed, Feeder, REPLY_SIZE, Refusal, SLOTS_MOST, USED_MOST, WAITING_MOST, store_check, store_size,
+};
 
 /// "Whole example, clock 1000, `EXHGET m t1`": from an empty store the reply is nil.
 const EXAMPLE: &[u8] = b"\x45\x57\xE8\x03\0\0\0\0\0\0\x1F\0\
@@ -67,8 +69,11 @@ fn the_lowest_refusal_is_given_and_nothing_changes() {
 
 #[test]
 fn stores_are_checked() {
-    assert_eq!(store_check(&vec![0; store_size(500)]), Ok(()));
-    assert_eq!(store_check(&vec![0; store_size(501)]), Err(Refusal::Store));
+    assert_eq!(store_check(&vec![0; store_size(SLOTS_MOST)]), Ok(()));
+    assert_eq!(
+        store_check(&vec![0; store_size(SLOTS_MOST + 1)]),
+        Err(Refusal::Store)
+    );
     assert_eq!(store_check(&[]), Err(Refusal::Store));
 }
 
@@ -83,4 +88,49 @@ fn refusals_say_what_they_mean() {
             "refusal 3: the reply buffer is under 56,000 bytes",
         ]
     );
+}
+
+#[test]
+fn a_call_uses_so_many_bytes_at_most() {
+    let (mut store, mut reply) = (vec![0; store_size(1)], vec![7; REPLY_SIZE]);
+    let mut feeder = Feeder::fresh();
+    for (offered, used) in [(USED_MOST, USED_MOST), (USED_MOST + 1, USED_MOST), (0, 0)] {
+        let fed = feeder.feed(&vec![0; offered], &mut store, &mut reply);
+        let expected = Fed {
+            used,
+            skipped: used,
+            reply_len: 0,
+        };
+        assert_eq!(fed, Ok(expected));
+    }
+}
+
+#[test]
+fn a_damaged_state_waits_with_all_its_places() {
+    let waiting = [7; WAITING_MOST];
+    let feeder = Feeder::from(State {
+        waiting,
+        count: usize::MAX,
+    });
+    assert_eq!(feeder.waiting(), waiting);
+}
+
+/// A field whose second word, turned, is its first: the check marks all such fields alike.
+fn alike(number: u64) -> [u8; 16] {
+    let words = [number, number.rotate_right(4)].map(u64::to_le_bytes);
+    words.concat().try_into().unwrap()
+}
+
+#[test]
+fn names_that_share_their_marks_are_told_apart() {
+    let mut store = vec![0; store_size(SLOTS_MOST)];
+    let slots = store[16..].chunks_mut(128);
+    for (number, slot) in (1..).zip(slots) {
+        slot[..5].copy_from_slice(&[1, 0, 16, 0, 1]);
+        slot[32..48].copy_from_slice(&alike(number));
+    }
+    assert_eq!(store_check(&store), Ok(()));
+    let last = store_size(SLOTS_MOST - 1) + 32;
+    store[last..][..16].copy_from_slice(&alike(1));
+    assert_eq!(store_check(&store), Err(Refusal::Store));
 }

@@ -4,7 +4,7 @@ use make_cases::{CASES, LONGEST_PART, SEED, bytes, cases};
 use model::{Feeder, feed, store_check};
 use std::collections::BTreeMap;
 
-const LARGEST_FILE: usize = 500_000;
+const LARGEST_FILE: usize = 400_000;
 const REFUSALS_OF_COMMANDS: usize = 14;
 const NAMES: [&str; 23] = [
     "EXHSET",

@@ -1,8 +1,11 @@
 //! The cases of tests/cases, with their answers.
 
+#[path = "common/table.rs"]
+mod table;
+
 use model::feeder::whole;
 use model::{Feeder, execute, feed, store_check};
-use std::path::Path;
+use table::{bytes, rows};
 
 #[test]
 fn commands() {
@@ -107,21 +110,6 @@ fn feed_in_pieces(stream: &[u8], size: usize, store: &mut [u8]) -> FedInPieces {
         }
     }
     all
-}
-
-/// The rows of a table below the line that names its columns.
-fn rows(table: &str, columns: usize) -> Vec<Vec<String>> {
-    let cases = Path::new(env!("CARGO_MANIFEST_DIR")).join("../../tests/cases");
-    let text = std::fs::read_to_string(cases.join(table)).unwrap();
-    let row = |line: &str| line.split('\t').map(str::to_string).collect::<Vec<_>>();
-    let rows: Vec<_> = text.lines().skip(1).map(row).collect();
-    assert!(rows.iter().all(|row| row.len() == columns));
-    rows
-}
-
-fn bytes(hex: &str) -> Vec<u8> {
-    let byte = |pair: &[u8]| u8::from_str_radix(std::str::from_utf8(pair).unwrap(), 16).unwrap();
-    hex.as_bytes().chunks(2).map(byte).collect()
 }
 
 fn hex(bytes: &[u8]) -> String {

@@ -50,7 +50,7 @@ pub fn resp(command: &str) -> Vec<u8> {
 #[allow(dead_code)]
 pub fn record(clock: u64, command: &str) -> Vec<u8> {
     let command = resp(command);
-    let length = command.len() as u16;
+    let length = u16::try_from(command.len()).unwrap();
     let clock = clock.to_le_bytes();
     [&[0x45, 0x57], &clock[..], &length.to_le_bytes(), &command].concat()
 }
