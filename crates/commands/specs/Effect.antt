@@ -83,6 +83,7 @@ setterVersion (Exactly v) e = nextVersion (Exactly v) (some e)
 
 -- ---- one field
 
+-- "Expiry is cleared unless an option sets it or KEEPTTL keeps it."
 unfoldable pub nextExpiry : Lifetime → Option Entry → Expiry
 nextExpiry Clear found = Never
 nextExpiry Keep found = orElse found Never (λ e. e .expiry)
@@ -129,11 +130,11 @@ expireEffect t n found =
     (record { key = e .key; field = e .field; value = e .value; version = setterVersion n e; expiry = At t })
     (number 1)
 
--- "EXHPERSIST: 1 if an expiry was removed, else 0."
 unfoldable pub hasExpiry : Expiry → Bool
 hasExpiry Never = false
 hasExpiry (At t) = true
 
+-- "EXHPERSIST: 1 if an expiry was removed, else 0."
 unfoldable pub persistEffect : Option Entry → Effect
 persistEffect found =
     orElse found (answer (number 0)) λ e.
@@ -152,6 +153,8 @@ unfoldable pub timeLeft : ℕ → ℕ → Expiry → ℤ
 timeLeft now unit Never = negsuc 0
 timeLeft now unit (At t) = pos ((t - now) / unit)
 
+-- "EXHGET, EXHSTRLEN, EXHEXISTS: missing gives nil, 0, 0. EXHGETWITHVER: nil, or an array of value and version." "EXHVER: no such key -1, no
+-- such field -2, else the version."
 unfoldable pub reply : ℕ → List Slot → Word → Question → Option Entry → List ℕ
 reply now ss k Value found = orElse found nil (λ e. bulk (e .value))
 reply now ss k Length found = number (orElse found 0 (λ e. length (e .value)))

@@ -51,6 +51,8 @@ added (c ∷ cs) ss =
 unfoldable pub room : ℕ → List Slot → ℕ
 room now ss = length (keep (roomSlot now) ss)
 
+-- 20: "version differs"; 21: "stored value is no plain integer"; 22: "sum outside signed 64 bits, under MIN or over MAX"; 24: "more new fields
+-- than slots empty or dead"
 unfoldable pub lateChecks : ℕ → Effect → List Slot → List Check
 lateChecks now e ss =
     20 when e .stale
@@ -84,6 +86,7 @@ unfoldable pub perform : ℕ → Parsed → Store → Outcome
 perform now (refused n) s = record { refusal = some n; reply = errorLine n; store = s }
 perform now (accepted c) s = run now c s
 
+-- "Now is the larger of the store's clock and the record's."
 unfoldable pub exec : ℕ → List ℕ → Store → Outcome
 exec clock command s = perform (nowAt clock s) (parse (nowAt clock s) clock command) s
 

@@ -217,6 +217,7 @@ onDeed test (countHeld k) = false
 onDeed test (countLive k) = false
 onDeed test (list k l) = false
 
+-- 13: "word count"; 15: "option unknown, repeated or conflicting; a missing operand is refused as 15"; 16: "a number not plain or out of range"
 unfoldable pub checks : Form → Count → List Word → Option (List Given) → Command → List Check
 checks form count ws scanned c =
     13 when not (countFits count (length ws))

@@ -13,7 +13,6 @@ use libc::STDOUT_FILENO;
 use store::Expiry;
 use store::check::well_formed;
 use store::read;
-use store::slot;
 use wire::integers::Natural;
 use wire::integers::read_natural;
 use wire::numbers::write_le;
@@ -270,7 +269,7 @@ fn show_slot(bytes: &[u8], i: usize)
 {
     put(b"          slot ");
     put_number(i as u64, b": ");
-    if slot::is_empty(slot::bytes(bytes, i)) {
+    if read::is_empty(bytes, i) {
         put(b"empty\n");
         return;
     }

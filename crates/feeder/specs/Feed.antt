@@ -115,16 +115,20 @@ completing s waited p b buffer =
       buffer = laidOver (done .reply) buffer;
     }
 
--- the bytes that a call looks at: those that wait and those of its piece, of which it uses at most 65,536
+-- the bytes of its piece that a call looks at
 unfoldable pub offered : List ℕ → List ℕ
 offered piece = take usedMost piece
 
+-- a call looks at the bytes that wait and those of its piece: "It stops after the first record completed, when the piece ends, or after using
+-- 65,536 bytes."
 unfoldable pub taking : List ℕ → List ℕ → List ℕ → List ℕ → Answer
 taking w piece b buffer =
     orElse (firstRecord (w ++ offered piece))
     (absorbing (w ++ offered piece) (length (offered piece)) b buffer)
     λ p. completing (w ++ offered piece) (length w) p b buffer
 
+-- "A call takes the state, a piece, the store and a reply buffer." "The lowest number that applies is given." 1: "feeder state no
+-- feeding leaves"; 2: "store not well formed"; 3: "reply buffer under 56,000 bytes"
 unfoldable pub feed : Feeder → List ℕ → List ℕ → List ℕ → Answer
 feed f piece b buffer =
     cond (not (isLeft f)) (refusing 1 f b buffer)

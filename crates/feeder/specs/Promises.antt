@@ -45,11 +45,11 @@ laterBy k (stops.Rest at) = stops.Rest (k + at)
 unfoldable pub stopFrom : ℕ → List ℕ → Stop
 stopFrom k s = laterBy k (stopOf (drop k s))
 
--- no mark stands in bytes
+-- no byte that begins a mark stands in bytes
 abbrev pub Unmarked : List ℕ → Type 0
 Unmarked s = (i : ℕ) → getD s i 0 ≡ firstMark → ⊥
 
--- no mark stands from a place up to r
+-- no byte that begins a mark stands from a place up to r
 pub record Passed (s : List ℕ) (from r : ℕ) : Type 0 where
   pub ahead : from ≤ r
   pub inside : r ≤ length s

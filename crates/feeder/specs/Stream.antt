@@ -20,7 +20,8 @@ skipping d = record { records = d .records; skipped = suc (d .skipped); rest = d
 abbrev pub recording : Record → Division → Division
 recording r d = record { records = r ∷ d .records; skipped = d .skipped; rest = d .rest }
 
--- what the head of s makes of s; the last argument divides what follows the first byte of s, after so many bytes more of a record
+-- what the head of s makes of s; the last argument divides what follows the first byte of s, after so many bytes more of a record: the 11 of
+-- its head after the first, and its command
 unfoldable pub dividedAt : Head → List ℕ → (ℕ → Division) → Division
 dividedAt skip s later = skipping (later 0)
 dividedAt (whole n) s later = recording (recordOf n s) (later (11 + n))
@@ -32,6 +33,7 @@ divideAfter k [] = ended []
 divideAfter zero (b ∷ s) = dividedAt (headOf (b ∷ s)) (b ∷ s) (λ k. divideAfter k s)
 divideAfter (suc k) (b ∷ s) = divideAfter k s
 
+-- "Reading a stream from its start"
 unfoldable pub divide : List ℕ → Division
 divide s = divideAfter 0 s
 

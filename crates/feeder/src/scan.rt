@@ -18,7 +18,7 @@ pub enum Stop {
 // Bytes that are looked at together.
 const BLOCK: usize = 64;
 
-// Whether no mark stands in a block. All its bytes are looked at, with no early end, so that the loop can run on vectors.
+// Whether no byte that begins a mark stands in a block. All its bytes are looked at, with no early end, so that the loop can run on vectors.
 fn is_unmarked(block: &[u8]) -> bool
     requires { ⌜ length (now block) ≤ 64 ⌝ }
     ensures { λ r. ⌜ (r ≡ true → Unmarked (now (block .entry))) ⌝ }
@@ -34,7 +34,7 @@ fn is_unmarked(block: &[u8]) -> bool
     marks == 0
 }
 
-// Past all blocks of a piece, from a place on, in which no mark stands.
+// Past all blocks of a piece, from a place on, in which no byte that begins a mark stands.
 fn pass_blocks(piece: &[u8], from: usize) -> usize
     requires { ⌜ from ≤ length (now piece) ⌝ }
     ensures { λ r. ⌜ Passed (now (piece .entry)) from r ⌝ }
@@ -50,7 +50,7 @@ fn pass_blocks(piece: &[u8], from: usize) -> usize
     i
 }
 
-// The next mark of a piece from a place on, or its end.
+// The next byte of a piece from a place on that begins a mark, or the end.
 fn next_mark(piece: &[u8], from: usize) -> usize
     requires { ⌜ from ≤ length (now piece) ⌝ }
     ensures { λ r. ⌜ Passed (now (piece .entry)) from r ⌝ }
@@ -65,7 +65,8 @@ fn next_mark(piece: &[u8], from: usize) -> usize
     i
 }
 
-// The place to look at after one whose byte is skipped. In the piece all bytes up to the next mark are passed over.
+// The place to look at after one whose byte is skipped. In the piece all bytes up to the next one that begins a mark
+// are passed over.
 fn next_place(waiting: &[u8], piece: &[u8], at: usize) -> usize
     requires { ⌜ at < length (now waiting) + length (now piece) ⌝ }
     ensures { λ r. ⌜ NextPlace (now (waiting .entry) ++ now (piece .entry)) at r ⌝ }

@@ -6,7 +6,6 @@ use libc::STDOUT_FILENO;
 use store::Expiry;
 use store::check::well_formed;
 use store::read;
-use store::slot;
 use wire::integers::Natural;
 use wire::integers::read_natural;
 use wire::replies::put_bulk;
@@ -166,7 +165,7 @@ fn show_slot(store: &[u8], i: usize)
     requires { ⌜ (wellFormed (now store) ≡ true) × (i < slotCount (now store)) ⌝ }
 {
     say(b"slot ", i as u64, b": ");
-    if slot::is_empty(slot::bytes(store, i)) {
+    if read::is_empty(store, i) {
         write(b"empty\n");
         return;
     }

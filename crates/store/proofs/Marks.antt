@@ -19,7 +19,7 @@ use Rattle.wire.proofs.Lists.{any-none, and-right, both-ways}
 use Rattle.store.specs.Layout.{stateAt, emptyState, keyMost, fieldMost}
 use Rattle.store.specs.Store.{Entry, Slot, decodeEntry, decodeSlot, encodeEntry, encodeSlot, holds, clash, distinct}
 use Rattle.store.specs.Time.{emptySlot}
-use Rattle.store.specs.Promises.{SlotBytes, HeldBytes, slotAt, slotsOf, SlotsWell, keyWord, fieldWord, halvesSum, spreadOf, nameOf, marksSize, hasBit, withBit, firstMark, secondMark, seen, withMark, withSlotMark, HasMarks, Marked, Turn, Turned}
+use Rattle.store.specs.Promises.{SlotBytes, HeldBytes, slotAt, slotsOf, SlotsWell, keyWord, fieldWord, halvesSum, spreadOf, nameOf, marksSize, hasBit, withBit, firstBit, secondBit, seen, withMark, withSlotMark, HasMarks, Marked, Turn, Turned}
 use Rattle.store.proofs.Valid.{Fits, FitsSlot}
 use Rattle.store.proofs.Slots.{Named, holds-named, none-clash, clash-none}
 use Rattle.store.proofs.SlotBytes.{key-bytes, field-bytes}
@@ -132,40 +132,40 @@ module _ (a : ℕ) (m : List ℕ) where
 -- ---- one mark more
 
 -- both bits are inside
-first-inside : (name : ℕ) → firstMark name / 64 < marksSize
-unfolding firstMark
+first-inside : (name : ℕ) → firstBit name / 64 < marksSize
+unfolding firstBit
 first-inside name = omega arith
 
-second-inside : (name : ℕ) → secondMark name / 64 < marksSize
-unfolding secondMark
+second-inside : (name : ℕ) → secondBit name / 64 < marksSize
+unfolding secondBit
 second-inside name = omega arith
 
 module _ (name : ℕ) (m : List ℕ) where
   -- a name with its marks was seen
   seen-marks : HasMarks name m → seen name m ≡ true
   unfolding seen
-  seen-marks h = rw (h .first, bit-keeps (firstMark name) m (secondMark name) (h .second))
+  seen-marks h = rw (h .first, bit-keeps (firstBit name) m (secondBit name) (h .second))
 
   -- marks stay
   mark-keeps : (a : ℕ) → hasBit a m ≡ true → hasBit a (withMark name m) ≡ true
   unfolding withMark
-  mark-keeps a h = bit-keeps (secondMark name) (withBit (firstMark name) m) a (bit-keeps (firstMark name) m a h)
+  mark-keeps a h = bit-keeps (secondBit name) (withBit (firstBit name) m) a (bit-keeps (firstBit name) m a h)
 
   -- the name has its own
   mark-has : length m ≡ marksSize → HasMarks name (withMark name m)
   unfolding withMark
   mark-has e =
-      let l : firstMark name / 64 < length m = omega (arith, first-inside name) in
-      let k : secondMark name / 64 < length (withBit (firstMark name) m) = omega (arith, second-inside name, length-bit (firstMark name) m) in
+      let l : firstBit name / 64 < length m = omega (arith, first-inside name) in
+      let k : secondBit name / 64 < length (withBit (firstBit name) m) = omega (arith, second-inside name, length-bit (firstBit name) m) in
       record {
-        first = bit-keeps (secondMark name) (withBit (firstMark name) m) (firstMark name) (bit-has (firstMark name) m l);
-        second = bit-has (secondMark name) (withBit (firstMark name) m) k;
+        first = bit-keeps (secondBit name) (withBit (firstBit name) m) (firstBit name) (bit-has (firstBit name) m l);
+        second = bit-has (secondBit name) (withBit (firstBit name) m) k;
       }
 
   -- and the marks are as many
   length-mark : length (withMark name m) ≡ length m
   unfolding withMark
-  length-mark = length-bit (secondMark name) (withBit (firstMark name) m) ∙ length-bit (firstMark name) m
+  length-mark = length-bit (secondBit name) (withBit (firstBit name) m) ∙ length-bit (firstBit name) m
 
 module _ (t m : List ℕ) where
   -- a slot that holds no entry has no mark
@@ -235,7 +235,7 @@ module _ (count : ℕ) (b : List ℕ) (i : ℕ) (m : List ℕ) (c : Turn count b
           subst (λ (k : ℕ). (getD (slotAt b k) stateAt 0 ≡ emptyState → ⊥) → HasMarks (nameOf (slotAt b k)) (withSlotMark (slotAt b i) m)) (eqb-true i j q) own h
       go j l n h false q =
           let has : HasMarks (nameOf (slotAt b j)) m = c .marked .marks j (omega (arith, eqb-false i j q)) n h in
-          record { first = keeps (firstMark (nameOf (slotAt b j))) (has .first); second = keeps (secondMark (nameOf (slotAt b j))) (has .second) }
+          record { first = keeps (firstBit (nameOf (slotAt b j))) (has .first); second = keeps (secondBit (nameOf (slotAt b j))) (has .second) }
 
       marks : (j : ℕ) → i ≤ j → j < count → (getD (slotAt b j) stateAt 0 ≡ emptyState → ⊥) → HasMarks (nameOf (slotAt b j)) (withSlotMark (slotAt b i) m)
       marks j l n h = go j l n h (eqb i j) refl

@@ -183,17 +183,10 @@ entry-none k f ss h = go (lowestSlot (holds k f) ss) refl (rw entry-lowest at h)
         let l : holds k f none ≡ true = rw r at (lowest-some (holds k f) ss i q .here) in
         both-ways l (holds-none k f)
 
--- where no slot holds a name there is no entry of it, and the other way round
+-- where no slot holds a name there is no entry of it
 pub lowest-entry-none : (k f : List ℕ) (ss : List Slot) → lowestSlot (holds k f) ss ≡ none → entryOf k f ss ≡ none
 unfolding orElse
 lowest-entry-none k f ss h = rw (entry-lowest, h)
-
-pub entry-lowest-none : (k f : List ℕ) (ss : List Slot) → entryOf k f ss ≡ none → lowestSlot (holds k f) ss ≡ none
-entry-lowest-none k f ss h = go (lowestSlot (holds k f) ss) refl
-  where
-    go : (o : Option ℕ) → lowestSlot (holds k f) ss ≡ o → lowestSlot (holds k f) ss ≡ none
-    go none q = q
-    go (some i) q = both-ways (lowest-some (holds k f) ss i q .here) (entry-none k f ss h i)
 
 -- the entry of a name fits
 pub entry-fits : (k f : List ℕ) (ss : List Slot) (e : Entry) → AllFit ss → entryOf k f ss ≡ some e → Fits e

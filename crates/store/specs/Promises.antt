@@ -122,25 +122,25 @@ hasBit a m = eqb (bitOr (getD m (a / 64) 0) (2 ^ (a % 64))) (getD m (a / 64) 0)
 unfoldable pub withBit : ℕ → List ℕ → List ℕ
 withBit a m = set m (a / 64) (bitOr (getD m (a / 64) 0) (2 ^ (a % 64)))
 
-unfoldable pub firstMark : ℕ → ℕ
-firstMark name = name / 2 ^ 17 % 32768
+unfoldable pub firstBit : ℕ → ℕ
+firstBit name = name / 2 ^ 17 % 32768
 
-unfoldable pub secondMark : ℕ → ℕ
-secondMark name = name % 32768
+unfoldable pub secondBit : ℕ → ℕ
+secondBit name = name % 32768
 
 unfoldable pub seen : ℕ → List ℕ → Bool
-seen name m = hasBit (firstMark name) m && hasBit (secondMark name) (withBit (firstMark name) m)
+seen name m = hasBit (firstBit name) m && hasBit (secondBit name) (withBit (firstBit name) m)
 
 unfoldable pub withMark : ℕ → List ℕ → List ℕ
-withMark name m = withBit (secondMark name) (withBit (firstMark name) m)
+withMark name m = withBit (secondBit name) (withBit (firstBit name) m)
 
 -- the marks with those of a slot's name
 unfoldable pub withSlotMark : List ℕ → List ℕ → List ℕ
 withSlotMark t m = cond (eqb (getD t stateAt 0) emptyState) m (withMark (nameOf t) m)
 
 pub record HasMarks (name : ℕ) (m : List ℕ) : Type 0 where
-  pub first : hasBit (firstMark name) m ≡ true
-  pub second : hasBit (secondMark name) m ≡ true
+  pub first : hasBit (firstBit name) m ≡ true
+  pub second : hasBit (secondBit name) m ≡ true
 
 -- every slot from slot i on that holds an entry has its marks
 pub record Marked (count : ℕ) (b : List ℕ) (i : ℕ) (m : List ℕ) : Type 0 where

@@ -99,6 +99,8 @@ encode s = toLE clockSize (s .clock) ++ replicate reservedSize 0 ++ flatten (map
 unfoldable pub zeroBeyond : ℕ → ℕ → ℕ → List ℕ → Bool
 zeroBeyond at size used t = allZero (drop used (part at size t))
 
+-- "state (.. 1 held, 2 held with expiry), key length (at most 16), field length (at most 32), value length (at most 64) .. expiry in ms (8 bytes,
+-- zero unless state 2, at most 4,102,444,800,000)"
 unfoldable pub heldWell : List ℕ → Bool
 heldWell t =
     every
@@ -130,6 +132,8 @@ unfoldable pub distinct : List Slot → Bool
 distinct [] = true
 distinct (s ∷ ss) = not (any (clash s) ss) && distinct ss
 
+-- "A store is 16+128·n bytes, n from 1 to 500. First 8: the latest clock, low first; next 8: zero." "The latest clock is below
+-- 4,102,444,800,000." "Anything else is not well formed."
 unfoldable pub wellFormed : List ℕ → Bool
 wellFormed b =
     every

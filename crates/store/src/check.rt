@@ -58,7 +58,7 @@ fn header_well(store: &[u8]) -> bool
     read_le(&store[0..CLOCK]) < LIMIT && all_zero(&store[CLOCK..HEADER])
 }
 
-// Whether a held slot's state and lengths are.
+// Whether a held slot's state and lengths are well formed.
 fn lengths_well(t: &[u8]) -> bool
     requires { ⌜ length (now t) ≡ slotSize ⌝ }
     ensures { λ r. ⌜ r ≡ every (lengthTests (now (t .entry))) ⌝ }
@@ -75,7 +75,7 @@ fn lengths_well(t: &[u8]) -> bool
     t[VALUE_LENGTH] as usize <= VALUE_MOST
 }
 
-// Whether a held slot's expiry is. Where it has none the instant is zero.
+// Whether a held slot's expiry is well formed. Where it has none the instant is zero.
 fn expiry_well(t: &[u8]) -> bool
     requires { ⌜ length (now t) ≡ slotSize ⌝ }
     ensures { λ r. ⌜ r ≡ every (expiryTests (now (t .entry))) ⌝ }

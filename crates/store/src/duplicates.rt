@@ -105,7 +105,8 @@ fn mark(marks: &mut [u64], name: u64) -> bool
     first & second
 }
 
-// Whether a slot after slot i holds an entry of its key and field. They are searched only where both marks of the name are there, which are left.
+// Whether a slot after slot i holds an entry of its key and field. They are searched only where both bits of its name were set before; both are
+// set afterwards.
 fn repeats(store: &[u8], count: usize, i: usize, marks: &mut [u64]) -> bool
     requires { ⌜ Turn count (now store) i (now marks) ⌝ }
     ensures { λ r. ⌜ Turned count (now (store .entry)) i (now (marks .entry)) (now (marks .exit)) r ⌝ }

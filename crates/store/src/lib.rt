@@ -6,7 +6,7 @@ pub mod find;
 pub mod layout;
 mod padding;
 pub mod read;
-pub mod slot;
+mod slot;
 
 // When an entry expires: never, or at an instant in ms.
 pub enum Expiry {

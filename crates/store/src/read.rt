@@ -11,7 +11,7 @@ ghost use mathlib.Core.Option.{none};
 ghost use lib.ListN.{length, getD};
 ghost use Prim.Native.Nat.{_<_};
 ghost use Rattle.store.specs.Store.{decode, wellFormed, slotCount};
-ghost use Rattle.store.specs.Time.{nowAt, liveSlot};
+ghost use Rattle.store.specs.Time.{nowAt, emptySlot, liveSlot};
 ghost use Rattle.store.specs.Promises.{Held, entryAt};
 
 // How many slots a store has.
@@ -39,6 +39,14 @@ pub fn now_at(store: &[u8], time: u64) -> u64
         return time;
     }
     latest
+}
+
+// Whether slot i is empty.
+pub fn is_empty(store: &[u8], i: usize) -> bool
+    requires { ⌜ (wellFormed (now store) ≡ true) × (i < slotCount (now store)) ⌝ }
+    ensures { λ r. ⌜ r ≡ emptySlot (getD (decode (now (store .entry)) .slots) i none) ⌝ }
+{
+    slot::is_empty(slot::bytes(store, i))
 }
 
 // Whether slot i holds an entry that is live at a time.

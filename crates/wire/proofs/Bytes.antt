@@ -51,12 +51,7 @@ pub bytes-padded : (n : ℕ) (s : List ℕ) → Bytes s → Bytes (padded n s)
 unfolding padded
 bytes-padded n s h = bytes-append s (replicate (n - length s) 0) h (bytes-zeros (n - length s))
 
--- an element of bytes is below 256, and so is the 0 past their end
-pub bytes-at : (s : List ℕ) → Bytes s → (i : ℕ) → getD s i 0 < 256
-bytes-at [] h i = omega arith
-bytes-at (b ∷ s) h zero = bytes-head b s h
-bytes-at (b ∷ s) h (suc i) = bytes-at s (bytes-tail b s h) i
-
+-- elements below 256 are bytes
 pub bytes-intro : (s : List ℕ) → ((i : ℕ) → getD s i 0 < 256) → Bytes s
 bytes-intro [] h = refl
 bytes-intro (b ∷ s) h = bytes-cons b s (h 0) (bytes-intro s (λ i. h (suc i)))
@@ -164,11 +159,6 @@ zero-split (suc m) (b ∷ s) = go (eqb 0 b) (allZero s) (allZero (take m s)) (al
     go : (t x y z : Bool) → x ≡ y && z → t && x ≡ (t && y) && z
     go true x y z e = e
     go false x y z e = refl
-
-pub fromLE-zero : (n : ℕ) → fromLE (replicate n 0) ≡ 0
-unfolding fromLE
-fromLE-zero zero = refl
-fromLE-zero (suc n) = rw (fromLE-zero n)
 
 -- bytes spell 0 exactly if all are zero
 pub fromLE-none : (s : List ℕ) → eqb (fromLE s) 0 ≡ allZero s

@@ -49,11 +49,6 @@ every-at [] h i = refl
 every-at (t ∷ ts) h zero = and-left t (every ts) h
 every-at (t ∷ ts) h (suc i) = every-at ts (and-right t (every ts) h) i
 
-pub every-intro : (ts : List Bool) → ((i : ℕ) → getD ts i true ≡ true) → every ts ≡ true
-unfolding every
-every-intro [] h = refl
-every-intro (t ∷ ts) h = and-both (h 0) (every-intro ts (λ i. h (suc i)))
-
 -- ---- elements
 
 module _ {ℓ} {A : Type ℓ} (p : A → Bool) where
@@ -62,11 +57,6 @@ module _ {ℓ} {A : Type ℓ} (p : A → Bool) where
   all-at [] d h i l = absurd (not-suc-le-zero l)
   all-at (x ∷ xs) d h zero l = and-left (p x) (all p xs) h
   all-at (x ∷ xs) d h (suc i) l = all-at xs d (and-right (p x) (all p xs) h) i (omega arith)
-
-  pub all-intro : (xs : List A) (d : A) → ((i : ℕ) → i < length xs → p (getD xs i d) ≡ true) → all p xs ≡ true
-  unfolding all
-  all-intro [] d h = refl
-  all-intro (x ∷ xs) d h = and-both (h 0 (omega arith)) (all-intro xs d (λ i l. h (suc i) (omega arith)))
 
   pub all-append : (xs ys : List A) → all p (xs ++ ys) ≡ all p xs && all p ys
   unfolding all

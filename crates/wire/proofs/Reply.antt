@@ -3,7 +3,6 @@ use mathlib.Core.Path.{_≡_, refl}
 use mathlib.Core.List.{List, [], _∷_, _++_, flatten}
 use mathlib.Core.Bool.{true}
 use Prim.Native.Nat.{ℕ, suc, _+_, _*_, _^_, _≤_, _<_}
-use Prim.Native.String.{String}
 use native.Mathlib.Nat.{mul-suc}
 use native.Mathlib.Omega.{arith}
 use lib.ListN.{length, getD, length-append}
@@ -17,11 +16,6 @@ use Rattle.wire.proofs.Digits.{length-naturalText, bytes-naturalText}
 use Rattle.wire.proofs.Integer.{length-integerText, bytes-integerText}
 
 -- ---- lengths
-
--- A line is its text and CR LF.
-pub length-line : (t : String) → length (line t) ≡ length (text t) + 2
-unfolding line
-length-line t = length-append (text t) crlf
 
 -- Nil is 5 bytes.
 pub length-nil : length nil ≡ 5
@@ -66,11 +60,6 @@ unfolding integer text
 length-integer64 z h = simp length-append (omega (arith, length-integerText z h))
 
 -- ---- bytes
-
--- A line is bytes where its text is.
-pub bytes-line : (t : String) → Bytes (text t) → Bytes (line t)
-unfolding line
-bytes-line t h = bytes-append (text t) crlf h refl
 
 -- Nil is bytes.
 pub bytes-nil : Bytes nil

@@ -190,13 +190,3 @@ words-bytes s ws b h = each ws (bytes-after (header (length (map bulk ws))) (fla
     each [] b i = refl
     each (w ∷ ws) b zero = word-bytes w (bytes-before (bulk w) (flatten (map bulk ws)) b)
     each (w ∷ ws) b (suc i) = each ws (bytes-after (bulk w) (flatten (map bulk ws)) b) i
-
--- No word is longer than the command.
-pub words-length : (s : List ℕ) (ws : List Word) → wordsOf s ≡ some ws → (i : ℕ) → length (getD ws i []) ≤ length s
-unfolding respOf array bulk flatten
-words-length s ws h i = rw (respOf-words s ws h, length-append) (omega (arith, each ws i))
-  where
-    each : (ws : List Word) (i : ℕ) → length (getD ws i []) ≤ length (flatten (map bulk ws))
-    each [] i = omega arith
-    each (w ∷ ws) zero = simp length-append (omega arith)
-    each (w ∷ ws) (suc i) = simp length-append (omega (arith, each ws i))

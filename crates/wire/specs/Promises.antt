@@ -66,7 +66,8 @@ unfoldable pub wordsIn : ℕ → List ℕ → List ℕ → List ℕ → List Wor
 wordsIn zero s starts sizes = []
 wordsIn (suc n) s starts sizes = wordIn s (getD starts 0 0) (getD sizes 0 0) ∷ wordsIn n s (drop 1 starts) (drop 1 sizes)
 
--- a count and places say what words a command has, a count of 0 that it is damaged; each place lies in the command
+-- a count and places say what words a command has, a count of 0 that it is damaged; each place lies in the command. Entries from the count on,
+-- and all where it is 0, are left free.
 pub record Places (s starts sizes : List ℕ) (count : ℕ) : Type 0 where
   pub words : wordsOf s ≡ cond (eqb count 0) none (some (wordsIn count s starts sizes))
   pub most : count ≤ 64

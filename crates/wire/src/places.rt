@@ -100,7 +100,8 @@ fn read_word(s: &[u8], at: usize) -> Placed
     Placed::Word(start, size, end + 2)
 }
 
-// Where the words of a command stand: their number, with their starts and sizes, or 0 where the command is damaged.
+// Where the words of a command stand: their number, with their starts and sizes, or 0 where the command is damaged. Entries from the number on, and all
+// where it is 0, are left free.
 pub fn split(s: &[u8], starts: &mut [usize], sizes: &mut [usize]) -> usize
     requires { ⌜ (64 ≤ length (now starts)) × (64 ≤ length (now sizes)) ⌝ }
     ensures { λ r. ⌜ Places (now (s .entry)) (now (starts .exit)) (now (sizes .exit)) r ⌝ }

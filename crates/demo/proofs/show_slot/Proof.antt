@@ -1,7 +1,5 @@
-use denote.Ref.{now}
 use borrow.Author.Needs.{needs}
-use Rattle.store.proofs.At.{slot-inside, slot-bytes}
-use Rattle.commands.proofs.Kept.{slot-held}
+use mathlib.Core.Path.{sym, _∙_}
 use Rattle.demo.proofs.show_slot.Statement.{statement}
 use Rattle.demo.proofs.show_slot.Tie as tie
 
@@ -17,11 +15,8 @@ slice-aggregate-put-number c = search needs
 put-number-requires : tie.Need-put-number-requires
 put-number-requires c κs = search needs
 
-bytes-requires : tie.Need-bytes-requires
-bytes-requires c κs = slot-inside (now (c .before .before .before .before .before .args .bytes)) (c .before .before .before .before .before .args .i) (c .before .before .before .before .before .pre .0) (c .before .before .before .before .before .pre .1)
-
 is-empty-requires : tie.Need-is-empty-requires
-is-empty-requires c κs = slot-bytes (now (c .before .before .before .before .before .before .args .bytes)) (c .before .before .before .before .before .before .args .i) (c .before .before .before .before .before .before .pre .0) (c .before .before .before .before .before .before .pre .1) (c .bytes .ensures) .size
+is-empty-requires c κs = c .before .before .before .before .before .pre
 
 slice-aggregate-put-2 : tie.Need-slice-aggregate-put-2
 slice-aggregate-put-2 c = search needs
@@ -33,7 +28,12 @@ returns : tie.Need-returns
 returns c = search needs
 
 show-entry-requires : tie.Need-show-entry-requires
-show-entry-requires c κs = slot-held (now (c .before .before .before .before .before .before .before .before .args .bytes)) (c .before .before .before .before .before .before .before .before .args .i) (c .before .before .before .before .before .before .before .before .pre .0) (c .before .before .before .before .before .before .before .before .pre .1) (c .before .before .bytes .ensures) (c .before .is-empty .ensures) (c .if1 .left)
+show-entry-requires c κs =
+    record {
+      well = c .before .before .before .before .before .before .before .pre .0;
+      inside = c .before .before .before .before .before .before .before .pre .1;
+      held = sym (c .before .is-empty .ensures) ∙ c .if1 .left;
+    }
 
 returns-2 : tie.Need-returns-2
 returns-2 c = search needs
@@ -46,7 +46,6 @@ show-slot-spec =
     put-requires
     slice-aggregate-put-number
     put-number-requires
-    bytes-requires
     is-empty-requires
     slice-aggregate-put-2
     put-requires-2

@@ -1,6 +1,5 @@
 use borrow.Author.Needs.{needs}
-use Rattle.store.proofs.At.{slot-inside, slot-bytes}
-use Rattle.commands.proofs.Kept.{slot-held}
+use mathlib.Core.Path.{sym, _∙_}
 use Rattle.marked.proofs.show_slot.Statement.{statement}
 use Rattle.marked.proofs.show_slot.Tie as tie
 
@@ -13,11 +12,8 @@ slice-aggregate-say-2 c = search needs
 say-requires : tie.Need-say-requires
 say-requires c κs = search needs
 
-bytes-requires : tie.Need-bytes-requires
-bytes-requires c κs = slot-inside _ _ (c .before .before .before .before .pre .0) (c .before .before .before .before .pre .1)
-
 is-empty-requires : tie.Need-is-empty-requires
-is-empty-requires c κs = slot-bytes _ _ (c .before .before .before .before .before .pre .0) (c .before .before .before .before .before .pre .1) (c .bytes .ensures) .size
+is-empty-requires c κs = c .before .before .before .before .pre
 
 slice-aggregate-write : tie.Need-slice-aggregate-write
 slice-aggregate-write c = search needs
@@ -29,7 +25,12 @@ returns : tie.Need-returns
 returns c = search needs
 
 show-entry-requires : tie.Need-show-entry-requires
-show-entry-requires c κs = slot-held _ _ (c .before .before .before .before .before .before .before .pre .0) (c .before .before .before .before .before .before .before .pre .1) (c .before .before .bytes .ensures) (c .before .is-empty .ensures) (c .if1 .left)
+show-entry-requires c κs =
+    record {
+      well = c .before .before .before .before .before .before .pre .0;
+      inside = c .before .before .before .before .before .before .pre .1;
+      held = sym (c .before .is-empty .ensures) ∙ c .if1 .left;
+    }
 
 returns-2 : tie.Need-returns-2
 returns-2 c = search needs
@@ -41,7 +42,6 @@ show-slot-spec =
     slice-aggregate-say
     slice-aggregate-say-2
     say-requires
-    bytes-requires
     is-empty-requires
     slice-aggregate-write
     write-requires

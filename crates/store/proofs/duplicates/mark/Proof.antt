@@ -1,4 +1,4 @@
-use Rattle.store.specs.Promises.{firstMark, secondMark, seen, withMark}
+use Rattle.store.specs.Promises.{firstBit, secondBit, seen, withMark}
 use borrow.Author.Needs.{needs}
 use Rattle.store.proofs.duplicates.mark.Statement.{statement}
 use Rattle.store.proofs.duplicates.mark.Tie as tie
@@ -13,7 +13,7 @@ same-length : tie.Need-same-length
 same-length c = search needs
 
 returns : tie.Need-returns
-unfolding firstMark secondMark seen withMark
+unfolding firstBit secondBit seen withMark
 returns c = (rw (c .before .before .before .before .before .before .set-bit .ensures .0, c .before .before .set-bit2 .ensures .0, c .before .before .before .before .before .before .set-bit .ensures .1), rw (c .before .before .set-bit2 .ensures .1, c .before .before .before .before .before .before .set-bit .ensures .1))
 
 pub mark-spec : {M : Type 1} → statement M
