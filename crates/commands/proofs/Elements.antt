@@ -6,7 +6,7 @@ use native.Mathlib.Omega.{arith}
 use borrow.Rule.Slice.PartMut.{putMid}
 use lib.ListN.{length, take, drop, length-append, length-take, length-drop}
 use Rattle.wire.specs.Promises.{Laid}
-use Rattle.wire.proofs.Laying.{laid-tail, laid-within, laid-length, tail-inside, tail-room}
+use Rattle.wire.proofs.Laying.{laid-tail, laid-within, laid-length, tail-room}
 
 -- y is laid of a total, and rest is left
 pub record Going (total rest before after : List ℕ) (at : ℕ) : Type 0 where
@@ -26,9 +26,6 @@ module _ {total rest d e : List ℕ} {at : ℕ} (g : Going total rest d e at) wh
   enough y more q = omega (arith, length-append (g .done ++ y) more, ap length (whole y more q), g .room)
 
   -- the next element has room in the tail
-  pub going-inside : (y more : List ℕ) → rest ≡ y ++ more → at ≤ length e
-  going-inside y more q = tail-inside y (g .laid) (enough y more q)
-
   pub going-room : (y more : List ℕ) → rest ≡ y ++ more → length y ≤ length (take (length e - at) (drop at e))
   going-room y more q = tail-room y (g .laid) (enough y more q)
 

@@ -1,4 +1,4 @@
--- Every reply is bytes, and fits in 56,000 of them.
+-- Every reply fits in 56,000 bytes.
 use mathlib.Core.Path.{_≡_, refl}
 use mathlib.Core.Bool.{Bool, true, false, cond}
 use mathlib.Core.List.{List, [], _∷_, _++_, map, flatMap, flatten, append-assoc}
@@ -7,7 +7,7 @@ use Prim.Native.Nat.{_+_, ℕ, zero, suc, _*_, _≤_}
 use lib.ListN.{length, getD, length-append, length-map}
 use native.Mathlib.Omega.{arith}
 use Rattle.wire.specs.Lists.{any, keep, orElse}
-use Rattle.wire.specs.Bytes.{Bytes, text}
+use Rattle.wire.specs.Bytes.{text}
 use Rattle.wire.specs.Words.{Word}
 use Rattle.wire.specs.Reply.{header, line, number, bulk, array}
 use Rattle.wire.proofs.Bytes.{bytes-append}
@@ -140,7 +140,3 @@ exec-short clock command s v = go (went clock command s)
 -- Every reply fits in the least buffer.
 pub reply-fits : (clock : ℕ) (command : List ℕ) (s : Store) → Valid s → length (exec clock command s .reply) ≤ 56000
 reply-fits clock command s v = omega (arith, exec-short clock command s v .short)
-
--- Every reply is bytes.
-pub reply-bytes : (clock : ℕ) (command : List ℕ) (s : Store) → Valid s → Bytes (exec clock command s .reply)
-reply-bytes clock command s v = exec-short clock command s v .bytes

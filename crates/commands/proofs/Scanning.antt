@@ -5,7 +5,6 @@ use mathlib.Core.List.{List, [], _∷_, _++_, map, append-assoc, append-nil}
 use mathlib.Core.Option.{Option, none, some, Option·map, Option·none-ne-some, Option·some-ne-none}
 use Prim.Native.Nat.{ℕ, zero, suc, _+_, _≤_, _<_, _-_}
 use native.Mathlib.Nat.{not-suc-le-zero}
-use native.Mathlib.Numerals.{add-one}
 use native.Mathlib.Omega.{arith}
 use borrow.Author.Tests.{lt-ltb, le-ltb, ltb-true, eq-eqb, ne-eqb, eqb-true, eqb-false, ltb-false}
 use lib.Dec.{ltb, eqb}
@@ -215,19 +214,22 @@ module _ (al : List ℕ) (ws : List Word) (i k : ℕ) (l : i < length ws) (e : o
   unfolding wordAt
   here = drop-cons ws i [] l
 
-  -- its operand is there if it takes one
-  scan-step : i + optionSize k ≤ length ws
-      → scan al none (drop i ws) ≡ Option·map (λ gs. numbered ws k (i + 1) ∷ gs) (scan al none (drop (i + optionSize k) ws))
+  -- its last word is there: its operand, if it takes one
+  scan-step : (last : ℕ) → last + 1 ≡ i + optionSize k → last < length ws
+      → scan al none (drop i ws) ≡ Option·map (λ gs. numbered ws k last ∷ gs) (scan al none (drop (last + 1) ws))
   unfolding optionSize takesOperand numbered scan wordAt
-  scan-step = go (isSome (operandRange (meaningOf k))) refl
+  scan-step last = go (isSome (operandRange (meaningOf k))) refl
     where
-      go : (t : Bool) → isSome (operandRange (meaningOf k)) ≡ t → i + cond t 2 1 ≤ length ws
-          → scan al none (drop i ws) ≡ Option·map (λ gs. meaningOf k with cond t (wordAt (i + 1) ws) [] ∷ gs) (scan al none (drop (i + cond t 2 1) ws))
-      go true h room =
-          let n : i + 2 ≡ suc (suc i) = omega arith in
+      go : (t : Bool) → isSome (operandRange (meaningOf k)) ≡ t → last + 1 ≡ i + cond t 2 1 → last < length ws
+          → scan al none (drop i ws) ≡ Option·map (λ gs. meaningOf k with cond t (wordAt last ws) [] ∷ gs) (scan al none (drop (last + 1) ws))
+      go true h ends room =
+          let n : last + 1 ≡ suc (suc i) = omega arith in
+          let m : last ≡ suc i = omega arith in
           let next : drop (suc i) ws ≡ wordAt (suc i) ws ∷ drop (suc (suc i)) ws = drop-cons ws (suc i) [] (omega arith) in
-          rw (here, scan-operand al (meaningOf k) (wordAt i ws) e (drop (suc i) ws) h, next, n, add-one i)
-      go false h room = rw (here, add-one i) (scan-bare al (meaningOf k) (wordAt i ws) e (drop (suc i) ws) h)
+          rw (n, m, here, scan-operand al (meaningOf k) (wordAt i ws) e (drop (suc i) ws) h, next)
+      go false h ends room =
+          let n : last + 1 ≡ suc i = omega arith in
+          rw (n, here) (scan-bare al (meaningOf k) (wordAt i ws) e (drop (suc i) ws) h)
 
   -- its operand is missing
   scan-short : length ws < i + optionSize k → scan al none (drop i ws) ≡ none
@@ -342,6 +344,24 @@ row-at (some j) k h =
     let q : j ≡ k = cc in
     ap some q
 
+-- there is no word n
+next-end : (count n : ℕ) {r : Next} → r ≡ nextOf count n → r ≡ nexts.End → count ≤ n
+unfolding nextOf
+next-end count n {r} e q = go (ltb n count) refl e
+  where
+    go : (t : Bool) → ltb n count ≡ t → r ≡ cond t (nexts.Word n) nexts.End → count ≤ n
+    go true p d = let z : _≡_ {A = ℕ} 0 1 = cc in omega arith
+    go false p d = ltb-false n count p
+
+-- word k is there, and is n
+next-at : (count n k : ℕ) {r : Next} → r ≡ nextOf count n → r ≡ nexts.Word k → (k ≡ n) × (n < count)
+unfolding nextOf
+next-at count n k {r} e q = go (ltb n count) refl e
+  where
+    go : (t : Bool) → ltb n count ≡ t → r ≡ cond t (nexts.Word n) nexts.End → (k ≡ n) × (n < count)
+    go true p d = (cc, ltb-true n count p)
+    go false p d = let z : _≡_ {A = ℕ} 0 1 = cc in absurd (omega arith)
+
 -- word i is w, and the code looked for its row
 module _ {ws : List Word} {allowed : List ℕ} {from i : ℕ} {r : code.Given} (s : Scanning ws allowed from i r)
     {count : ℕ} (size : length ws ≡ count) (l : i < count) {w : Word} (ew : w ≡ wordAt i ws) {row : Row} (er : row ≡ rowFor (rowNamed optionTable w)) where
@@ -401,69 +421,54 @@ module _ {ws : List Word} {allowed : List ℕ} {from i : ℕ} {r : code.Given} (
             (rw (sym eg) (s .entries g turn-group ∙ entry-some ws (r .options) (r .operands) g b))
 
         -- none of its group was given
-        module _ (free : 12 ≤ getD (r .options) g 0) where
+        module _ (free : 12 ≤ getD (r .options) g 0) (last : ℕ) where
           none-before : givenOf (groupOf k) (s .found) ≡ none
           none-before = rw (sym eg) (s .entries g turn-group ∙ entry-none ws (r .options) (r .operands) g free)
 
-          turn-entries : (h : ℕ) → h < 6 → givenOf h (s .found ++ (numbered ws k (i + 1) ∷ [])) ≡ givenAt ws (set (r .options) g k) (set (r .operands) g (i + 1)) h
+          turn-entries : (h : ℕ) → h < 6 → givenOf h (s .found ++ (numbered ws k last ∷ [])) ≡ givenAt ws (set (r .options) g k) (set (r .operands) g last) h
           unfolding groupOf numbered
           turn-entries h b = go (eqb g h) refl
             where
               x : Given
-              x = numbered ws k (i + 1)
+              x = numbered ws k last
 
-              go : (t : Bool) → eqb g h ≡ t → givenOf h (s .found ++ (x ∷ [])) ≡ givenAt ws (set (r .options) g k) (set (r .operands) g (i + 1)) h
+              go : (t : Bool) → eqb g h ≡ t → givenOf h (s .found ++ (x ∷ [])) ≡ givenAt ws (set (r .options) g k) (set (r .operands) g last) h
               go true q =
                   let e : g ≡ h = eqb-true g h q in
                   let this : givenOf g (s .found ++ (x ∷ [])) ≡ some x = rw eg (given-same x (s .found) none-before) in
                   let p : g < length (r .options) = omega (arith, s .optionsSize, turn-group) in
                   let o : g < length (r .operands) = omega (arith, s .operandsSize, turn-group) in
-                  rw (← e) (this ∙ sym (entry-set ws (r .options) (r .operands) g k (i + 1) p o turn-below))
+                  rw (← e) (this ∙ sym (entry-set ws (r .options) (r .operands) g k last p o turn-below))
               go false q =
                   let ne : h ≡ g → ⊥ = λ e. eqb-false g h q (sym e) in
                   let other : eqb (group (x .meaning)) h ≡ false = rw eg at q in
-                  given-other x h (s .found) other ∙ s .entries h b ∙ sym (entry-other ws (r .options) (r .operands) g k (i + 1) h ne)
+                  given-other x h (s .found) other ∙ s .entries h b ∙ sym (entry-other ws (r .options) (r .operands) g k last h ne)
 
-        -- its operand is missing
-        module _ {n : ℕ} (en : n ≡ optionSize k) where
-          pub turn-short : count < i + n → Scanned ws allowed from r
-          turn-short m = refused-left s (scan-short (groupsFrom 0 allowed) ws i k inside known-so (omega (arith, en)))
+        -- the code looked for its last word
+        module _ {n : ℕ} (en : n ≡ optionSize k) {end : Next} (ee : end ≡ nextOf count (i + n - 1)) where
+          -- which is not there: its operand is missing
+          pub turn-short : end ≡ nexts.End → Scanned ws allowed from r
+          turn-short q = refused-left s (scan-short (groupsFrom 0 allowed) ws i k inside known-so (omega (arith, en, size-range k, next-end count (i + n - 1) ee q)))
 
-          -- it is one option more
-          pub turn-on : 12 ≤ getD (r .options) g 0 → i + n ≤ count → Scanning ws allowed from (i + n) (record { clean = r .clean; options = set (r .options) g k; operands = set (r .operands) g (i + 1) })
-          unfolding groupOf numbered
-          turn-on free room =
-              let x : Given = numbered ws k (i + 1) in
-              record {
-                found = s .found ++ (x ∷ []);
-                left =
-                    rw en
-                    (s .left
-                    ∙ ap (Option·map (λ more. s .found ++ more)) (scan-step (groupsFrom 0 allowed) ws i k inside known-so (omega (arith, en)))
-                    ∙ map-last (s .found) x (scan (groupsFrom 0 allowed) none (drop (i + optionSize k) ws)));
-                clean = conflict-none x (s .found) (s .clean) (none-before free);
-                entries = turn-entries free;
-                unclean = s .unclean;
-                optionsSize = length-set (r .options) g k ∙ s .optionsSize;
-                operandsSize = length-set (r .operands) g (i + 1) ∙ s .operandsSize;
-              }
+          -- which is there
+          module _ (last : ℕ) (q : end ≡ nexts.Word last) where
+            pub turn-last : (last + 1 ≡ i + n) × (last < count)
+            turn-last = (omega (arith, en, size-range k, next-at count (i + n - 1) last ee q), omega (arith, next-at count (i + n - 1) last ee q))
 
--- ---- the last word of an option
-
--- it is not there: the option ends past the words
-pub next-end : (count n : ℕ) {r : Next} → 1 ≤ n → r ≡ nextOf count (n - 1) → r ≡ nexts.End → count < n
-unfolding nextOf
-next-end count n {r} l e q = go (ltb (n - 1) count) refl e
-  where
-    go : (t : Bool) → ltb (n - 1) count ≡ t → r ≡ cond t (nexts.Word (n - 1)) nexts.End → count < n
-    go true p d = let z : _≡_ {A = ℕ} 0 1 = cc in omega arith
-    go false p d = omega (arith, ltb-false (n - 1) count p)
-
--- it is there: the option ends within the words
-pub next-inside : (count n k : ℕ) {r : Next} → r ≡ nextOf count (n - 1) → r ≡ nexts.Word k → n ≤ count
-unfolding nextOf
-next-inside count n k {r} e q = go (ltb (n - 1) count) refl e
-  where
-    go : (t : Bool) → ltb (n - 1) count ≡ t → r ≡ cond t (nexts.Word (n - 1)) nexts.End → n ≤ count
-    go true p d = omega (arith, ltb-true (n - 1) count p)
-    go false p d = let z : _≡_ {A = ℕ} 0 1 = cc in omega arith
+            -- it is one option more
+            pub turn-on : 12 ≤ getD (r .options) g 0 → Scanning ws allowed from (last + 1) (record { clean = r .clean; options = set (r .options) g k; operands = set (r .operands) g last })
+            unfolding groupOf numbered
+            turn-on free =
+                let x : Given = numbered ws k last in
+                record {
+                  found = s .found ++ (x ∷ []);
+                  left =
+                      s .left
+                      ∙ ap (Option·map (λ more. s .found ++ more)) (scan-step (groupsFrom 0 allowed) ws i k inside known-so last (turn-last .0 ∙ ap (λ m. i + m) en) (omega (arith, turn-last)))
+                      ∙ map-last (s .found) x (scan (groupsFrom 0 allowed) none (drop (last + 1) ws));
+                  clean = conflict-none x (s .found) (s .clean) (none-before free last);
+                  entries = turn-entries free last;
+                  unclean = s .unclean;
+                  optionsSize = length-set (r .options) g k ∙ s .optionsSize;
+                  operandsSize = length-set (r .operands) g last ∙ s .operandsSize;
+                }

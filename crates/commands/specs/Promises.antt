@@ -10,9 +10,8 @@ use lib.IntN.{negsuc}
 use lib.ListN.{length, drop, getD}
 use Rattle.wire.specs.Lists.{any, keep, isSome, orElse}
 use Rattle.wire.specs.Bytes.{text, padded, Bytes, same}
-use Rattle.wire.specs.Integer.{lowest64, highest64, within}
+use Rattle.wire.specs.Integer.{readInteger, lowest64, highest64, within}
 use Rattle.wire.specs.Words.{Word}
-use Rattle.wire.specs.Integer.{readInteger, lowest64, highest64}
 use Rattle.wire.specs.declared.integers.Signed.{Signed}
 use Rattle.wire.specs.declared.integers.Integer.{Integer}
 use Rattle.wire.specs.declared.integers.Integer.the-variants as integers

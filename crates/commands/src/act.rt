@@ -1,4 +1,4 @@
-// What every command does with the store: the clock, the named dead entries, an entry's place.
+// What commands do with an entry of the store: look for it, remove it when dead, put it in its place.
 use store::Expiry;
 use store::Found;
 use store::change;

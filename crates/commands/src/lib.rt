@@ -1,18 +1,18 @@
 // Commands: what a command asks, and what it says of a version, an expiry and a condition.
-pub mod act;
-pub mod answer;
-pub mod counts;
-pub mod errors;
+mod act;
+mod answer;
+mod counts;
+mod errors;
 pub mod execute;
-pub mod field;
-pub mod key;
-pub mod operands;
-pub mod options;
-pub mod pairs;
-pub mod parse;
-pub mod table;
-pub mod versions;
-pub mod words;
+mod field;
+mod key;
+mod operands;
+mod options;
+mod pairs;
+mod parse;
+mod table;
+mod versions;
+mod words;
 
 use wire::integers::Signed;
 

@@ -19,7 +19,7 @@ const GROUPS: [usize; 12] = [0, 0, 0, 0, 0, 1, 1, 2, 2, 3, 4, 5];
 
 const SIZES: [usize; 12] = [2, 2, 2, 2, 1, 1, 1, 2, 2, 2, 2, 1];
 
-// The options that were given, by group: the option's number, 12 where there is none, and the number of the word after it, its operand if it takes one.
+// The options that were given, by group: the option's number, 12 where there is none, and the number of its last word, its operand if it takes one.
 pub struct Given {
     pub clean: bool,
     pub options: [usize; 6],
@@ -73,15 +73,14 @@ pub fn scan(
         if given.options[g] < OPTIONS {
             return given;
         }
-        let next = i + size(option);
         // the last word of the option: its operand, if it takes one
-        let end = next_word(count, next - 1);
-        let Next::Word(_) = end else {
+        let end = next_word(count, i + size(option) - 1);
+        let Next::Word(last) = end else {
             return given;
         };
         given.options[g] = option;
-        given.operands[g] = i + 1;
-        i = next;
+        given.operands[g] = last;
+        i = last + 1;
     }
     given.clean = true;
     given

@@ -187,7 +187,7 @@ fn key_deed(row: usize) -> KeyDeed
     KeyDeed::List(listing(row))
 }
 
-// The commands of fixed words with no number among them, from EXHPERSIST on.
+// The commands with neither options nor a number, from EXHPERSIST on.
 fn parse_fixed(row: usize) -> Parsed
     requires { ⌜ (7 ≤ row) × (row < 23) × (row ≡ 8 → ⊥) × (row ≡ 19 → ⊥) ⌝ }
     ensures { λ r. ⌜ ((time : ℕ) (ws : List Word) → meant ws r ≡ parseRest time row ws) ⌝ }

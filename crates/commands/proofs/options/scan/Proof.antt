@@ -1,10 +1,10 @@
 -- What is left does the same; the measure is how many words are left.
-use Prim.Native.Nat.{_+_, _-_}
+use Prim.Native.Nat.{_-_}
 use native.Mathlib.Omega.{arith}
 use borrow.Author.Needs.{needs}
 use Rattle.wire.specs.Promises.{wordsIn}
 use Rattle.commands.proofs.WordPlaces.{length-words}
-use Rattle.commands.proofs.Scanning.{Scanning, scanning-begins, scanning-ends, turn-unknown, turn-below, turn-group, turn-barred, turn-again, turn-short, turn-on, size-range, next-end, next-inside}
+use Rattle.commands.proofs.Scanning.{Scanning, scanning-begins, scanning-ends, turn-unknown, turn-below, turn-group, turn-barred, turn-again, turn-short, turn-last, turn-on, size-range}
 use Rattle.commands.proofs.options.scan.Statement.{statement}
 use Rattle.commands.proofs.options.scan.Tie as tie
 
@@ -53,8 +53,8 @@ returns-3 c = turn-again (c .before .before .before .before .before .before .bef
 size-requires : tie.Need-size-requires Inv-loop μ-loop
 size-requires c κs = turn-below (c .before .before .before .before .before .before .before .before .before .before .before .loop .inv) (length-words _ _ _ _) (c .before .before .before .before .before .before .before .before .before .before .loop-test .taken) (c .before .before .before .before .before .before .before .before .before .word .ensures) (c .before .before .before .before .before .before .before .before .option-named .ensures) (c .before .before .before .before .before .before .found .given .0 .0) (c .before .before .before .before .before .before .found .given .1)
 
-add-next : tie.Need-add-next Inv-loop μ-loop
-add-next c = omega (arith, c .size .ensures, size-range (c .before .before .before .before .before .before .before .found .given .0 .0), c .before .before .before .before .before .before .before .before .before .before .before .before .before .before .before .before .before .pre .0 .most)
+add-next-word : tie.Need-add-next-word Inv-loop μ-loop
+add-next-word c = omega (arith, c .size .ensures, size-range (c .before .before .before .before .before .before .before .found .given .0 .0), c .before .before .before .before .before .before .before .before .before .before .before .before .before .before .before .before .before .pre .0 .most)
 
 sub-next-word : tie.Need-sub-next-word Inv-loop μ-loop
 sub-next-word c = omega (arith, c .size .ensures, size-range (c .before .before .before .before .before .before .before .found .given .0 .0))
@@ -62,35 +62,35 @@ sub-next-word c = omega (arith, c .size .ensures, size-range (c .before .before 
 next-word-requires : tie.Need-next-word-requires Inv-loop μ-loop
 next-word-requires c κs = tt
 
+enum-known-end : tie.Need-enum-known-end Inv-loop μ-loop
+enum-known-end c = search needs
+
 enum-told-2 : tie.Need-enum-told-2 Inv-loop μ-loop
 enum-told-2 c = search needs
 
-enum-told-3 : tie.Need-enum-told-3 Inv-loop μ-loop
-enum-told-3 c = search needs
-
 returns-4 : tie.Need-returns-4 Inv-loop μ-loop
-returns-4 c = turn-short (c .before .before .before .before .before .before .before .before .before .before .before .before .before .before .before .loop .inv) (length-words _ _ _ _) (c .before .before .before .before .before .before .before .before .before .before .before .before .before .before .loop-test .taken) (c .before .before .before .before .before .before .before .before .before .before .before .before .before .word .ensures) (c .before .before .before .before .before .before .before .before .before .before .before .before .option-named .ensures) (c .before .before .before .before .before .before .before .before .before .before .found .given .0 .0) (c .before .before .before .before .before .before .before .before .before .before .found .given .1) (c .before .before .before .before .before .before .before .before .group .ensures) (c .before .before .before .before .before .before .if1 .left) (c .before .before .before .size .ensures) (next-end _ (c .before .before .before .before .before .before .before .before .before .before .before .before .before .before .before .loop .i + c .before .before .before .size .result) (omega (arith, c .before .before .before .size .ensures, size-range (c .before .before .before .before .before .before .before .before .before .before .found .given .0 .0))) (c .before .before .next-word .ensures) (c .enum-told3 .given .1))
+returns-4 c = turn-short (c .before .before .before .before .before .before .before .before .before .before .before .before .before .before .before .loop .inv) (length-words _ _ _ _) (c .before .before .before .before .before .before .before .before .before .before .before .before .before .before .loop-test .taken) (c .before .before .before .before .before .before .before .before .before .before .before .before .before .word .ensures) (c .before .before .before .before .before .before .before .before .before .before .before .before .option-named .ensures) (c .before .before .before .before .before .before .before .before .before .before .found .given .0 .0) (c .before .before .before .before .before .before .before .before .before .before .found .given .1) (c .before .before .before .before .before .before .before .before .group .ensures) (c .before .before .before .before .before .before .if1 .left) (c .before .before .before .size .ensures) (c .before .before .next-word .ensures) (c .enum-told2 .given .1)
 
 mul-given : tie.Need-mul-given Inv-loop μ-loop
-mul-given c = omega (arith, turn-group (c .before .before .before .before .before .before .before .before .before .before .before .before .before .before .before .loop .inv) (length-words _ _ _ _) (c .before .before .before .before .before .before .before .before .before .before .before .before .before .before .loop-test .taken) (c .before .before .before .before .before .before .before .before .before .before .before .before .before .word .ensures) (c .before .before .before .before .before .before .before .before .before .before .before .before .option-named .ensures) (c .before .before .before .before .before .before .before .before .before .before .found .given .0 .0) (c .before .before .before .before .before .before .before .before .before .before .found .given .1) (c .before .before .before .before .before .before .before .before .group .ensures))
+mul-given c = omega (arith, turn-group (c .before .before .before .before .before .before .before .before .before .before .before .before .before .before .before .before .loop .inv) (length-words _ _ _ _) (c .before .before .before .before .before .before .before .before .before .before .before .before .before .before .before .loop-test .taken) (c .before .before .before .before .before .before .before .before .before .before .before .before .before .before .word .ensures) (c .before .before .before .before .before .before .before .before .before .before .before .before .before .option-named .ensures) (c .before .before .before .before .before .before .before .before .before .before .before .found .given .0 .0) (c .before .before .before .before .before .before .before .before .before .before .before .found .given .1) (c .before .before .before .before .before .before .before .before .before .group .ensures))
 
 element-write-given : tie.Need-element-write-given Inv-loop μ-loop
-element-write-given c = turn-group (c .before .before .before .before .before .before .before .before .before .before .before .before .before .before .before .loop .inv) (length-words _ _ _ _) (c .before .before .before .before .before .before .before .before .before .before .before .before .before .before .loop-test .taken) (c .before .before .before .before .before .before .before .before .before .before .before .before .before .word .ensures) (c .before .before .before .before .before .before .before .before .before .before .before .before .option-named .ensures) (c .before .before .before .before .before .before .before .before .before .before .found .given .0 .0) (c .before .before .before .before .before .before .before .before .before .before .found .given .1) (c .before .before .before .before .before .before .before .before .group .ensures)
-
-add-given : tie.Need-add-given Inv-loop μ-loop
-add-given c = omega (arith, c .before .before .before .before .before .before .before .before .before .before .before .before .before .before .before .before .before .before .before .before .pre .0 .most)
+element-write-given c = turn-group (c .before .before .before .before .before .before .before .before .before .before .before .before .before .before .before .before .loop .inv) (length-words _ _ _ _) (c .before .before .before .before .before .before .before .before .before .before .before .before .before .before .before .loop-test .taken) (c .before .before .before .before .before .before .before .before .before .before .before .before .before .before .word .ensures) (c .before .before .before .before .before .before .before .before .before .before .before .before .before .option-named .ensures) (c .before .before .before .before .before .before .before .before .before .before .before .found .given .0 .0) (c .before .before .before .before .before .before .before .before .before .before .before .found .given .1) (c .before .before .before .before .before .before .before .before .before .group .ensures)
 
 mul-given-2 : tie.Need-mul-given-2 Inv-loop μ-loop
-mul-given-2 c = omega (arith, turn-group (c .before .before .before .before .before .before .before .before .before .before .before .before .before .before .before .loop .inv) (length-words _ _ _ _) (c .before .before .before .before .before .before .before .before .before .before .before .before .before .before .loop-test .taken) (c .before .before .before .before .before .before .before .before .before .before .before .before .before .word .ensures) (c .before .before .before .before .before .before .before .before .before .before .before .before .option-named .ensures) (c .before .before .before .before .before .before .before .before .before .before .found .given .0 .0) (c .before .before .before .before .before .before .before .before .before .before .found .given .1) (c .before .before .before .before .before .before .before .before .group .ensures))
+mul-given-2 c = omega (arith, turn-group (c .before .before .before .before .before .before .before .before .before .before .before .before .before .before .before .before .loop .inv) (length-words _ _ _ _) (c .before .before .before .before .before .before .before .before .before .before .before .before .before .before .before .loop-test .taken) (c .before .before .before .before .before .before .before .before .before .before .before .before .before .before .word .ensures) (c .before .before .before .before .before .before .before .before .before .before .before .before .before .option-named .ensures) (c .before .before .before .before .before .before .before .before .before .before .before .found .given .0 .0) (c .before .before .before .before .before .before .before .before .before .before .before .found .given .1) (c .before .before .before .before .before .before .before .before .before .group .ensures))
 
 element-write-given-2 : tie.Need-element-write-given-2 Inv-loop μ-loop
-element-write-given-2 c = turn-group (c .before .before .before .before .before .before .before .before .before .before .before .before .before .before .before .loop .inv) (length-words _ _ _ _) (c .before .before .before .before .before .before .before .before .before .before .before .before .before .before .loop-test .taken) (c .before .before .before .before .before .before .before .before .before .before .before .before .before .word .ensures) (c .before .before .before .before .before .before .before .before .before .before .before .before .option-named .ensures) (c .before .before .before .before .before .before .before .before .before .before .found .given .0 .0) (c .before .before .before .before .before .before .before .before .before .before .found .given .1) (c .before .before .before .before .before .before .before .before .group .ensures)
+element-write-given-2 c = turn-group (c .before .before .before .before .before .before .before .before .before .before .before .before .before .before .before .before .loop .inv) (length-words _ _ _ _) (c .before .before .before .before .before .before .before .before .before .before .before .before .before .before .before .loop-test .taken) (c .before .before .before .before .before .before .before .before .before .before .before .before .before .before .word .ensures) (c .before .before .before .before .before .before .before .before .before .before .before .before .before .option-named .ensures) (c .before .before .before .before .before .before .before .before .before .before .before .found .given .0 .0) (c .before .before .before .before .before .before .before .before .before .before .before .found .given .1) (c .before .before .before .before .before .before .before .before .before .group .ensures)
+
+add-i : tie.Need-add-i Inv-loop μ-loop
+add-i c = omega (arith, turn-last (c .before .before .before .before .before .before .before .before .before .before .before .before .before .before .before .before .loop .inv) (length-words _ _ _ _) (c .before .before .before .before .before .before .before .before .before .before .before .before .before .before .before .loop-test .taken) (c .before .before .before .before .before .before .before .before .before .before .before .before .before .before .word .ensures) (c .before .before .before .before .before .before .before .before .before .before .before .before .before .option-named .ensures) (c .before .before .before .before .before .before .before .before .before .before .before .found .given .0 .0) (c .before .before .before .before .before .before .before .before .before .before .before .found .given .1) (c .before .before .before .before .before .before .before .before .before .group .ensures) (c .before .before .before .before .before .before .before .if1 .left) (c .before .before .before .before .size .ensures) (c .before .before .before .next-word .ensures) (c .before .end .given .0 .0) (c .before .end .given .1), c .before .before .before .before .before .before .before .before .before .before .before .before .before .before .before .before .before .before .before .before .before .pre .0 .most)
 
 loop-less : tie.Need-loop-less Inv-loop μ-loop
-loop-less c = omega (arith, c .before .before .before .size .ensures, size-range (c .before .before .before .before .before .before .before .before .before .before .found .given .0 .0))
+loop-less c = omega (arith, turn-last (c .before .before .before .before .before .before .before .before .before .before .before .before .before .before .before .before .loop .inv) (length-words _ _ _ _) (c .before .before .before .before .before .before .before .before .before .before .before .before .before .before .before .loop-test .taken) (c .before .before .before .before .before .before .before .before .before .before .before .before .before .before .word .ensures) (c .before .before .before .before .before .before .before .before .before .before .before .before .before .option-named .ensures) (c .before .before .before .before .before .before .before .before .before .before .before .found .given .0 .0) (c .before .before .before .before .before .before .before .before .before .before .before .found .given .1) (c .before .before .before .before .before .before .before .before .before .group .ensures) (c .before .before .before .before .before .before .before .if1 .left) (c .before .before .before .before .size .ensures) (c .before .before .before .next-word .ensures) (c .before .end .given .0 .0) (c .before .end .given .1), c .before .before .before .before .size .ensures, size-range (c .before .before .before .before .before .before .before .before .before .before .before .found .given .0 .0))
 
 loop-again : tie.Need-loop-again Inv-loop μ-loop
-loop-again c = turn-on (c .before .before .before .before .before .before .before .before .before .before .before .before .before .before .before .loop .inv) (length-words _ _ _ _) (c .before .before .before .before .before .before .before .before .before .before .before .before .before .before .loop-test .taken) (c .before .before .before .before .before .before .before .before .before .before .before .before .before .word .ensures) (c .before .before .before .before .before .before .before .before .before .before .before .before .option-named .ensures) (c .before .before .before .before .before .before .before .before .before .before .found .given .0 .0) (c .before .before .before .before .before .before .before .before .before .before .found .given .1) (c .before .before .before .before .before .before .before .before .group .ensures) (c .before .before .before .before .before .before .if1 .left) (c .before .before .before .size .ensures) (c .before .before .before .before .if2 .left) (next-inside _ (c .before .before .before .before .before .before .before .before .before .before .before .before .before .before .before .loop .i + c .before .before .before .size .result) (c .enum-told2 .given .0 .0) (c .before .before .next-word .ensures) (c .enum-told2 .given .1))
+loop-again c = turn-on (c .before .before .before .before .before .before .before .before .before .before .before .before .before .before .before .before .loop .inv) (length-words _ _ _ _) (c .before .before .before .before .before .before .before .before .before .before .before .before .before .before .before .loop-test .taken) (c .before .before .before .before .before .before .before .before .before .before .before .before .before .before .word .ensures) (c .before .before .before .before .before .before .before .before .before .before .before .before .before .option-named .ensures) (c .before .before .before .before .before .before .before .before .before .before .before .found .given .0 .0) (c .before .before .before .before .before .before .before .before .before .before .before .found .given .1) (c .before .before .before .before .before .before .before .before .before .group .ensures) (c .before .before .before .before .before .before .before .if1 .left) (c .before .before .before .before .size .ensures) (c .before .before .before .next-word .ensures) (c .before .end .given .0 .0) (c .before .end .given .1) (c .before .before .before .before .before .if2 .left)
 
 returns-5 : tie.Need-returns-5 Inv-loop μ-loop
 returns-5 c = scanning-ends (c .before .loop .inv) (length-words _ _ _ _) (c .loop-test .left)
@@ -114,17 +114,17 @@ scan-spec =
     element-copy-out-if2
     returns-3
     size-requires
-    add-next
+    add-next-word
     sub-next-word
     next-word-requires
+    enum-known-end
     enum-told-2
-    enum-told-3
     returns-4
     mul-given
     element-write-given
-    add-given
     mul-given-2
     element-write-given-2
+    add-i
     loop-less
     loop-again
     returns-5)
