@@ -18,7 +18,7 @@ use Rattle.wire.proofs.Words.{words-respOf, respOf-words}
 use Rattle.store.specs.Layout.{headerSize, slotSize}
 use Rattle.store.specs.Store.{Entry, Slot, Store, decode, encode, wellFormed, slotCount}
 use Rattle.store.specs.Time.{nowAt, live}
-use Rattle.store.proofs.Valid.{Valid}
+use Rattle.store.specs.Valid.{Valid}
 use Rattle.store.proofs.Encode.{decode-encode, encode-decode, encode-well, decode-valid}
 use Rattle.commands.specs.Refusal.{errorLine}
 use Rattle.commands.specs.Command.{Command, Pair}
@@ -27,14 +27,15 @@ use Rattle.commands.specs.Parse.{parse}
 use Rattle.commands.specs.Parse.Parsed.{accepted}
 use Rattle.commands.specs.Effect.{effect}
 use Rattle.commands.specs.Execute.{sweep, room, added, exec, execBytes}
+use Rattle.commands.specs.Claims.{Proper, names, lastOf, Written, Step, execAll}
 use Rattle.commands.specs.Examples.{given, expected, markedExamples}
 use Rattle.commands.proofs.Examples as commandExamples
 use Rattle.commands.proofs.Refused.{refused-reply, late-refusal, refused-keeps-live}
 use Rattle.commands.proofs.Sweep.{room-sweep}
-use Rattle.commands.proofs.Others.{names, others-kept}
-use Rattle.commands.proofs.AllOrNone.{lastOf, Written, all-set}
-use Rattle.commands.proofs.Clock.{Step, execAll, clock-is-now, clock-forward-all, dead-stays-dead}
-use Rattle.commands.proofs.Full.{Proper, full-exactly, full-accepted, done-exactly}
+use Rattle.commands.proofs.Others.{others-kept}
+use Rattle.commands.proofs.AllOrNone.{all-set}
+use Rattle.commands.proofs.Clock.{clock-is-now, clock-forward-all, dead-stays-dead}
+use Rattle.commands.proofs.Full.{full-exactly, full-accepted, done-exactly}
 use Rattle.commands.proofs.Keeps.{execBytes-well, execBytes-means, execBytes-length}
 use Rattle.feeder.specs.declared.Feeder.{Feeder}
 use Rattle.feeder.specs.Feed.{bufferLeast, feed}
