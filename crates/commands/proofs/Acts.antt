@@ -16,7 +16,7 @@ use Rattle.store.specs.declared.Found.the-variants as founds
 use Rattle.store.specs.Store.{Entry, Slot, slotCount, decode, wellFormed, holds}
 use Rattle.store.specs.Time.{live, liveSlot, deadSlot, emptySlot, lowestSlot, slotFor, put, without}
 use Rattle.store.specs.Promises.{Holds, Placeable, foundFor, withSlot}
-use Rattle.store.proofs.Valid.{Apart}
+use Rattle.store.specs.Valid.{Apart}
 use Rattle.store.proofs.Slots.{Lowest, lowest-some, lowest-nowhere, holds-none, holds-once}
 use Rattle.store.proofs.Put.{Place, slot-place, getD-set, put-nowhere}
 use Rattle.store.proofs.Without.{emptied, length-without, getD-without}

@@ -11,10 +11,9 @@ use Rattle.wire.specs.Bytes.{same}
 use Rattle.wire.specs.Words.{Word}
 use Rattle.wire.proofs.Lists.{or-neither, both-ways}
 use Rattle.wire.proofs.Bytes.{same-refl, same-true}
-use Rattle.store.specs.declared.Expiry.the-variants.{Never}
 use Rattle.store.specs.Store.{Entry, Slot, Store, holds}
-use Rattle.store.specs.Time.{nowAt, before, live, liveSlot, slotFor, entryOf, put}
-use Rattle.store.proofs.Valid.{Apart}
+use Rattle.store.specs.Time.{nowAt, before, live, liveSlot, slotFor, put}
+use Rattle.store.specs.Valid.{Apart}
 use Rattle.store.proofs.Slots.{holds-none, holds-named, entry-is}
 use Rattle.store.proofs.Put.{put-apart, put-here}
 use Rattle.commands.specs.Command.{Pair, keyOf, fieldsOf}
@@ -23,6 +22,7 @@ use Rattle.commands.specs.Parse.{parse}
 use Rattle.commands.specs.Parse.Parsed.{accepted}
 use Rattle.commands.specs.Effect.{Change, change, changeAll, nextExpiry, written, writesOf, effect}
 use Rattle.commands.specs.Execute.{Outcome, exec}
+use Rattle.commands.specs.Claims.{lastOf, Written}
 use Rattle.commands.proofs.Writes.{changes-apart}
 use Rattle.commands.proofs.Went.{Went, went, sweptBy}
 use Rattle.commands.proofs.Went.Went.{early, late, done}
@@ -31,18 +31,6 @@ use Rattle.commands.proofs.Sweep.{sweep-apart, sweep-alive}
 use Rattle.commands.proofs.Ready.{Ready, put-ready}
 use Rattle.commands.proofs.Others.{changes-keep, other-pairs}
 use Rattle.commands.proofs.Names.{named, named-flip, added-missing, pairEntry}
-
--- the value of the last pair of a field
-unfoldable pub lastOf : Word → List Pair → Option Word
-lastOf f [] = none
-lastOf f (p ∷ ps) = orElse (lastOf f ps) (cond (same (p .field) f) (some (p .value)) none) some
-
--- the entry of a key and a field has a value, and no expiry
-pub record Written (k f v : Word) (ss : List Slot) : Type 0 where
-  pub entry : Entry
-  pub here : entryOf k f ss ≡ some entry
-  pub value : entry .value ≡ v
-  pub expiry : entry .expiry ≡ Never
 
 -- a field that has no pair is not named
 unnamed : (f : Word) (ps : List Pair) → lastOf f ps ≡ none → named f (map (λ p. p .field) ps) ≡ false

@@ -19,7 +19,7 @@ use Rattle.store.specs.declared.Found.the-variants as founds
 use Rattle.store.specs.Store.{Entry, Slot, decode, wellFormed, holds}
 use Rattle.store.specs.Time.{keyExists, lowestSlot, entryOf}
 use Rattle.store.specs.Promises.{Held, entryAt}
-use Rattle.store.proofs.Valid.{Fits, FitsSlot}
+use Rattle.store.specs.Valid.{Fits, FitsSlot}
 use Rattle.store.proofs.Encode.{decode-valid}
 use Rattle.store.proofs.Slots.{entry-at-lowest, lowest-entry-none}
 use Rattle.store.proofs.Searches.{named-held, found-at, found-nothing}

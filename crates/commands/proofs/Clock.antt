@@ -13,6 +13,7 @@ use Rattle.commands.specs.Command.{Command}
 use Rattle.commands.specs.Parse.{parse}
 use Rattle.commands.specs.Parse.Parsed.{accepted}
 use Rattle.commands.specs.Execute.{Outcome, exec}
+use Rattle.commands.specs.Claims.{Step, execAll}
 use Rattle.commands.proofs.Went.{Went, went}
 use Rattle.commands.proofs.Went.Went.{early, late, done}
 
@@ -35,15 +36,6 @@ clock-forward clock command s = go (went clock command s)
     go (early n p) = omega arith
     go (late d n p l) = omega arith
     go (done d p l) = omega arith
-
--- a record of the stream
-pub record Step : Type 0 where
-  pub clock : ℕ
-  pub command : List ℕ
-
-unfoldable pub execAll : List Step → Store → Store
-execAll [] s = s
-execAll (r ∷ rs) s = execAll rs (exec (r .clock) (r .command) s .store)
 
 -- No list of records takes the clock back.
 pub clock-forward-all : (rs : List Step) (s : Store) → s .clock ≤ execAll rs s .clock

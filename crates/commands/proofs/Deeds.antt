@@ -28,7 +28,7 @@ use Rattle.store.specs.declared.Found.the-variants as founds
 use Rattle.store.specs.Store.{Entry, Slot, decode, instantOf, holds}
 use Rattle.store.specs.Time.{lowestSlot, slotFor, entryOf}
 use Rattle.store.specs.Promises.{Held, Holds, Placeable, foundFor, entryAt, entry, stamped, withSlot}
-use Rattle.store.proofs.Valid.{FitsSlot}
+use Rattle.store.specs.Valid.{FitsSlot}
 use Rattle.store.proofs.Slots.{lowest-some, lowest-nowhere, holds-none, holds-own, holds-only}
 use Rattle.store.proofs.Encode.{decode-valid}
 use Rattle.store.proofs.Changes.{held-entry}

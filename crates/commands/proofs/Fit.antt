@@ -16,7 +16,7 @@ use Rattle.wire.proofs.Reply.{bytes-header, length-header}
 use Rattle.store.specs.Layout.{mostSlots}
 use Rattle.store.specs.Store.{Entry, Slot, Store, holds}
 use Rattle.store.specs.Time.{nowAt, entryOf, ofKey, liveOfKey}
-use Rattle.store.proofs.Valid.{Fits, FitsSlot, AllFit, Valid}
+use Rattle.store.specs.Valid.{Fits, FitsSlot, AllFit, Valid}
 use Rattle.commands.specs.declared.Listing.{Listing}
 use Rattle.commands.specs.declared.Listing.the-variants.{Fields, Values, Both}
 use Rattle.commands.specs.Command.{Command, fieldsOf}

@@ -17,16 +17,10 @@ use Rattle.commands.specs.Parse.{parse}
 use Rattle.commands.specs.Parse.Parsed.{accepted}
 use Rattle.commands.specs.Effect.{Effect}
 use Rattle.commands.specs.Execute.{lateChecks, passes, added, room, exec}
+use Rattle.commands.specs.Claims.{Proper}
 use Rattle.commands.proofs.Checks.{lowest-none}
 use Rattle.commands.proofs.Went.{sweptBy, effectOn, lateRefusal, accepted-refusal}
 use Rattle.commands.proofs.Refused.{late-refusal}
-
--- none of 20 to 23 applies
-pub record Proper (e : Effect) : Type 0 where
-  pub fresh : e .stale ≡ false
-  pub integral : e .notInteger ≡ false
-  pub bounded : e .overflows ≡ false
-  pub numbered : any passes (e .changes) ≡ false
 
 -- the slots that are empty or dead, and the fields that the command would add
 abbrev pub roomIn : ℕ → Command → Store → ℕ

@@ -9,16 +9,17 @@ use Rattle.wire.specs.Bytes.{Bytes}
 use Rattle.store.specs.Layout.{timeLimit}
 use Rattle.store.specs.Store.{Store, decode, wellFormed}
 use Rattle.store.specs.Time.{nowAt}
-use Rattle.store.proofs.Valid.{AllFit, Apart, Valid}
+use Rattle.store.specs.Valid.{AllFit, Apart, Valid}
 use Rattle.store.proofs.Encode.{decode-valid, encode-well, decode-encode, encode-decode, length-encode}
 use Rattle.commands.specs.Command.{Command}
 use Rattle.commands.specs.Parse.{parse}
 use Rattle.commands.specs.Parse.Parsed.{accepted}
 use Rattle.commands.specs.Execute.{Outcome, exec, execBytes}
+use Rattle.commands.specs.Claims.{Proper}
 use Rattle.commands.proofs.Went.{Went, went, sweptBy, effectOn}
 use Rattle.commands.proofs.Went.Went.{early, late, done}
 use Rattle.commands.proofs.Sweep.{length-sweep, sweep-fits, sweep-apart}
-use Rattle.commands.proofs.Full.{Proper, proper}
+use Rattle.commands.proofs.Full.{proper}
 use Rattle.commands.proofs.Sound.{parse-sound, parse-clock}
 use Rattle.commands.proofs.Writes.{length-changes, changes-fit, changes-apart, effect-writable}
 

@@ -19,7 +19,7 @@ use Rattle.store.specs.Store.{Entry, Slot, decodeSlot, slotCount, decode, wellF
 use Rattle.store.specs.Time.{lowestSlot, emptySlot, without}
 use Rattle.store.specs.Promises.{Held, Holds, slotAt, foundFor, lowestFrom, entryAt, withSlot}
 use Rattle.store.proofs.At.{slot-means}
-use Rattle.store.proofs.Valid.{Apart}
+use Rattle.store.specs.Valid.{Apart}
 use Rattle.store.proofs.Slots.{Lowest, lowest-some, lowest-nowhere, holds-none, holds-once}
 use Rattle.store.proofs.Put.{getD-set}
 use Rattle.store.proofs.Without.{emptied, length-without, getD-without}

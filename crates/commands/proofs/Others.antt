@@ -22,6 +22,7 @@ use Rattle.commands.specs.Effect.Change.{write, remove}
 use Rattle.commands.specs.Parse.{parse}
 use Rattle.commands.specs.Parse.Parsed.{accepted}
 use Rattle.commands.specs.Execute.{Outcome, exec}
+use Rattle.commands.specs.Claims.{names}
 use Rattle.commands.proofs.Went.{Went, went, sweptBy, effectOn}
 use Rattle.commands.proofs.Went.Went.{early, late, done}
 use Rattle.commands.proofs.Sweep.{sweep-keeps-live}
@@ -49,9 +50,6 @@ changes-keep now (c ∷ cs) ss i e h l n =
     (or-right (concerns e c) (any (concerns e) cs) n)
 
 -- ---- what a command names
-
-abbrev pub names : Command → Entry → Bool
-names c e = same (e .key) (keyOf c) && any (same (e .field)) (fieldsOf c)
 
 -- an entry that is found has the key and the field that were looked for
 abbrev FoundNamed : Word → Word → Option Entry → Type 0

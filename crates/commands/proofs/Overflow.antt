@@ -16,7 +16,7 @@ use Rattle.wire.proofs.Bytes.{same-refl, same-true, same-sym}
 use Rattle.store.specs.Layout.{versionMost}
 use Rattle.store.specs.Store.{Entry, Slot, holds}
 use Rattle.store.specs.Time.{before, live, liveSlot, emptySlot, deadSlot, lowestSlot, slotFor, entryOf, put}
-use Rattle.store.proofs.Valid.{Apart}
+use Rattle.store.specs.Valid.{Apart}
 use Rattle.store.proofs.Slots.{Stands, entry-some, entry-none, entry-is, lowest-entry-none}
 use Rattle.store.proofs.Put.{put-apart, put-keeps, put-nowhere, put-entry, slot-place, getD-set}
 use Rattle.commands.specs.Command.{Pair}

@@ -21,7 +21,7 @@ use Rattle.store.specs.Store.{Entry, Slot, Store, decode, wellFormed, holds}
 use Rattle.store.specs.Time.{live, entryOf, lowestSlot, put}
 use Rattle.store.specs.declared.Expiry.the-variants.{Never}
 use Rattle.store.specs.Promises.{Holds, foundFor, entry}
-use Rattle.store.proofs.Valid.{FitsSlot}
+use Rattle.store.specs.Valid.{FitsSlot}
 use Rattle.store.proofs.Encode.{decode-valid}
 use Rattle.store.proofs.Searches.{any-lowest}
 use Rattle.commands.specs.declared.pairs.Survey.the-variants as surveys

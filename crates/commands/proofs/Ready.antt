@@ -16,7 +16,7 @@ use Rattle.wire.proofs.Lists.{or-late, both-ways, any-none, any-some}
 use Rattle.wire.proofs.Bytes.{same-refl}
 use Rattle.store.specs.Store.{Entry, Slot, holds, clash}
 use Rattle.store.specs.Time.{live, liveSlot, roomSlot, slotFor, put}
-use Rattle.store.proofs.Valid.{Apart}
+use Rattle.store.specs.Valid.{Apart}
 use Rattle.store.proofs.Slots.{holds-own, holds-named}
 use Rattle.store.proofs.Put.{Place, slot-place, getD-set, apart-set}
 use Rattle.commands.specs.Execute.{room}

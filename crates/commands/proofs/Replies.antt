@@ -22,7 +22,7 @@ use Rattle.store.specs.declared.Expiry.{Expiry}
 use Rattle.store.specs.declared.Expiry.the-variants.{Never, At}
 use Rattle.store.specs.Store.{Entry, Slot, instantOf}
 use Rattle.store.specs.Time.{keyExists}
-use Rattle.store.proofs.Valid.{Fits, FitsSlot}
+use Rattle.store.specs.Valid.{Fits, FitsSlot}
 use Rattle.commands.specs.declared.Question.{Question}
 use Rattle.commands.specs.declared.Question.the-variants.{Value, Length, Exists, Versioned, Version, Seconds, Milliseconds}
 use Rattle.commands.specs.Refusal.{Row, table, lineIn, errorLine}

@@ -11,7 +11,7 @@ use Rattle.wire.specs.Bytes.{same}
 use Rattle.wire.proofs.Bytes.{same-refl}
 use Rattle.store.specs.Store.{Entry, Slot}
 use Rattle.store.specs.Time.{live, liveSlot, roomSlot, entryOf, without}
-use Rattle.store.proofs.Valid.{AllFit, Apart}
+use Rattle.store.specs.Valid.{AllFit, Apart}
 use Rattle.store.proofs.Slots.{entry-some}
 use Rattle.store.proofs.Without.{emptied, length-without, getD-without, without-fits, without-apart, without-keeps}
 use Rattle.commands.specs.Command.{Command, keyOf, fieldsOf}

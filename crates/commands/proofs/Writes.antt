@@ -19,7 +19,7 @@ use Rattle.store.specs.declared.Expiry.{Expiry}
 use Rattle.store.specs.declared.Expiry.the-variants.{Never, At}
 use Rattle.store.specs.Store.{Entry, Slot, instantOf}
 use Rattle.store.specs.Time.{entryOf, put}
-use Rattle.store.proofs.Valid.{Fits, FitsSlot, AllFit, Apart}
+use Rattle.store.specs.Valid.{Fits, FitsSlot, AllFit, Apart}
 use Rattle.store.proofs.Slots.{entry-fits}
 use Rattle.store.proofs.Put.{length-put, put-fits, put-apart}
 use Rattle.store.proofs.Without.{length-without, without-fits, without-apart}

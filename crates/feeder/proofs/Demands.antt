@@ -18,7 +18,7 @@ use Rattle.wire.proofs.Words.{words-respOf, respOf-words}
 use Rattle.store.specs.Layout.{headerSize, slotSize}
 use Rattle.store.specs.Store.{Entry, Slot, Store, decode, encode, wellFormed, slotCount}
 use Rattle.store.specs.Time.{nowAt, live}
-use Rattle.store.proofs.Valid.{Valid}
+use Rattle.store.specs.Valid.{Valid}
 use Rattle.store.proofs.Encode.{decode-encode, encode-decode, encode-well, decode-valid}
 use Rattle.commands.specs.Refusal.{errorLine}
 use Rattle.commands.specs.Command.{Command, Pair}
@@ -27,15 +27,16 @@ use Rattle.commands.specs.Parse.{parse}
 use Rattle.commands.specs.Parse.Parsed.{accepted}
 use Rattle.commands.specs.Effect.{effect}
 use Rattle.commands.specs.Execute.{sweep, room, added, exec, execBytes}
+use Rattle.commands.specs.Claims.{Proper, names, lastOf, Written, Step, execAll}
 use Rattle.commands.specs.Examples.{given, expected, markedExamples}
 use Rattle.commands.proofs.Examples as commandExamples
 use Rattle.commands.proofs.Refused.{refused-reply, late-refusal, refused-keeps-live}
 use Rattle.commands.proofs.Sweep.{room-sweep}
-use Rattle.commands.proofs.Others.{names, others-kept}
-use Rattle.commands.proofs.AllOrNone.{lastOf, Written, all-set}
-use Rattle.commands.proofs.Clock.{Step, execAll, clock-is-now, clock-forward-all, dead-stays-dead}
-use Rattle.commands.proofs.Full.{Proper, full-exactly}
-use Rattle.commands.proofs.Keeps.{execBytes-well}
+use Rattle.commands.proofs.Others.{others-kept}
+use Rattle.commands.proofs.AllOrNone.{all-set}
+use Rattle.commands.proofs.Clock.{clock-is-now, clock-forward-all, dead-stays-dead}
+use Rattle.commands.proofs.Full.{full-exactly, full-accepted, done-exactly}
+use Rattle.commands.proofs.Keeps.{execBytes-well, execBytes-means, execBytes-length}
 use Rattle.feeder.specs.declared.Feeder.{Feeder}
 use Rattle.feeder.specs.Feed.{bufferLeast, feed}
 use Rattle.feeder.specs.Calls.{Call, AllBytes, Total, Ran, begin, callAll, answerTo, uncut, Untouched, Answered, offeringAll}
@@ -86,12 +87,33 @@ pub stays-well-formed : (clock : ℕ) (command b : List ℕ) → Bytes command �
     → wellFormed (execBytes clock command b .store) ≡ true
 stays-well-formed = execBytes-well
 
--- Store full is said exactly if none of 20 to 23 applies and fewer slots are empty or dead than the command would add fields.
+-- The bytes that a record leaves in a well-formed store hold what the definition of the record gives, and are as many as before.
+pub bytes-mean : (clock : ℕ) (command b : List ℕ) → Bytes command → wellFormed b ≡ true
+    → decode (execBytes clock command b .store) ≡ exec clock command (decode b) .store
+bytes-mean = execBytes-means
+
+pub bytes-as-many : (clock : ℕ) (command b : List ℕ) → Bytes command → wellFormed b ≡ true
+    → length (execBytes clock command b .store) ≡ length b
+bytes-as-many = execBytes-length
+
+-- Store full is said only of a command that passes checks 10 to 18.
+pub full-only-if : (clock : ℕ) (command : List ℕ) (s : Store) → exec clock command s .refusal ≡ some 24
+    → (c : Command) × (parse (nowAt clock s) clock command ≡ accepted c)
+full-only-if = full-accepted
+
+-- Of such a command it is said exactly if none of 20 to 23 applies and fewer slots are empty or dead than the command would add fields.
 pub full-exactly-if : (clock : ℕ) (command : List ℕ) (s : Store) (c : Command) → parse (nowAt clock s) clock command ≡ accepted c
     → let swept = sweep (nowAt clock s) c (s .slots) in
     let e = effect (nowAt clock s) c swept in
     (exec clock command s .refusal ≡ some 24) ↔ (Proper e × (room (nowAt clock s) swept < added (e .changes) swept))
 full-exactly-if = full-exactly
+
+-- Such a command is done exactly if none of 20 to 23 applies and at least as many slots are empty or dead as it would add fields.
+pub done-exactly-if : (clock : ℕ) (command : List ℕ) (s : Store) (c : Command) → parse (nowAt clock s) clock command ≡ accepted c
+    → let swept = sweep (nowAt clock s) c (s .slots) in
+    let e = effect (nowAt clock s) c swept in
+    (exec clock command s .refusal ≡ none) ↔ (Proper e × (added (e .changes) swept ≤ room (nowAt clock s) swept))
+done-exactly-if = done-exactly
 
 -- The slots that are empty or dead after the named dead entries are gone are as many as before.
 pub room-as-before : (now : ℕ) (c : Command) (ss : List Slot) → room now (sweep now c ss) ≡ room now ss

@@ -17,7 +17,7 @@ use Rattle.store.specs.Layout.{headerSize, slotSize, clockSize, reserved
 use Rattle.store.specs.Store.{Entry, Slot, Store, slotCount, decode, encodeEntry, encodeSlot, encode, clash, instantOf, wellFormed}
 use Rattle.store.specs.Time.{emptySlot}
 use Rattle.store.specs.Promises.{Held, Holds, Placeable, entryAt, withClock, withSlot, stamped, stampedBytes}
-use Rattle.store.proofs.Valid.{Fits, FitsSlot, AllFit, Valid}
+use Rattle.store.specs.Valid.{Fits, FitsSlot, AllFit, Valid}
 use Rattle.store.proofs.Put.{getD-set, apart-set}
 use Rattle.store.proofs.SlotBytes.{length-encodeSlot}
 use Rattle.store.proofs.At.{header-inside}

@@ -9,7 +9,7 @@ use borrow.Author.Tests.{not-true}
 use Rattle.wire.specs.Lists.{any}
 use Rattle.wire.proofs.Lists.{and-left, and-right, any-at, any-none}
 use Rattle.store.specs.Store.{Slot, clash, distinct}
-use Rattle.store.proofs.Valid.{Apart}
+use Rattle.store.specs.Valid.{Apart}
 use Rattle.store.proofs.Slots.{each-slot, none-clash, clash-none}
 
 -- the test passes: no two slots have the same key and field

@@ -13,7 +13,7 @@ use Rattle.wire.proofs.Lists.{and-both, and-left, and-right, every-at}
 use Rattle.wire.proofs.Bytes.{bytes-append, bytes-take, bytes-drop, bytes-toLE, bytes-zeros, fromLE-toLE, length-toLE, zero-replicate}
 use Rattle.store.specs.Layout.{headerSize, slotSize, mostSlots, clockSize, reservedSize, timeLimit}
 use Rattle.store.specs.Store.{Slot, Store, decodeSlot, slotsIn, slotCount, slotBytes, clockOf, decode, encodeSlot, encode, slotWell, distinct, wellFormed}
-use Rattle.store.proofs.Valid.{AllFit, Valid}
+use Rattle.store.specs.Valid.{AllFit, Valid}
 use Rattle.store.proofs.Pieces.{length-part, number-back, zeros-are}
 use Rattle.store.proofs.SlotBytes.{length-encodeSlot, decode-encodeSlot, well-encodeSlot, bytes-encodeSlot}
 use Rattle.store.proofs.WellSlot.{encode-decodeSlot, decode-fitsSlot}

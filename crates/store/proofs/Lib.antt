@@ -1,6 +1,5 @@
 -- The laws of the store, for the crates above.
 pub mod Computing
-pub mod Valid
 pub mod Slots
 pub mod Put
 pub mod Without

@@ -20,7 +20,7 @@ use Rattle.store.specs.Layout.{stateAt, emptyState, keyMost, fieldMost}
 use Rattle.store.specs.Store.{Entry, Slot, decodeEntry, decodeSlot, encodeEntry, encodeSlot, holds, clash, distinct}
 use Rattle.store.specs.Time.{emptySlot}
 use Rattle.store.specs.Promises.{SlotBytes, HeldBytes, slotAt, slotsOf, SlotsWell, keyWord, fieldWord, halvesSum, spreadOf, nameOf, marksSize, hasBit, withBit, firstBit, secondBit, seen, withMark, withSlotMark, HasMarks, Marked, Turn, Turned}
-use Rattle.store.proofs.Valid.{Fits, FitsSlot}
+use Rattle.store.specs.Valid.{Fits, FitsSlot}
 use Rattle.store.proofs.Slots.{Named, holds-named, none-clash, clash-none}
 use Rattle.store.proofs.SlotBytes.{key-bytes, field-bytes}
 use Rattle.store.proofs.WellSlot.{encode-decodeSlot, decode-fitsSlot}

@@ -9,7 +9,7 @@ use lib.Seq.{drop-drop}
 use Rattle.wire.specs.Bytes.{part}
 use Rattle.store.specs.Layout.{headerSize, slotSize}
 use Rattle.store.specs.Store.{Store, decodeSlot, slotsIn, slotCount, slotBytes, decode, encodeSlot, encode}
-use Rattle.store.proofs.Valid.{Valid}
+use Rattle.store.specs.Valid.{Valid}
 use Rattle.store.proofs.Encode.{count-encode, slots-encode}
 
 -- the bytes of slot i of the first n stand at 128 * i

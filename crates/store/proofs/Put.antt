@@ -13,7 +13,7 @@ use Rattle.wire.specs.Lists.{orElse}
 use Rattle.wire.proofs.Lists.{both-ways}
 use Rattle.store.specs.Store.{Entry, Slot, holds, clash}
 use Rattle.store.specs.Time.{live, liveSlot, deadSlot, emptySlot, lowestSlot, entryOf, slotFor, put}
-use Rattle.store.proofs.Valid.{Fits, FitsSlot, AllFit, Apart}
+use Rattle.store.specs.Valid.{Fits, FitsSlot, AllFit, Apart}
 use Rattle.store.proofs.Slots.{Lowest, lowest-some, lowest-nowhere, holds-none, holds-once, clash-sym, entry-is}
 
 -- ---- a slot set

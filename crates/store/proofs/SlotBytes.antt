@@ -16,7 +16,7 @@ use Rattle.store.specs.declared.Expiry.{Expiry}
 use Rattle.store.specs.declared.Expiry.the-variants.{Never, At}
 use Rattle.store.specs.Layout.{slotSize, stateAt, keyLengthAt, fieldLengthAt, valueLengthAt, emptyState, expiringState, versionAt, versionSize, expiryAt, expirySize, keyAt, keyMost, fieldAt, fieldMost, valueAt, valueMost, timeLimit}
 use Rattle.store.specs.Store.{Entry, Slot, decodeExpiry, decodeEntry, decodeSlot, stateOf, instantOf, encodeEntry, encodeSlot, zeroBeyond, heldWell, slotWell}
-use Rattle.store.proofs.Valid.{Fits, FitsSlot}
+use Rattle.store.specs.Valid.{Fits, FitsSlot}
 use Rattle.store.proofs.Pieces.{total, cut, cut-flatten, length-flatten, take-part}
 
 -- ---- the pieces of a slot

@@ -14,7 +14,7 @@ use Rattle.wire.proofs.Lists.{and-left, and-right, both-ways}
 use Rattle.wire.proofs.Bytes.{same-true, same-refl, same-sym}
 use Rattle.store.specs.Store.{Entry, Slot, holds, clash}
 use Rattle.store.specs.Time.{lowestSlot, entryOf}
-use Rattle.store.proofs.Valid.{Fits, FitsSlot, AllFit, Apart}
+use Rattle.store.specs.Valid.{Fits, FitsSlot, AllFit, Apart}
 
 -- slot i is the lowest of which p holds
 pub record Lowest (p : Slot → Bool) (ss : List Slot) (i : ℕ) : Type 0 where

@@ -15,7 +15,7 @@ use Rattle.wire.proofs.Bytes.{bytes-part, padded-is}
 use Rattle.store.specs.declared.Expiry.the-variants.{Never, At}
 use Rattle.store.specs.Layout.{slotSize, stateAt, keyLengthAt, fieldLengthAt, valueLengthAt, emptyState, expiringState, versionAt, versionSize, expiryAt, expirySize, keyAt, keyMost, fieldAt, fieldMost, valueAt, valueMost, timeLimit}
 use Rattle.store.specs.Store.{Slot, decodeExpiry, decodeEntry, decodeSlot, stateOf, instantOf, encodeEntry, encodeSlot, zeroBeyond, heldWell, slotWell}
-use Rattle.store.proofs.Valid.{Fits, FitsSlot}
+use Rattle.store.specs.Valid.{Fits, FitsSlot}
 use Rattle.store.proofs.Pieces.{total, cut, flatten-cut, length-part, take-part, number-back, number-below, zeros-are}
 use Rattle.store.proofs.SlotBytes.{sizes, pieces, encode-pieces}
 

@@ -8,7 +8,7 @@ use lib.ListN.{length, getD, length-map, List·getD-map}
 use Rattle.wire.specs.Lists.{orElse}
 use Rattle.store.specs.Store.{Entry, Slot, clash}
 use Rattle.store.specs.Time.{without}
-use Rattle.store.proofs.Valid.{FitsSlot, AllFit, Apart}
+use Rattle.store.specs.Valid.{FitsSlot, AllFit, Apart}
 use Rattle.store.proofs.Slots.{none-clash, clash-none}
 
 -- a slot emptied if p holds of its entry

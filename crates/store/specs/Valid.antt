@@ -32,6 +32,7 @@ AllFit ss = (i : ℕ) → FitsSlot (getD ss i none)
 abbrev pub Apart : List Slot → Type 0
 Apart ss = (i j : ℕ) → i < j → clash (getD ss i none) (getD ss j none) ≡ false
 
+-- a store that bytes can hold
 pub record Valid (s : Store) : Type 0 where
   pub clock : s .clock < timeLimit
   pub least : 1 ≤ length (s .slots)

@@ -1,0 +1,48 @@
+-- What the claims about commands speak of.
+use mathlib.Core.Path.{_≡_}
+use mathlib.Core.Bool.{Bool, false, cond, _&&_}
+use mathlib.Core.List.{List, [], _∷_}
+use mathlib.Core.Option.{Option, none, some}
+use Prim.Native.Nat.{ℕ}
+use Rattle.wire.specs.Lists.{any, orElse}
+use Rattle.wire.specs.Bytes.{same}
+use Rattle.wire.specs.Words.{Word}
+use Rattle.store.specs.declared.Expiry.the-variants.{Never}
+use Rattle.store.specs.Store.{Entry, Slot, Store}
+use Rattle.store.specs.Time.{entryOf}
+use Rattle.commands.specs.Command.{Pair, Command, keyOf, fieldsOf}
+use Rattle.commands.specs.Effect.{Effect}
+use Rattle.commands.specs.Execute.{passes, exec}
+
+-- none of 20 to 23 applies
+pub record Proper (e : Effect) : Type 0 where
+  pub fresh : e .stale ≡ false
+  pub integral : e .notInteger ≡ false
+  pub bounded : e .overflows ≡ false
+  pub numbered : any passes (e .changes) ≡ false
+
+-- whether a command names an entry, by its key and its field
+abbrev pub names : Command → Entry → Bool
+names c e = same (e .key) (keyOf c) && any (same (e .field)) (fieldsOf c)
+
+-- the value of the last pair of a field
+unfoldable pub lastOf : Word → List Pair → Option Word
+lastOf f [] = none
+lastOf f (p ∷ ps) = orElse (lastOf f ps) (cond (same (p .field) f) (some (p .value)) none) some
+
+-- the entry of a key and a field has a value, and no expiry
+pub record Written (k f v : Word) (ss : List Slot) : Type 0 where
+  pub entry : Entry
+  pub here : entryOf k f ss ≡ some entry
+  pub value : entry .value ≡ v
+  pub expiry : entry .expiry ≡ Never
+
+-- a record of the stream
+pub record Step : Type 0 where
+  pub clock : ℕ
+  pub command : List ℕ
+
+-- the store after records, one after another
+unfoldable pub execAll : List Step → Store → Store
+execAll [] s = s
+execAll (r ∷ rs) s = execAll rs (exec (r .clock) (r .command) s .store)
