@@ -15,10 +15,9 @@ use Rattle.wire.specs.Bytes.{same}
 use Rattle.wire.specs.Words.{Word}
 use Rattle.wire.specs.Reply.{bulk}
 use Rattle.store.specs.declared.Found.the-variants as founds
-use Rattle.store.specs.Store.{Entry, Slot, decodeSlot, slotCount, decode, wellFormed, holds}
-use Rattle.store.specs.Time.{lowestSlot, emptySlot, without}
-use Rattle.store.specs.Promises.{Held, Holds, slotAt, foundFor, lowestFrom, entryAt, withSlot}
-use Rattle.store.proofs.At.{slot-means}
+use Rattle.store.specs.Store.{Entry, Slot, decode, wellFormed, holds}
+use Rattle.store.specs.Time.{lowestSlot, without}
+use Rattle.store.specs.Promises.{Held, Holds, foundFor, lowestFrom, entryAt, withSlot}
 use Rattle.store.specs.Valid.{Apart}
 use Rattle.store.proofs.Slots.{Lowest, lowest-some, lowest-nowhere, holds-none, holds-once}
 use Rattle.store.proofs.Put.{getD-set}
@@ -83,11 +82,6 @@ module _ (p : Slot → Bool) (ss : List Slot) (from : ℕ) where
       go : (o : Option ℕ) → lowestSlot p (drop from ss) ≡ o → Option·map (λ j. from + j) o ≡ none → keep p (drop from ss) ≡ []
       go none q e = keep-nothing p (drop from ss) q
       go (some j) q e = cc
-
--- a slot whose bytes are not an empty one's holds an entry
-pub slot-held : (b : List ℕ) (i : ℕ) {t : List ℕ} {r : Bool} → wellFormed b ≡ true → i < slotCount b → t ≡ slotAt b i → r ≡ emptySlot (decodeSlot t) → r ≡ false
-    → Held b i
-slot-held b i h l e a f = record { well = h; inside = l; held = ap emptySlot (sym (slot-means b i l e)) ∙ sym a ∙ f }
 
 -- ---- listings
 
