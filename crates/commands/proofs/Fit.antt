@@ -13,7 +13,7 @@ use Rattle.wire.specs.Reply.{header, line, number, bulk, array}
 use Rattle.wire.proofs.Bytes.{bytes-append}
 use Rattle.wire.proofs.Lists.{length-keep}
 use Rattle.wire.proofs.Reply.{bytes-header, length-header}
-use Rattle.store.specs.Layout.{mostSlots}
+use Rattle.store.specs.Layout.{slotsMost}
 use Rattle.store.specs.Store.{Entry, Slot, Store, holds}
 use Rattle.store.specs.Time.{nowAt, entryOf, ofKey, liveOfKey}
 use Rattle.store.specs.Valid.{Fits, FitsSlot, AllFit, Valid}
@@ -82,7 +82,7 @@ listed-slots l p (s ∷ ss) h = go (p s) (listed-slot l s (h 0)) (listed-slots l
         }
     go false a b = record { count = omega (arith, b .count); sum = loosen (110 * suc (length ss)) (omega arith) (b .sum) }
 
-count-short : (p : Slot → Bool) (ss : List Slot) → length ss ≤ mostSlots → Short 6 (number (length (keep p ss)))
+count-short : (p : Slot → Bool) (ss : List Slot) → length ss ≤ slotsMost → Short 6 (number (length (keep p ss)))
 count-short p ss n = few-short (length (keep p ss)) (omega (arith, length-keep p ss))
 
 ok-short : Short 5 (line "+OK")
@@ -109,7 +109,7 @@ list-short xs h =
     (h .sum)
 
 -- An accepted command that is not refused replies in at most 55,007 bytes.
-pub effect-short : (now : ℕ) (c : Command) (ss : List Slot) → AllFit ss → length ss ≤ mostSlots → length (fieldsOf c) ≤ 62
+pub effect-short : (now : ℕ) (c : Command) (ss : List Slot) → AllFit ss → length ss ≤ slotsMost → length (fieldsOf c) ≤ 62
     → effect now c ss .overflows ≡ false → Short 55007 (effect now c ss .reply)
 unfolding effect fieldsOf
 effect-short now (onField k f d) ss h n few o = loosen 55007 (omega arith) (deed-short now ss k f d (entryOf k f ss) (found-fits k f ss h) o)

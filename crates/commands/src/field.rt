@@ -16,7 +16,7 @@ use crate::versions::setter_version;
 use store::Expiry;
 use store::Found;
 use store::change;
-use store::layout::VERSION_LARGEST;
+use store::layout::VERSION_MOST;
 use store::read;
 use wire::integers::Integer;
 use wire::integers::Signed;
@@ -88,7 +88,7 @@ fn write(
 {
     let held = held_version(bytes, found);
     let version = next_version(versioning, held);
-    if VERSION_LARGEST < version {
+    if VERSION_MOST < version {
         return Written::Refused(23);
     }
     let slot = slot_for(bytes, found, time);
@@ -237,7 +237,7 @@ fn stamp(bytes: &mut [u8], i: usize, version: u64, expiry: Expiry, out: &mut [u8
     requires { ⌜ (Held (now bytes) i) × (instantOf expiry ≤ timeLimit) × (146 ≤ length (now out)) ⌝ }
     ensures { λ r. ⌜ ((t : ℕ) → Does (settle t (writing false (stamped version expiry (entryAt (decode (now (bytes .entry)) .slots) i)) (number 1)) (decode (now (bytes .entry)))) (now (bytes .exit)) (now (out .entry)) (now (out .exit)) r) ⌝ }
 {
-    if VERSION_LARGEST < version {
+    if VERSION_MOST < version {
         return put_error(23, out);
     }
     change::restamp(bytes, i, version, expiry);

@@ -5,8 +5,8 @@ use crate::Sum;
 use crate::Versioning;
 use crate::options::Given;
 use crate::words::word;
-use store::layout::LIMIT;
-use store::layout::VERSION_LARGEST;
+use store::layout::TIME_LIMIT;
+use store::layout::VERSION_MOST;
 use wire::integers::Integer;
 use wire::integers::Natural;
 use wire::integers::Signed;
@@ -85,7 +85,7 @@ pub fn lifetime(
     if 4 <= option {
         return Timed::Value(Lifetime::Keep);
     }
-    let read = read_natural(word(command, starts, sizes, count, operand), LIMIT);
+    let read = read_natural(word(command, starts, sizes, count, operand), TIME_LIMIT);
     let Natural::Value(n) = read else {
         return Timed::Refused;
     };
@@ -107,10 +107,7 @@ pub fn versioning(
     if 12 <= option {
         return Versioned::Value(Versioning::Next);
     }
-    let read = read_natural(
-        word(command, starts, sizes, count, operand),
-        VERSION_LARGEST,
-    );
+    let read = read_natural(word(command, starts, sizes, count, operand), VERSION_MOST);
     let Natural::Value(n) = read else {
         return Versioned::Refused;
     };
@@ -138,7 +135,7 @@ fn is_beyond(lifetime: Lifetime) -> bool
     match lifetime {
         Lifetime::Clear => false,
         Lifetime::Keep => false,
-        Lifetime::Until(t) => LIMIT < t,
+        Lifetime::Until(t) => TIME_LIMIT < t,
     }
 }
 

@@ -7,7 +7,7 @@ use crate::words::word;
 use store::Expiry;
 use store::Found;
 use store::find;
-use store::layout::VERSION_LARGEST;
+use store::layout::VERSION_MOST;
 use wire::replies::put_line;
 use wire::slices::equal;
 ghost use mathlib.Core.Path.{_≡_};
@@ -99,7 +99,7 @@ fn survey_pairs(
         let found = find::named(bytes, key, word(command, starts, sizes, count, i));
         let again = repeats(command, starts, sizes, count, i);
         let held = held_version(bytes, found);
-        if VERSION_LARGEST < held + (again + 1) {
+        if VERSION_MOST < held + (again + 1) {
             return Survey::Overflow;
         }
         n += new_field(found, again);

@@ -13,8 +13,8 @@ use crate::operands::Versioned;
 use crate::options::scan;
 use crate::table::command_named;
 use crate::words::word;
-use store::layout::LIMIT;
-use store::layout::VERSION_LARGEST;
+use store::layout::TIME_LIMIT;
+use store::layout::VERSION_MOST;
 use wire::integers::Natural;
 use wire::integers::read_natural;
 use wire::names::Row;
@@ -90,7 +90,7 @@ fn parse_expire(
     if !given.clean {
         return Parsed::Refused(15);
     }
-    let read = read_natural(word(command, starts, sizes, count, 3), LIMIT);
+    let read = read_natural(word(command, starts, sizes, count, 3), TIME_LIMIT);
     let Natural::Value(n) = read else {
         return Parsed::Refused(16);
     };
@@ -109,7 +109,7 @@ fn parse_expire(
         return Parsed::Refused(17);
     }
     let instant = operands::instant(unit, n, time);
-    if LIMIT < instant {
+    if TIME_LIMIT < instant {
         return Parsed::Refused(18);
     }
     Parsed::OnField(FieldDeed::Expire(instant, versioning))
@@ -120,7 +120,7 @@ fn parse_renumber(command: &[u8], starts: &[usize], sizes: &[usize], count: usiz
     requires { ⌜ Split (now command) (now starts) (now sizes) count ⌝ }
     ensures { λ r. ⌜ ((time : ℕ) → meant (wordsIn count (now (command .entry)) (now (starts .entry)) (now (sizes .entry))) r ≡ parseRest time 8 (wordsIn count (now (command .entry)) (now (starts .entry)) (now (sizes .entry)))) ⌝ }
 {
-    let read = read_natural(word(command, starts, sizes, count, 3), VERSION_LARGEST);
+    let read = read_natural(word(command, starts, sizes, count, 3), VERSION_MOST);
     let Natural::Value(n) = read else {
         return Parsed::Refused(16);
     };
@@ -249,7 +249,7 @@ pub fn parse(
     if count == 0 {
         return Parsed::Refused(10);
     }
-    if LIMIT <= clock {
+    if TIME_LIMIT <= clock {
         return Parsed::Refused(11);
     }
     let found = command_named(word(command, starts, sizes, count, 0));

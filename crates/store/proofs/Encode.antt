@@ -11,7 +11,7 @@ use Rattle.wire.specs.Lists.{every, all}
 use Rattle.wire.specs.Bytes.{Bytes, fromLE, toLE, part, allZero}
 use Rattle.wire.proofs.Lists.{and-both, and-left, and-right, every-at}
 use Rattle.wire.proofs.Bytes.{bytes-append, bytes-take, bytes-drop, bytes-toLE, bytes-zeros, fromLE-toLE, length-toLE, zero-replicate}
-use Rattle.store.specs.Layout.{headerSize, slotSize, mostSlots, clockSize, reservedSize, timeLimit}
+use Rattle.store.specs.Layout.{headerSize, slotSize, slotsMost, clockSize, reservedSize, timeLimit}
 use Rattle.store.specs.Store.{Slot, Store, decodeSlot, slotsIn, slotCount, slotBytes, clockOf, decode, encodeSlot, encode, slotWell, distinct, wellFormed}
 use Rattle.store.specs.Valid.{AllFit, Valid}
 use Rattle.store.proofs.Pieces.{length-part, number-back, zeros-are}
@@ -119,7 +119,7 @@ module _ (s : Store) (v : Valid s) where
       (and-both bytes-encode
       (and-both (eq-eqb (length (encode s)) (headerSize + slotSize * length (s .slots)) length-encode)
       (and-both (le-leb 1 (length (s .slots)) (v .least))
-      (and-both (le-leb (length (s .slots)) mostSlots (v .most))
+      (and-both (le-leb (length (s .slots)) slotsMost (v .most))
       (and-both (lt-ltb (s .clock) timeLimit (v .clock))
       (and-both reserved-encode
       (and-both (well-slots (s .slots) (v .fits))
@@ -179,7 +179,7 @@ pub record WellFormed (b : List ℕ) : Type 0 where
   pub bytes : Bytes b
   pub size : length b ≡ headerSize + slotSize * slotCount b
   pub least : 1 ≤ slotCount b
-  pub most : slotCount b ≤ mostSlots
+  pub most : slotCount b ≤ slotsMost
   pub clock : clockOf b < timeLimit
   pub reserved : allZero (part clockSize reservedSize b) ≡ true
   pub slots : all slotWell (slotBytes b) ≡ true
@@ -193,7 +193,7 @@ well-formed b h =
       bytes = every-at _ h 0;
       size = eqb-true (length b) (headerSize + slotSize * slotCount b) (every-at _ h 1);
       least = leb-true 1 (slotCount b) (every-at _ h 2);
-      most = leb-true (slotCount b) mostSlots (every-at _ h 3);
+      most = leb-true (slotCount b) slotsMost (every-at _ h 3);
       clock = ltb-true (clockOf b) timeLimit (every-at _ h 4);
       reserved = every-at _ h 5;
       slots = every-at _ h 6;

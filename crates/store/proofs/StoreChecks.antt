@@ -15,7 +15,7 @@ use Rattle.wire.specs.Lists.{every, all, any}
 use Rattle.wire.specs.Bytes.{Bytes, part, allZero}
 use Rattle.wire.proofs.Lists.{all-at, every-at}
 use Rattle.wire.proofs.Bytes.{bytes-part}
-use Rattle.store.specs.Layout.{headerSize, slotSize, mostSlots, clockSize, reservedSize, timeLimit}
+use Rattle.store.specs.Layout.{headerSize, slotSize, slotsMost, clockSize, reservedSize, timeLimit}
 use Rattle.store.specs.Store.{decodeSlot, slotsIn, slotCount, slotBytes, clockOf, decode, slotWell, holds, distinct, wellFormed}
 use Rattle.store.specs.Promises.{SlotBytes, slotAt, sizeTests, countFor, headerWell, slotsOf, SlotsWell}
 use Rattle.store.proofs.Pieces.{length-part}
@@ -132,17 +132,17 @@ module _ (size : ℕ) where
   unfolding sizeTests
   count-short h = count-failed (every-fails _ 0 (ne-eqb size (headerSize + slotSize * slots) (λ e. omega arith)))
 
-  pub count-many : mostSlots < slots → 0 ≡ countFor size
+  pub count-many : slotsMost < slots → 0 ≡ countFor size
   unfolding sizeTests
-  count-many h = count-failed (every-fails _ 2 (lt-leb slots mostSlots h))
+  count-many h = count-failed (every-fails _ 2 (lt-leb slots slotsMost h))
 
   pub count-uneven : (headerSize + slotSize * slots ≡ size → ⊥) → 0 ≡ countFor size
   unfolding sizeTests
   count-uneven h = count-failed (every-fails _ 0 (ne-eqb size (headerSize + slotSize * slots) (λ e. h (sym e))))
 
-  pub count-right : slots ≤ mostSlots → headerSize + slotSize * slots ≡ size → slots ≡ countFor size
+  pub count-right : slots ≤ slotsMost → headerSize + slotSize * slots ≡ size → slots ≡ countFor size
   unfolding countFor sizeTests every
-  count-right m e = rw (eq-eqb size (headerSize + slotSize * slots) (sym e), le-leb slots mostSlots m) (go (leb 1 slots) refl)
+  count-right m e = rw (eq-eqb size (headerSize + slotSize * slots) (sym e), le-leb slots slotsMost m) (go (leb 1 slots) refl)
     where
       go : (x : Bool) → leb 1 slots ≡ x → slots ≡ cond (x && (true && true)) slots 0
       go true q = refl

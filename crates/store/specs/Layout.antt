@@ -8,8 +8,8 @@ headerSize = 16
 abbrev pub slotSize : ℕ
 slotSize = 128
 
-abbrev pub mostSlots : ℕ
-mostSlots = 500
+abbrev pub slotsMost : ℕ
+slotsMost = 500
 
 abbrev pub clockSize : ℕ
 clockSize = 8

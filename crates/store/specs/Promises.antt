@@ -13,8 +13,9 @@ use Rattle.store.specs.declared.Expiry.{Expiry}
 use Rattle.store.specs.declared.Expiry.the-variants.{Never, At}
 use Rattle.store.specs.declared.Found.{Found}
 use Rattle.store.specs.declared.Found.the-variants as founds
-use Rattle.store.specs.Layout.{headerSize, slotSize, mostSlots, clockSize, reservedSize, stateAt, keyLengthAt, fieldLengthAt, valueLengthAt, expiryAt, expirySize, keyAt, keyMost, fieldAt, fieldMost, valueAt, valueMost, emptyState, expiringState, versionMost, timeLimit, versionSize}
-use Rattle.store.specs.Store.{Entry, Slot, Store, decodeSlot, slotsIn, clockOf, decode, slotCount, zeroBeyond, slotWell, wellFormed, instantOf, holds, clash, stateOf}
+use Rattle.store.specs.Layout.{headerSize, slotSize, stateAt, keyLengthAt, keyAt, keyMost, fieldAt, fieldMost, emptyState, versionSize, expirySize}
+use Rattle.store.specs.Store.{Entry, entry, withVersion, withExpiry, Slot, Store, decodeSlot, slotsIn, decode, slotsWithin, slotCount, slotWell, sizeTests, wellFormed, instantOf, holds, clash, stateOf}
+use Rattle.store.specs.Valid.{Short, Fits}
 use Rattle.store.specs.Time.{lowestSlot, emptySlot}
 
 -- ---- one slot's bytes
@@ -29,48 +30,15 @@ pub record HeldBytes (t : List ℕ) : Type 0 where
   pub slot : SlotBytes t
   pub held : getD t stateAt 0 ≡ emptyState → ⊥
 
--- the tests of a held slot, in three parts
-unfoldable pub lengthTests : List ℕ → List Bool
-lengthTests t =
-    leb (getD t stateAt 0) expiringState
-    ∷ leb (getD t keyLengthAt 0) keyMost
-    ∷ leb (getD t fieldLengthAt 0) fieldMost
-    ∷ leb (getD t valueLengthAt 0) valueMost
-    ∷ []
-
-unfoldable pub expiryTests : List ℕ → List Bool
-expiryTests t =
-    (eqb (getD t stateAt 0) expiringState || allZero (part expiryAt expirySize t))
-    ∷ leb (fromLE (part expiryAt expirySize t)) timeLimit
-    ∷ []
-
-unfoldable pub placeTests : List ℕ → List Bool
-placeTests t =
-    zeroBeyond keyAt keyMost (getD t keyLengthAt 0) t
-    ∷ zeroBeyond fieldAt fieldMost (getD t fieldLengthAt 0) t
-    ∷ zeroBeyond valueAt valueMost (getD t valueLengthAt 0) t
-    ∷ []
-
 -- a number of a field's first 16 bytes
 unfoldable pub fingerprintOf : List ℕ → ℕ
 fingerprintOf f = bitXor (fromLE (part 0 8 f)) (fromLE (part 8 8 f))
 
 -- ---- which bytes are a store
 
--- the tests of a size
-unfoldable pub sizeTests : ℕ → List Bool
-sizeTests size =
-    eqb size (headerSize + slotSize * ((size - headerSize) / slotSize))
-    ∷ leb 1 ((size - headerSize) / slotSize)
-    ∷ leb ((size - headerSize) / slotSize) mostSlots
-    ∷ []
-
 -- how many slots bytes of a size have, 0 where it is no store's
 unfoldable pub countFor : ℕ → ℕ
-countFor size = cond (every (sizeTests size)) ((size - headerSize) / slotSize) 0
-
-unfoldable pub headerWell : List ℕ → Bool
-headerWell b = ltb (clockOf b) timeLimit && allZero (part clockSize reservedSize b)
+countFor size = cond (every (sizeTests size)) (slotsWithin size) 0
 
 -- the bytes of slot i
 abbrev pub slotAt : List ℕ → ℕ → List ℕ
@@ -168,7 +136,7 @@ pub record Held (b : List ℕ) (i : ℕ) : Type 0 where
 
 -- the entry of a slot; an empty one where there is none
 unfoldable pub entryAt : List Slot → ℕ → Entry
-entryAt ss i = orElse (getD ss i none) (record { key = []; field = []; value = []; version = 0; expiry = Never }) (λ e. e)
+entryAt ss i = orElse (getD ss i none) (entry [] [] [] 0 Never) (λ e. e)
 
 -- bytes are a well-formed store that holds s
 pub record Holds (b : List ℕ) (s : Store) : Type 0 where
@@ -193,12 +161,9 @@ withClock t s = record { clock = t; slots = s .slots }
 abbrev pub withSlot : ℕ → Slot → Store → Store
 withSlot i x s = record { clock = s .clock; slots = set (s .slots) i x }
 
-abbrev pub entry : List ℕ → List ℕ → List ℕ → ℕ → Expiry → Entry
-entry k f v n x = record { key = k; field = f; value = v; version = n; expiry = x }
-
 -- an entry with another version and expiry
 abbrev pub stamped : ℕ → Expiry → Entry → Entry
-stamped n x e = record { key = e .key; field = e .field; value = e .value; version = n; expiry = x }
+stamped n x e = withVersion n (withExpiry x e)
 
 -- a slot's bytes with another state, version and expiry
 unfoldable pub stampedBytes : ℕ → Expiry → List ℕ → List ℕ
@@ -207,20 +172,11 @@ stampedBytes n x t = (stateOf x ∷ part keyLengthAt 3 t) ++ (toLE versionSize n
 -- a key, a field and a value fit a slot's bytes
 pub record Writable (t k f v : List ℕ) : Type 0 where
   pub size : length t ≡ slotSize
-  pub key : length k ≤ keyMost
-  pub field : length f ≤ fieldMost
-  pub value : length v ≤ valueMost
+  pub short : Short k f v
 
 -- an entry fits a slot of a well-formed store, and no other slot holds its key and field
 pub record Placeable (b : List ℕ) (i : ℕ) (e : Entry) : Type 0 where
   pub well : wellFormed b ≡ true
   pub inside : i < slotCount b
-  pub key : length (e .key) ≤ keyMost
-  pub field : length (e .field) ≤ fieldMost
-  pub value : length (e .value) ≤ valueMost
-  pub version : e .version ≤ versionMost
-  pub expiry : instantOf (e .expiry) ≤ timeLimit
-  pub keyBytes : Bytes (e .key)
-  pub fieldBytes : Bytes (e .field)
-  pub valueBytes : Bytes (e .value)
+  pub fits : Fits e
   pub alone : (j : ℕ) → (i ≡ j → ⊥) → holds (e .key) (e .field) (getD (decode b .slots) j none) ≡ false

@@ -10,7 +10,7 @@ use Rattle.wire.specs.Lists.{every, all, any, orElse}
 use Rattle.wire.specs.Bytes.{fromLE, toLE, part, padded, allZero, same}
 use Rattle.store.specs.declared.Expiry.{Expiry}
 use Rattle.store.specs.declared.Expiry.the-variants.{Never, At}
-use Rattle.store.specs.Layout.{headerSize, slotSize, mostSlots, clockSize, reservedSize, stateAt, keyLengthAt, fieldLengthAt, valueLengthAt, versionAt, versionSize, expiryAt, expirySize, keyAt, keyMost, fieldAt, fieldMost, valueAt, valueMost, emptyState, heldState, expiringState, timeLimit}
+use Rattle.store.specs.Layout.{headerSize, slotSize, slotsMost, clockSize, reservedSize, stateAt, keyLengthAt, fieldLengthAt, valueLengthAt, versionAt, versionSize, expiryAt, expirySize, keyAt, keyMost, fieldAt, fieldMost, valueAt, valueMost, emptyState, heldState, expiringState, timeLimit}
 
 -- ---- what a store holds
 
@@ -20,6 +20,18 @@ pub record Entry : Type 0 where
   pub value : List ℕ
   pub version : ℕ
   pub expiry : Expiry
+
+-- Entries are built and changed by these alone.
+abbrev pub entry : List ℕ → List ℕ → List ℕ → ℕ → Expiry → Entry
+entry k f v n x = record { key = k; field = f; value = v; version = n; expiry = x }
+
+-- an entry with another version
+abbrev pub withVersion : ℕ → Entry → Entry
+withVersion n e = entry (e .key) (e .field) (e .value) n (e .expiry)
+
+-- an entry with another expiry
+abbrev pub withExpiry : Expiry → Entry → Entry
+withExpiry x e = entry (e .key) (e .field) (e .value) (e .version) x
 
 -- a slot holds an entry, or is empty
 abbrev pub Slot : Type 0
@@ -36,13 +48,12 @@ decodeExpiry t = cond (eqb (getD t stateAt 0) expiringState) (At (fromLE (part e
 
 unfoldable pub decodeEntry : List ℕ → Entry
 decodeEntry t =
-    record {
-      key = part keyAt (getD t keyLengthAt 0) t;
-      field = part fieldAt (getD t fieldLengthAt 0) t;
-      value = part valueAt (getD t valueLengthAt 0) t;
-      version = fromLE (part versionAt versionSize t);
-      expiry = decodeExpiry t;
-    }
+    entry
+    (part keyAt (getD t keyLengthAt 0) t)
+    (part fieldAt (getD t fieldLengthAt 0) t)
+    (part valueAt (getD t valueLengthAt 0) t)
+    (fromLE (part versionAt versionSize t))
+    (decodeExpiry t)
 
 unfoldable pub decodeSlot : List ℕ → Slot
 decodeSlot t = cond (eqb (getD t stateAt 0) emptyState) none (some (decodeEntry t))
@@ -52,8 +63,12 @@ unfoldable pub slotsIn : ℕ → List ℕ → List (List ℕ)
 slotsIn zero s = []
 slotsIn (suc n) s = take slotSize s ∷ slotsIn n (drop slotSize s)
 
-unfoldable pub slotCount : List ℕ → ℕ
-slotCount b = (length b - headerSize) / slotSize
+-- how many slots bytes of a size have
+unfoldable pub slotsWithin : ℕ → ℕ
+slotsWithin size = (size - headerSize) / slotSize
+
+abbrev pub slotCount : List ℕ → ℕ
+slotCount b = slotsWithin (length b)
 
 unfoldable pub slotBytes : List ℕ → List (List ℕ)
 slotBytes b = slotsIn (slotCount b) (drop headerSize b)
@@ -95,26 +110,36 @@ encode s = toLE clockSize (s .clock) ++ replicate reservedSize 0 ++ flatten (map
 
 -- ---- which bytes are a store
 
--- "Places beyond a length are zero": of a place of `size` bytes, a length's bytes are used
+-- of a place of `size` bytes, those beyond the bytes used are zero
 unfoldable pub zeroBeyond : ℕ → ℕ → ℕ → List ℕ → Bool
 zeroBeyond at size used t = allZero (drop used (part at size t))
 
--- "state (.. 1 held, 2 held with expiry), key length (at most 16), field length (at most 32), value length (at most 64) .. expiry in ms (8 bytes,
--- zero unless state 2, at most 4,102,444,800,000)"
-unfoldable pub heldWell : List ℕ → Bool
-heldWell t =
-    every
-    (leb (getD t stateAt 0) expiringState
+-- "state (.. 1 held, 2 held with expiry), key length (at most 16), field length (at most 32), value length (at most 64)"
+unfoldable pub lengthTests : List ℕ → List Bool
+lengthTests t =
+    leb (getD t stateAt 0) expiringState
     ∷ leb (getD t keyLengthAt 0) keyMost
     ∷ leb (getD t fieldLengthAt 0) fieldMost
     ∷ leb (getD t valueLengthAt 0) valueMost
-    ∷ (eqb (getD t stateAt 0) expiringState || allZero (part expiryAt expirySize t))
+    ∷ []
+
+-- "expiry in ms (8 bytes, zero unless state 2, at most 4,102,444,800,000)"
+unfoldable pub expiryTests : List ℕ → List Bool
+expiryTests t =
+    (eqb (getD t stateAt 0) expiringState || allZero (part expiryAt expirySize t))
     ∷ leb (fromLE (part expiryAt expirySize t)) timeLimit
-    ∷ zeroBeyond keyAt keyMost (getD t keyLengthAt 0) t
+    ∷ []
+
+-- "Places beyond a length are zero"
+unfoldable pub placeTests : List ℕ → List Bool
+placeTests t =
+    zeroBeyond keyAt keyMost (getD t keyLengthAt 0) t
     ∷ zeroBeyond fieldAt fieldMost (getD t fieldLengthAt 0) t
     ∷ zeroBeyond valueAt valueMost (getD t valueLengthAt 0) t
     ∷ []
-    )
+
+unfoldable pub heldWell : List ℕ → Bool
+heldWell t = every (every (lengthTests t) ∷ every (expiryTests t) ∷ every (placeTests t) ∷ [])
 
 -- "an empty slot is all zero"
 unfoldable pub slotWell : List ℕ → Bool
@@ -132,17 +157,23 @@ unfoldable pub distinct : List Slot → Bool
 distinct [] = true
 distinct (s ∷ ss) = not (any (clash s) ss) && distinct ss
 
--- "A store is 16+128·n bytes, n from 1 to 500. First 8: the latest clock, low first; next 8: zero." "The latest clock is below
--- 4,102,444,800,000." "Anything else is not well formed."
+-- "A store is 16+128·n bytes, n from 1 to 500."
+unfoldable pub sizeTests : ℕ → List Bool
+sizeTests size =
+    let count : ℕ = slotsWithin size in
+    eqb size (headerSize + slotSize * count) ∷ leb 1 count ∷ leb count slotsMost ∷ []
+
+-- "First 8: the latest clock, low first; next 8: zero." "The latest clock is below 4,102,444,800,000."
+unfoldable pub headerTests : List ℕ → List Bool
+headerTests b = ltb (clockOf b) timeLimit ∷ allZero (part clockSize reservedSize b) ∷ []
+
+-- "Anything else is not well formed."
 unfoldable pub wellFormed : List ℕ → Bool
 wellFormed b =
     every
     (areBytes b
-    ∷ eqb (length b) (headerSize + slotSize * slotCount b)
-    ∷ leb 1 (slotCount b)
-    ∷ leb (slotCount b) mostSlots
-    ∷ ltb (clockOf b) timeLimit
-    ∷ allZero (part clockSize reservedSize b)
+    ∷ every (sizeTests (length b))
+    ∷ every (headerTests b)
     ∷ all slotWell (slotBytes b)
     ∷ distinct (decode b .slots)
     ∷ []

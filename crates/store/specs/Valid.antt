@@ -6,14 +6,18 @@ use mathlib.Core.Option.{none, some}
 use Prim.Native.Nat.{ℕ, _≤_, _<_}
 use lib.ListN.{length, getD}
 use Rattle.wire.specs.Bytes.{Bytes}
-use Rattle.store.specs.Layout.{mostSlots, keyMost, fieldMost, valueMost, versionMost, timeLimit}
+use Rattle.store.specs.Layout.{slotsMost, keyMost, fieldMost, valueMost, versionMost, timeLimit}
 use Rattle.store.specs.Store.{Entry, Slot, Store, instantOf, clash}
+
+-- a key, a field and a value that a slot has room for
+pub record Short (k f v : List ℕ) : Type 0 where
+  pub key : length k ≤ keyMost
+  pub field : length f ≤ fieldMost
+  pub value : length v ≤ valueMost
 
 -- an entry that a slot can hold
 pub record Fits (e : Entry) : Type 0 where
-  pub key : length (e .key) ≤ keyMost
-  pub field : length (e .field) ≤ fieldMost
-  pub value : length (e .value) ≤ valueMost
+  pub short : Short (e .key) (e .field) (e .value)
   pub version : e .version ≤ versionMost
   pub expiry : instantOf (e .expiry) ≤ timeLimit
   pub keyBytes : Bytes (e .key)
@@ -36,6 +40,6 @@ Apart ss = (i j : ℕ) → i < j → clash (getD ss i none) (getD ss j none) ≡
 pub record Valid (s : Store) : Type 0 where
   pub clock : s .clock < timeLimit
   pub least : 1 ≤ length (s .slots)
-  pub most : length (s .slots) ≤ mostSlots
+  pub most : length (s .slots) ≤ slotsMost
   pub fits : AllFit (s .slots)
   pub apart : Apart (s .slots)

@@ -1,19 +1,19 @@
 // Changes of a well-formed store, each said by what the store then holds.
 use crate::Expiry;
-use crate::layout::CLOCK;
-use crate::layout::EXPIRING;
-use crate::layout::EXPIRY;
-use crate::layout::FIELD;
-use crate::layout::FIELD_LENGTH;
-use crate::layout::HEADER;
-use crate::layout::HELD;
-use crate::layout::KEY;
-use crate::layout::KEY_LENGTH;
-use crate::layout::SLOT;
-use crate::layout::STATE;
-use crate::layout::VALUE;
-use crate::layout::VALUE_LENGTH;
-use crate::layout::VERSION;
+use crate::layout::CLOCK_SIZE;
+use crate::layout::EXPIRING_STATE;
+use crate::layout::EXPIRY_AT;
+use crate::layout::FIELD_AT;
+use crate::layout::FIELD_LENGTH_AT;
+use crate::layout::HEADER_SIZE;
+use crate::layout::HELD_STATE;
+use crate::layout::KEY_AT;
+use crate::layout::KEY_LENGTH_AT;
+use crate::layout::SLOT_SIZE;
+use crate::layout::STATE_AT;
+use crate::layout::VALUE_AT;
+use crate::layout::VALUE_LENGTH_AT;
+use crate::layout::VERSION_AT;
 use wire::numbers::write_le;
 use wire::slices::clear;
 use wire::slices::copy;
@@ -32,7 +32,7 @@ pub fn set_clock(store: &mut [u8], time: u64)
     requires { ⌜ (wellFormed (now store) ≡ true) × (time < timeLimit) ⌝ }
     ensures { λ _. ⌜ Holds (now (store .exit)) (withClock time (decode (now (store .entry)))) ⌝ }
 {
-    write_le(&mut store[0..CLOCK], time);
+    write_le(&mut store[0..CLOCK_SIZE], time);
 }
 
 // Empties slot i.
@@ -40,8 +40,8 @@ pub fn remove(store: &mut [u8], i: usize)
     requires { ⌜ (wellFormed (now store) ≡ true) × (i < slotCount (now store)) ⌝ }
     ensures { λ _. ⌜ Holds (now (store .exit)) (withSlot i none (decode (now (store .entry)))) ⌝ }
 {
-    let start = HEADER + SLOT * i;
-    let end = start + SLOT;
+    let start = HEADER_SIZE + SLOT_SIZE * i;
+    let end = start + SLOT_SIZE;
     clear(&mut store[start..end]);
 }
 
@@ -60,8 +60,8 @@ fn state_of(expiry: Expiry) -> u8
     ensures { λ r. ⌜ r ≡ stateOf expiry ⌝ }
 {
     match expiry {
-        Expiry::Never => HELD,
-        Expiry::At(_) => EXPIRING,
+        Expiry::Never => HELD_STATE,
+        Expiry::At(_) => EXPIRING_STATE,
     }
 }
 
@@ -80,9 +80,9 @@ fn write_stamp(t: &mut [u8], version: u64, expiry: Expiry)
     requires { ⌜ length (now t) ≡ slotSize ⌝ }
     ensures { λ _. ⌜ now (t .exit) ≡ stampedBytes version expiry (now (t .entry)) ⌝ }
 {
-    t[STATE] = state_of(expiry);
-    write_le(&mut t[VERSION..EXPIRY], version);
-    write_le(&mut t[EXPIRY..KEY], instant_of(expiry));
+    t[STATE_AT] = state_of(expiry);
+    write_le(&mut t[VERSION_AT..EXPIRY_AT], version);
+    write_le(&mut t[EXPIRY_AT..KEY_AT], instant_of(expiry));
 }
 
 // Writes an entry over one slot's bytes.
@@ -90,13 +90,13 @@ fn write_entry(t: &mut [u8], key: &[u8], field: &[u8], value: &[u8], version: u6
     requires { ⌜ Writable (now t) (now key) (now field) (now value) ⌝ }
     ensures { λ _. ⌜ now (t .exit) ≡ encodeEntry (entry (now (key .entry)) (now (field .entry)) (now (value .entry)) version expiry) ⌝ }
 {
-    t[KEY_LENGTH] = (key.len() % 256) as u8;
-    t[FIELD_LENGTH] = (field.len() % 256) as u8;
-    t[VALUE_LENGTH] = (value.len() % 256) as u8;
+    t[KEY_LENGTH_AT] = (key.len() % 256) as u8;
+    t[FIELD_LENGTH_AT] = (field.len() % 256) as u8;
+    t[VALUE_LENGTH_AT] = (value.len() % 256) as u8;
     write_stamp(t, version, expiry);
-    write_padded(key, &mut t[KEY..FIELD]);
-    write_padded(field, &mut t[FIELD..VALUE]);
-    write_padded(value, &mut t[VALUE..SLOT]);
+    write_padded(key, &mut t[KEY_AT..FIELD_AT]);
+    write_padded(field, &mut t[FIELD_AT..VALUE_AT]);
+    write_padded(value, &mut t[VALUE_AT..SLOT_SIZE]);
 }
 
 // Puts an entry into slot i: an empty slot, or over the entry that it replaces.
@@ -112,8 +112,8 @@ pub fn put(
     requires { ⌜ Placeable (now store) i (entry (now key) (now field) (now value) version expiry) ⌝ }
     ensures { λ _. ⌜ Holds (now (store .exit)) (withSlot i (some (entry (now (key .entry)) (now (field .entry)) (now (value .entry)) version expiry)) (decode (now (store .entry)))) ⌝ }
 {
-    let start = HEADER + SLOT * i;
-    let end = start + SLOT;
+    let start = HEADER_SIZE + SLOT_SIZE * i;
+    let end = start + SLOT_SIZE;
     write_entry(&mut store[start..end], key, field, value, version, expiry);
 }
 
@@ -122,7 +122,7 @@ pub fn restamp(store: &mut [u8], i: usize, version: u64, expiry: Expiry)
     requires { ⌜ (Held (now store) i) × (version ≤ versionMost) × (instantOf expiry ≤ timeLimit) ⌝ }
     ensures { λ _. ⌜ Holds (now (store .exit)) (withSlot i (some (stamped version expiry (entryAt (decode (now (store .entry)) .slots) i))) (decode (now (store .entry)))) ⌝ }
 {
-    let start = HEADER + SLOT * i;
-    let end = start + SLOT;
+    let start = HEADER_SIZE + SLOT_SIZE * i;
+    let end = start + SLOT_SIZE;
     write_stamp(&mut store[start..end], version, expiry);
 }

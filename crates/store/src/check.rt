@@ -1,22 +1,22 @@
 // Which bytes are a store. This is the cost of every call, so each byte is looked at about once.
 use crate::duplicates::all_distinct;
-use crate::layout::CLOCK;
-use crate::layout::EMPTY;
-use crate::layout::EXPIRING;
-use crate::layout::EXPIRY;
-use crate::layout::FIELD;
-use crate::layout::FIELD_LENGTH;
+use crate::layout::CLOCK_SIZE;
+use crate::layout::EMPTY_STATE;
+use crate::layout::EXPIRING_STATE;
+use crate::layout::EXPIRY_AT;
+use crate::layout::FIELD_AT;
+use crate::layout::FIELD_LENGTH_AT;
 use crate::layout::FIELD_MOST;
-use crate::layout::HEADER;
-use crate::layout::KEY;
-use crate::layout::KEY_LENGTH;
+use crate::layout::HEADER_SIZE;
+use crate::layout::KEY_AT;
+use crate::layout::KEY_LENGTH_AT;
 use crate::layout::KEY_MOST;
-use crate::layout::LIMIT;
-use crate::layout::SLOT;
-use crate::layout::SLOTS;
-use crate::layout::STATE;
-use crate::layout::VALUE;
-use crate::layout::VALUE_LENGTH;
+use crate::layout::SLOT_SIZE;
+use crate::layout::SLOTS_MOST;
+use crate::layout::STATE_AT;
+use crate::layout::TIME_LIMIT;
+use crate::layout::VALUE_AT;
+use crate::layout::VALUE_LENGTH_AT;
 use crate::layout::VALUE_MOST;
 use crate::padding::padding_of_16;
 use crate::padding::padding_of_32;
@@ -37,14 +37,14 @@ ghost use Rattle.store.specs.Promises.{countFor, headerWell, lengthTests
 fn slot_count(size: usize) -> usize
     ensures { λ r. ⌜ r ≡ countFor size ⌝ }
 {
-    if size < HEADER {
+    if size < HEADER_SIZE {
         return 0;
     }
-    let count = (size - HEADER) / SLOT;
-    if SLOTS < count {
+    let count = (size - HEADER_SIZE) / SLOT_SIZE;
+    if SLOTS_MOST < count {
         return 0;
     }
-    if HEADER + SLOT * count != size {
+    if HEADER_SIZE + SLOT_SIZE * count != size {
         return 0;
     }
     count
@@ -55,7 +55,7 @@ fn header_well(store: &[u8]) -> bool
     requires { ⌜ headerSize ≤ length (now store) ⌝ }
     ensures { λ r. ⌜ r ≡ headerWell (now (store .entry)) ⌝ }
 {
-    read_le(&store[0..CLOCK]) < LIMIT && all_zero(&store[CLOCK..HEADER])
+    read_le(&store[0..CLOCK_SIZE]) < TIME_LIMIT && all_zero(&store[CLOCK_SIZE..HEADER_SIZE])
 }
 
 // Whether a held slot's state and lengths are well formed.
@@ -63,16 +63,16 @@ fn lengths_well(t: &[u8]) -> bool
     requires { ⌜ length (now t) ≡ slotSize ⌝ }
     ensures { λ r. ⌜ r ≡ every (lengthTests (now (t .entry))) ⌝ }
 {
-    if EXPIRING < t[STATE] {
+    if EXPIRING_STATE < t[STATE_AT] {
         return false;
     }
-    if KEY_MOST < t[KEY_LENGTH] as usize {
+    if KEY_MOST < t[KEY_LENGTH_AT] as usize {
         return false;
     }
-    if FIELD_MOST < t[FIELD_LENGTH] as usize {
+    if FIELD_MOST < t[FIELD_LENGTH_AT] as usize {
         return false;
     }
-    t[VALUE_LENGTH] as usize <= VALUE_MOST
+    t[VALUE_LENGTH_AT] as usize <= VALUE_MOST
 }
 
 // Whether a held slot's expiry is well formed. Where it has none the instant is zero.
@@ -80,9 +80,9 @@ fn expiry_well(t: &[u8]) -> bool
     requires { ⌜ length (now t) ≡ slotSize ⌝ }
     ensures { λ r. ⌜ r ≡ every (expiryTests (now (t .entry))) ⌝ }
 {
-    let instant = read_le(&t[EXPIRY..KEY]);
-    if t[STATE] == EXPIRING {
-        return instant <= LIMIT;
+    let instant = read_le(&t[EXPIRY_AT..KEY_AT]);
+    if t[STATE_AT] == EXPIRING_STATE {
+        return instant <= TIME_LIMIT;
     }
     instant == 0
 }
@@ -93,12 +93,12 @@ fn places_well(t: &[u8]) -> bool
     requires { ⌜ every (lengthTests (now t)) ≡ true ⌝ }
     ensures { λ r. ⌜ r ≡ every (placeTests (now (t .entry))) ⌝ }
 {
-    let key_length = t[KEY_LENGTH] as usize;
-    let field_length = t[FIELD_LENGTH] as usize;
-    let value_length = t[VALUE_LENGTH] as usize;
-    let key = padding_of_16(t, KEY, key_length);
-    let field = padding_of_32(t, FIELD, field_length);
-    let value = padding_of_64(t, VALUE, value_length);
+    let key_length = t[KEY_LENGTH_AT] as usize;
+    let field_length = t[FIELD_LENGTH_AT] as usize;
+    let value_length = t[VALUE_LENGTH_AT] as usize;
+    let key = padding_of_16(t, KEY_AT, key_length);
+    let field = padding_of_32(t, FIELD_AT, field_length);
+    let value = padding_of_64(t, VALUE_AT, value_length);
     (key | field | value) == 0
 }
 
@@ -107,7 +107,7 @@ fn slot_well(t: &[u8]) -> bool
     requires { ⌜ length (now t) ≡ slotSize ⌝ }
     ensures { λ r. ⌜ r ≡ slotWell (now (t .entry)) ⌝ }
 {
-    if t[STATE] == EMPTY {
+    if t[STATE_AT] == EMPTY_STATE {
         return all_zero(t);
     }
     if !lengths_well(t) {

@@ -1,7 +1,7 @@
 // The rule against duplicates: no two slots hold entries of the same key and field.
-use crate::layout::FIELD;
-use crate::layout::KEY;
-use crate::layout::VALUE;
+use crate::layout::FIELD_AT;
+use crate::layout::KEY_AT;
+use crate::layout::VALUE_AT;
 use crate::slot;
 use crate::slot::word;
 ghost use mathlib.Core.Path.{_≡_};
@@ -78,7 +78,10 @@ fn name_of(t: &[u8]) -> u64
     requires { ⌜ length (now t) ≡ slotSize ⌝ }
     ensures { λ r. ⌜ r ≡ nameOf (now (t .entry)) ⌝ }
 {
-    spread(key_word(&t[KEY..FIELD]), field_word(&t[FIELD..VALUE]))
+    spread(
+        key_word(&t[KEY_AT..FIELD_AT]),
+        field_word(&t[FIELD_AT..VALUE_AT]),
+    )
 }
 
 // Sets a bit of the marks, and answers whether it was set before.

@@ -1,8 +1,8 @@
 // What a well-formed store holds: its clock, and the parts of an entry.
 use crate::Expiry;
-use crate::layout::CLOCK;
-use crate::layout::HEADER;
-use crate::layout::SLOT;
+use crate::layout::CLOCK_SIZE;
+use crate::layout::HEADER_SIZE;
+use crate::layout::SLOT_SIZE;
 use crate::slot;
 use wire::numbers::read_le;
 ghost use mathlib.Core.Path.{_≡_};
@@ -19,14 +19,14 @@ pub fn slots(store: &[u8]) -> usize
     requires { ⌜ wellFormed (now store) ≡ true ⌝ }
     ensures { λ r. ⌜ r ≡ length (decode (now (store .entry)) .slots) ⌝ }
 {
-    (store.len() - HEADER) / SLOT
+    (store.len() - HEADER_SIZE) / SLOT_SIZE
 }
 
 pub fn clock(store: &[u8]) -> u64
     requires { ⌜ wellFormed (now store) ≡ true ⌝ }
     ensures { λ r. ⌜ r ≡ decode (now (store .entry)) .clock ⌝ }
 {
-    read_le(&store[0..CLOCK])
+    read_le(&store[0..CLOCK_SIZE])
 }
 
 // Now of a record's clock.

@@ -1,18 +1,18 @@
 // One slot's 128 bytes: what they mean.
 use crate::Expiry;
-use crate::layout::EMPTY;
-use crate::layout::EXPIRING;
-use crate::layout::EXPIRY;
-use crate::layout::FIELD;
-use crate::layout::FIELD_LENGTH;
-use crate::layout::HEADER;
-use crate::layout::KEY;
-use crate::layout::KEY_LENGTH;
-use crate::layout::SLOT;
-use crate::layout::STATE;
-use crate::layout::VALUE;
-use crate::layout::VALUE_LENGTH;
-use crate::layout::VERSION;
+use crate::layout::EMPTY_STATE;
+use crate::layout::EXPIRING_STATE;
+use crate::layout::EXPIRY_AT;
+use crate::layout::FIELD_AT;
+use crate::layout::FIELD_LENGTH_AT;
+use crate::layout::HEADER_SIZE;
+use crate::layout::KEY_AT;
+use crate::layout::KEY_LENGTH_AT;
+use crate::layout::SLOT_SIZE;
+use crate::layout::STATE_AT;
+use crate::layout::VALUE_AT;
+use crate::layout::VALUE_LENGTH_AT;
+use crate::layout::VERSION_AT;
 use wire::numbers::read_le;
 use wire::slices::equal;
 ghost use mathlib.Core.Path.{_≡_};
@@ -33,8 +33,8 @@ pub fn bytes(store: &[u8], i: usize) -> &[u8]
     requires { ⌜ headerSize + slotSize * i + slotSize ≤ length (now store) ⌝ }
     ensures { λ r. ⌜ now r ≡ part (headerSize + slotSize * i) slotSize (now (store .entry)) ⌝ }
 {
-    let start = HEADER + SLOT * i;
-    let end = start + SLOT;
+    let start = HEADER_SIZE + SLOT_SIZE * i;
+    let end = start + SLOT_SIZE;
     &store[start..end]
 }
 
@@ -51,22 +51,22 @@ pub fn is_empty(t: &[u8]) -> bool
     requires { ⌜ length (now t) ≡ slotSize ⌝ }
     ensures { λ r. ⌜ r ≡ emptySlot (decodeSlot (now (t .entry))) ⌝ }
 {
-    t[STATE] == EMPTY
+    t[STATE_AT] == EMPTY_STATE
 }
 
 pub fn version(t: &[u8]) -> u64
     requires { ⌜ length (now t) ≡ slotSize ⌝ }
     ensures { λ r. ⌜ r ≡ decodeEntry (now (t .entry)) .version ⌝ }
 {
-    read_le(&t[VERSION..EXPIRY])
+    read_le(&t[VERSION_AT..EXPIRY_AT])
 }
 
 pub fn expiry(t: &[u8]) -> Expiry
     requires { ⌜ length (now t) ≡ slotSize ⌝ }
     ensures { λ r. ⌜ r ≡ decodeExpiry (now (t .entry)) ⌝ }
 {
-    if t[STATE] == EXPIRING {
-        return Expiry::At(read_le(&t[EXPIRY..KEY]));
+    if t[STATE_AT] == EXPIRING_STATE {
+        return Expiry::At(read_le(&t[EXPIRY_AT..KEY_AT]));
     }
     Expiry::Never
 }
@@ -76,7 +76,7 @@ pub fn is_live(t: &[u8], time: u64) -> bool
     requires { ⌜ length (now t) ≡ slotSize ⌝ }
     ensures { λ r. ⌜ r ≡ liveSlot time (decodeSlot (now (t .entry))) ⌝ }
 {
-    if t[STATE] == EMPTY {
+    if t[STATE_AT] == EMPTY_STATE {
         return false;
     }
     let expires = expiry(t);
@@ -91,7 +91,7 @@ pub fn is_dead(t: &[u8], time: u64) -> bool
     requires { ⌜ length (now t) ≡ slotSize ⌝ }
     ensures { λ r. ⌜ r ≡ deadSlot time (decodeSlot (now (t .entry))) ⌝ }
 {
-    if t[STATE] == EMPTY {
+    if t[STATE_AT] == EMPTY_STATE {
         return false;
     }
     !is_live(t, time)
@@ -101,24 +101,24 @@ pub fn key(t: &[u8]) -> &[u8]
     requires { ⌜ HeldBytes (now t) ⌝ }
     ensures { λ r. ⌜ now r ≡ decodeEntry (now (t .entry)) .key ⌝ }
 {
-    let end = KEY + t[KEY_LENGTH] as usize;
-    &t[KEY..end]
+    let end = KEY_AT + t[KEY_LENGTH_AT] as usize;
+    &t[KEY_AT..end]
 }
 
 pub fn field(t: &[u8]) -> &[u8]
     requires { ⌜ HeldBytes (now t) ⌝ }
     ensures { λ r. ⌜ now r ≡ decodeEntry (now (t .entry)) .field ⌝ }
 {
-    let end = FIELD + t[FIELD_LENGTH] as usize;
-    &t[FIELD..end]
+    let end = FIELD_AT + t[FIELD_LENGTH_AT] as usize;
+    &t[FIELD_AT..end]
 }
 
 pub fn value(t: &[u8]) -> &[u8]
     requires { ⌜ HeldBytes (now t) ⌝ }
     ensures { λ r. ⌜ now r ≡ decodeEntry (now (t .entry)) .value ⌝ }
 {
-    let end = VALUE + t[VALUE_LENGTH] as usize;
-    &t[VALUE..end]
+    let end = VALUE_AT + t[VALUE_LENGTH_AT] as usize;
+    &t[VALUE_AT..end]
 }
 
 // Whether the slot holds an entry of a key.
@@ -126,7 +126,7 @@ pub fn of_key(t: &[u8], k: &[u8]) -> bool
     requires { ⌜ SlotBytes (now t) ⌝ }
     ensures { λ r. ⌜ r ≡ ofKey (now (k .entry)) (decodeSlot (now (t .entry))) ⌝ }
 {
-    if t[STATE] == EMPTY {
+    if t[STATE_AT] == EMPTY_STATE {
         return false;
     }
     equal(key(t), k)
@@ -148,7 +148,7 @@ pub fn holds(t: &[u8], k: &[u8], f: &[u8]) -> bool
     requires { ⌜ SlotBytes (now t) ⌝ }
     ensures { λ r. ⌜ r ≡ holds (now (k .entry)) (now (f .entry)) (decodeSlot (now (t .entry))) ⌝ }
 {
-    if t[STATE] == EMPTY {
+    if t[STATE_AT] == EMPTY_STATE {
         return false;
     }
     equal(field(t), f) && equal(key(t), k)
@@ -181,7 +181,7 @@ pub fn holds_with(t: &[u8], fingerprint: u64, k: &[u8], f: &[u8]) -> bool
     requires { ⌜ fingerprint ≡ fingerprintOf (now f) ⌝ }
     ensures { λ r. ⌜ r ≡ holds (now (k .entry)) (now (f .entry)) (decodeSlot (now (t .entry))) ⌝ }
 {
-    let field = &t[FIELD..VALUE];
+    let field = &t[FIELD_AT..VALUE_AT];
     if word(field, 0) ^ word(field, WORD) != fingerprint {
         return false;
     }

@@ -1,7 +1,7 @@
 -- Places in a command: what its readers find at a place, and where they go on.
 use mathlib.Core.Path.{_≡_, refl, sym, ap, ap₂, _∙_}
 use mathlib.Core.Bool.{Bool, true, false, false≢true, cond, _&&_}
-use mathlib.Core.List.{List, [], _∷_, _++_, append-assoc, append-nil}
+use mathlib.Core.List.{List, [], _∷_, _++_, append-assoc, append-nil, map, map-append}
 use mathlib.Core.Option.{Option, none, some, Option·map}
 use Prim.Native.Nat.{ℕ, zero, suc, _+_, _-_, _≤_, _<_}
 use native.Mathlib.Numerals.{add-one}
@@ -10,17 +10,17 @@ use native.Mathlib.Omega.{arith}
 use borrow.Author.Count.{below-more}
 use borrow.Author.Tests.{le-leb, ne-eqb, eq-eqb}
 use lib.Dec.{leb, eqb}
-use lib.ListN.{length, getD, take, drop, set, length-append, length-take, length-drop, drop-of-length-le}
-use lib.Seq.{drop-cons, drop-drop, drop-length, take-at, take-append-seam, drop-append-seam, getD-set-same, getD-set-other, append-snoc}
+use lib.ListN.{length, getD, take, drop, set, length-append, length-take, length-drop, length-map, drop-of-length-le, List·getD-map, List·getD-eq-default}
+use lib.Seq.{drop-cons, drop-drop, drop-length, take-at, take-append-seam, drop-append-seam, getD-set-same, getD-set-other, getD-take, take-suc-set, length-take-le, append-snoc}
 use Rattle.wire.specs.declared.integers.Natural.the-variants as naturals
 use Rattle.wire.specs.declared.places.Counted.the-variants as counts
 use Rattle.wire.specs.declared.places.Placed.the-variants as placed
 use Rattle.wire.specs.Lists.{onlyIf, orElse, isEmpty}
 use Rattle.wire.specs.Bytes.{part, same, text}
 use Rattle.wire.specs.Integer.{naturalText, readNatural}
-use Rattle.wire.specs.Words.{Word, Read, crlf, beforeCR, fromCR, readCount, readWord, readWords, wordsOf}
+use Rattle.wire.specs.Words.{Word, Read, crlf, beforeCR, fromCR, readCount, readWord, readWords, wordsOf, wordsMost, wordAt}
 use Rattle.wire.specs.Reply.{bulk}
-use Rattle.wire.specs.Promises.{naturalFor, countedFor, placedFor, wordIn, wordsIn, Places}
+use Rattle.wire.specs.Promises.{naturalFor, countedFor, placedFor, wordIn, wordsIn, placeEnd, Inside, Places}
 use Rattle.wire.proofs.Words.{split-CR, count-is, word-is}
 
 -- ---- lines
@@ -280,29 +280,25 @@ module _ (s : List ℕ) (at : ℕ) where
 -- ---- the words of a command
 
 -- a word more, stored behind those found so far
-pub words-more : (s : List ℕ) (i a b : ℕ) (starts sizes : List ℕ) → i < length starts → i < length sizes
-    → wordsIn (suc i) s (set starts i a) (set sizes i b) ≡ wordsIn i s starts sizes ++ (part a b s ∷ [])
+words-more : (s : List ℕ) (i a b : ℕ) (places : List (List ℕ)) → i < length places
+    → wordsIn s (take (suc i) (set places i (a ∷ b ∷ []))) ≡ wordsIn s (take i places) ++ (part a b s ∷ [])
 unfolding wordsIn wordIn
-words-more s i a b [] sizes l m = absurd (not-suc-le-zero l)
-words-more s i a b (x ∷ starts) [] l m = absurd (not-suc-le-zero m)
-words-more s zero a b (x ∷ starts) (y ∷ sizes) l m = refl
-words-more s (suc i) a b (x ∷ starts) (y ∷ sizes) l m =
-    ap (λ (ws : List Word). part x y s ∷ ws) (words-more s i a b starts sizes (omega arith) (omega arith))
+words-more s i a b places l = rw (take-suc-set places i (a ∷ b ∷ []) l) (map-append (wordIn s) (take i places) ((a ∷ b ∷ []) ∷ []))
 
 -- what is known of a command between two words: what was found and what is left are its words, and the places found lie in it
-pub record Progress (s starts sizes : List ℕ) (count first at i : ℕ) : Type 0 where
-  pub left : Option·map (λ ws. wordsIn i s starts sizes ++ ws) (readWords (count - i) (drop at s)) ≡ readWords count (drop first s)
-  pub inside : (j : ℕ) → j < i → getD starts j 0 + getD sizes j 0 ≤ length s
+pub record Progress (s : List ℕ) (places : List (List ℕ)) (count first at i : ℕ) : Type 0 where
+  pub left : Option·map (λ ws. wordsIn s (take i places) ++ ws) (readWords (count - i) (drop at s)) ≡ readWords count (drop first s)
+  pub inside : (j : ℕ) → j < i → placeEnd (getD places j []) ≤ length s
   pub within : at ≤ length s
   pub passed : i ≤ count
-  pub most : count ≤ 64
+  pub most : count ≤ wordsMost
 
 -- before the first word
-pub progress-begins : {s starts sizes : List ℕ} {count first : ℕ}
-    → counts.Count count first ≡ countedFor (length s) (readCount 42 64 (drop 0 s)) → Progress s starts sizes count first first 0
+pub progress-begins : {s : List ℕ} {places : List (List ℕ)} {count first : ℕ}
+    → counts.Count count first ≡ countedFor (length s) (readCount 42 wordsMost (drop 0 s)) → Progress s places count first first 0
 unfolding wordsIn
-progress-begins {s} {starts} {sizes} {count} {first} head =
-    let known = count-some s 0 42 64 count first (omega arith) head in
+progress-begins {s} {places} {count} {first} head =
+    let known = count-some s 0 42 wordsMost count first (omega arith) head in
     record {
       left = rw sub-zero (same-words (readWords count (drop first s)));
       inside = λ j h. absurd (not-suc-le-zero h);
@@ -321,9 +317,9 @@ map-snoc : (xs : List Word) (x : Word) (o : Option (List Word))
 map-snoc xs x none = refl
 map-snoc xs x (some ws) = ap some (append-snoc xs x ws)
 
-module _ {s starts sizes : List ℕ} {count first at i : ℕ} (now : Progress s starts sizes count first at i) where
+module _ {s : List ℕ} {places : List (List ℕ)} {count first at i : ℕ} (now : Progress s places count first at i) where
   -- a word is left
-  left-on : i < count → Option·map (λ ws. wordsIn i s starts sizes ++ ws)
+  left-on : i < count → Option·map (λ ws. wordsIn s (take i places) ++ ws)
       (orElse (readWord (drop at s)) none (λ w. Option·map (λ ws. w .found ∷ ws) (readWords (count - (i + 1)) (w .rest)))) ≡ readWords count (drop first s)
   unfolding readWords
   left-on l =
@@ -331,25 +327,23 @@ module _ {s starts sizes : List ℕ} {count first at i : ℕ} (now : Progress s 
       rw e at (now .left)
 
   -- a word was found
-  pub progress-goes-on : {start size next : ℕ} → i < count → i < length starts → i < length sizes
+  pub progress-goes-on : {start size next : ℕ} → i < count → i < length places
       → placed.Word start size next ≡ placedFor (length s) (readWord (drop at s))
-      → Progress s (set starts i start) (set sizes i size) count first next (i + 1)
+      → Progress s (set places i (start ∷ size ∷ [])) count first next (i + 1)
   unfolding orElse
-  progress-goes-on {start} {size} {next} l p q h =
+  progress-goes-on {start} {size} {next} l p h =
       let word = word-some s at start size next (now .within) h in
       record {
         left =
-            rw (add-one i, words-more s i start size starts sizes p q)
-            (map-snoc (wordsIn i s starts sizes) (part start size s) (readWords (count - suc i) (drop next s)) ∙ rw (word .0, add-one i) at (left-on l));
-        inside = below-more (λ j. getD (set starts i start) j 0 + getD (set sizes i size) j 0 ≤ length s) i
-            (λ j m. kept j m (omega arith)) (rw (getD-set-same starts i start 0 p, getD-set-same sizes i size 0 q) (word .1));
+            rw (add-one i, words-more s i start size places p)
+            (map-snoc (wordsIn s (take i places)) (part start size s) (readWords (count - suc i) (drop next s)) ∙ rw (word .0, add-one i) at (left-on l));
+        inside = below-more (λ j. placeEnd (getD (set places i (start ∷ size ∷ [])) j []) ≤ length s) i
+            (λ j m. rw (getD-set-other places i j (start ∷ size ∷ []) [] (omega arith)) (now .inside j m))
+            (rw (getD-set-same places i (start ∷ size ∷ []) [] p) (word .1));
         within = word .2;
         passed = omega arith;
         most = now .most;
       }
-    where
-      kept : (j : ℕ) → j < i → (j ≡ i → ⊥) → getD (set starts i start) j 0 + getD (set sizes i size) j 0 ≤ length s
-      kept j m other = rw (getD-set-other starts i j start 0 other, getD-set-other sizes i j size 0 other) (now .inside j m)
 
   -- a word is damaged
   pub progress-damaged : i < count → placed.Damaged ≡ placedFor (length s) (readWord (drop at s)) → readWords count (drop first s) ≡ none
@@ -365,7 +359,7 @@ module _ {s starts sizes : List ℕ} {count first at i : ℕ} (now : Progress s 
       sym (rw (e, drop-cons s at 0 m) at (now .left))
 
   -- nothing does
-  pub progress-ends : count ≤ i → at ≡ length s → readWords count (drop first s) ≡ some (wordsIn count s starts sizes)
+  pub progress-ends : count ≤ i → at ≡ length s → readWords count (drop first s) ≡ some (wordsIn s (take count places))
   unfolding readWords onlyIf isEmpty
   progress-ends l h =
       let e : count - i ≡ 0 = omega arith in
@@ -374,36 +368,69 @@ module _ {s starts sizes : List ℕ} {count first at i : ℕ} (now : Progress s 
 
 -- ---- the answer
 
+-- no places are inside
+none-inside : (s : List ℕ) (places : List (List ℕ)) → Inside s (take 0 places)
+none-inside s places = record { most = omega arith; inside = λ i l. absurd (not-suc-le-zero l) }
+
 -- a command whose count is damaged
-pub places-headless : {s starts sizes : List ℕ} → counts.Damaged ≡ countedFor (length s) (readCount 42 64 (drop 0 s)) → Places s starts sizes 0
+pub places-headless : {s : List ℕ} {places : List (List ℕ)} → counts.Damaged ≡ countedFor (length s) (readCount 42 wordsMost (drop 0 s)) → Places s places 0
 unfolding wordsOf orElse
-places-headless {s} h =
-    record { words = rw (count-none s 0 42 64 h); most = omega arith; inside = λ i l. absurd (not-suc-le-zero l) }
+places-headless {s} {places} h =
+    record { words = rw (count-none s 0 42 wordsMost h); room = omega arith; within = none-inside s places }
 
 -- the words behind the count
-words-at : (s : List ℕ) (count first : ℕ) → counts.Count count first ≡ countedFor (length s) (readCount 42 64 (drop 0 s))
+words-at : (s : List ℕ) (count first : ℕ) → counts.Count count first ≡ countedFor (length s) (readCount 42 wordsMost (drop 0 s))
     → wordsOf s ≡ cond (leb 1 count) (readWords count (drop first s)) none
 unfolding wordsOf orElse
-words-at s count first head = rw (count-some s 0 42 64 count first (omega arith) head .0)
+words-at s count first head = rw (count-some s 0 42 wordsMost count first (omega arith) head .0)
 
-module _ {s starts sizes : List ℕ} {count first : ℕ} (head : counts.Count count first ≡ countedFor (length s) (readCount 42 64 (drop 0 s))) where
+module _ {s : List ℕ} {places : List (List ℕ)} {count first : ℕ} (head : counts.Count count first ≡ countedFor (length s) (readCount 42 wordsMost (drop 0 s))) where
   -- a command whose words are damaged
-  pub places-none : readWords count (drop first s) ≡ none → Places s starts sizes 0
-  places-none h = record { words = words-at s count first head ∙ rw h (either (leb 1 count)); most = omega arith; inside = λ i l. absurd (not-suc-le-zero l) }
+  pub places-none : readWords count (drop first s) ≡ none → Places s places 0
+  places-none h = record { words = words-at s count first head ∙ rw h (either (leb 1 count)); room = omega arith; within = none-inside s places }
     where
       either : (t : Bool) → cond {A = Option (List Word)} t none none ≡ none
       either true = refl
       either false = refl
 
   -- a command that was read whole
-  pub places-all : {at i : ℕ} → Progress s starts sizes count first at i → count ≤ i → at ≡ length s → Places s starts sizes count
-  places-all now l e =
+  pub places-all : {at i : ℕ} → Progress s places count first at i → wordsMost ≤ length places → count ≤ i → at ≡ length s → Places s places count
+  places-all now room l e =
+      let fits : count ≤ length places = omega (arith, now .most) in
+      let size : length (take count places) ≡ count = length-take-le count places fits in
       record {
-        words = words-at s count first head ∙ rw (progress-ends now l e) (least count (wordsIn count s starts sizes));
-        most = now .most;
-        inside = λ j m. now .inside j (omega (arith, now .passed));
+        words = words-at s count first head ∙ rw (progress-ends now l e) (least count (wordsIn s (take count places)));
+        room = fits;
+        within = record {
+          most = omega (arith, size, now .most);
+          inside = λ j m. let below : j < count = omega (arith, size) in rw (getD-take count places j [] below) (now .inside j (omega (arith, now .passed)));
+        };
       }
     where
       least : (n : ℕ) (ws : List Word) → cond (leb 1 n) (some ws) none ≡ cond (eqb n 0) none (some ws)
       least zero ws = refl
       least (suc n) ws = rw (le-leb 1 (suc n) (omega arith), ne-eqb (suc n) 0 (omega arith))
+
+-- ---- words by their places
+
+-- there are as many words as places
+pub length-words : (s : List ℕ) (places : List (List ℕ)) → length (wordsIn s places) ≡ length places
+unfolding wordsIn
+length-words s places = length-map places (wordIn s)
+
+-- a word is the part of its place; past the places there are no bytes
+pub word-of-place : (s : List ℕ) (places : List (List ℕ)) (i : ℕ) → wordAt i (wordsIn s places) ≡ wordIn s (getD places i [])
+unfolding wordsIn wordAt wordIn part
+word-of-place s places i = List·getD-map (wordIn s) places i []
+
+pub word-part : (s : List ℕ) (places : List (List ℕ)) (i : ℕ)
+    → take (placeEnd (getD places i []) - getD (getD places i []) 0 0) (drop (getD (getD places i []) 0 0) s) ≡ wordAt i (wordsIn s places)
+unfolding wordIn part
+word-part s places i =
+    let place = getD places i [] in
+    let n : getD place 0 0 + getD place 1 0 - getD place 0 0 ≡ getD place 1 0 = omega arith in
+    rw (word-of-place s places i, n)
+
+pub word-past : (s : List ℕ) (places : List (List ℕ)) (i : ℕ) → length places ≤ i → [] ≡ wordAt i (wordsIn s places)
+unfolding wordIn part
+word-past s places i l = rw (word-of-place s places i, List·getD-eq-default places [] l)

@@ -6,7 +6,7 @@ use mathlib.Core.Option.{Option, none, some}
 use Prim.Native.Nat.{ℕ, zero, suc, _+_, _-_, _*_, _/_, _≤_, _<_}
 use lib.Dec.{ltb, eqb}
 use lib.IntN.{ℤ, pos, negsuc, negℤ}
-use lib.ListN.{length, drop, getD}
+use lib.ListN.{length, take, getD}
 use Rattle.wire.specs.declared.integers.Natural.{Natural}
 use Rattle.wire.specs.declared.integers.Natural.the-variants as naturals
 use Rattle.wire.specs.declared.integers.Integer.{Integer}
@@ -21,7 +21,7 @@ use Rattle.wire.specs.declared.places.Counted.the-variants as counts
 use Rattle.wire.specs.declared.places.Placed.{Placed}
 use Rattle.wire.specs.declared.places.Placed.the-variants as placed
 use Rattle.wire.specs.Bytes.{part, same, upper}
-use Rattle.wire.specs.Words.{Word, Read, wordsOf}
+use Rattle.wire.specs.Words.{Word, Read, wordsMost, wordsOf}
 use Rattle.wire.specs.Reply.{laidOver}
 
 -- ---- integers
@@ -57,21 +57,28 @@ placedFor size none = placed.Damaged
 placedFor size (some w) =
     placed.Word (size - (length (w .found) + 2 + length (w .rest))) (length (w .found)) (size - length (w .rest))
 
--- the word of a place
-unfoldable pub wordIn : List ℕ → ℕ → ℕ → Word
-wordIn s start size = part start size s
+-- the word of a place: its start and its size
+unfoldable pub wordIn : List ℕ → List ℕ → Word
+wordIn s place = part (getD place 0 0) (getD place 1 0) s
 
--- the first n words of places
-unfoldable pub wordsIn : ℕ → List ℕ → List ℕ → List ℕ → List Word
-wordsIn zero s starts sizes = []
-wordsIn (suc n) s starts sizes = wordIn s (getD starts 0 0) (getD sizes 0 0) ∷ wordsIn n s (drop 1 starts) (drop 1 sizes)
+-- the words of a command, by their places
+unfoldable pub wordsIn : List ℕ → List (List ℕ) → List Word
+wordsIn s places = map (wordIn s) places
 
--- a count and places say what words a command has, a count of 0 that it is damaged; each place lies in the command. Entries from the count on,
--- and all where it is 0, are left free.
-pub record Places (s starts sizes : List ℕ) (count : ℕ) : Type 0 where
-  pub words : wordsOf s ≡ cond (eqb count 0) none (some (wordsIn count s starts sizes))
-  pub most : count ≤ 64
-  pub inside : (i : ℕ) → i < count → getD starts i 0 + getD sizes i 0 ≤ length s
+-- where a place ends
+abbrev pub placeEnd : List ℕ → ℕ
+placeEnd place = getD place 0 0 + getD place 1 0
+
+-- places are no more than a command may have words, and each lies in the command
+pub record Inside (s : List ℕ) (places : List (List ℕ)) : Type 0 where
+  pub most : length places ≤ wordsMost
+  pub inside : (i : ℕ) → i < length places → placeEnd (getD places i []) ≤ length s
+
+-- a count and places say what words a command has, a count of 0 that it is damaged. Places from the count on, and all where it is 0, are left free.
+pub record Places (s : List ℕ) (places : List (List ℕ)) (count : ℕ) : Type 0 where
+  pub words : wordsOf s ≡ cond (eqb count 0) none (some (wordsIn s (take count places)))
+  pub room : count ≤ length places
+  pub within : Inside s (take count places)
 
 -- the next word of count, or the end
 unfoldable pub nextOf : ℕ → ℕ → Next

@@ -5,7 +5,7 @@ use mathlib.Core.List.{List, [], _∷_}
 use mathlib.Core.Option.{Option, none, Option·map}
 use Prim.Native.Nat.{ℕ, zero, suc, _+_}
 use lib.Dec.{leb, eqb}
-use lib.ListN.{length, take, drop}
+use lib.ListN.{length, take, drop, getD}
 use Rattle.wire.specs.Lists.{isEmpty, onlyIf, orElse}
 use Rattle.wire.specs.Bytes.{part, same}
 use Rattle.wire.specs.Integer.{readNatural}
@@ -17,6 +17,14 @@ Word = List ℕ
 pub record Read (A : Type 0) : Type 0 where
   pub found : A
   pub rest : List ℕ
+
+-- "1 to 64 bulk strings"
+abbrev pub wordsMost : ℕ
+wordsMost = 64
+
+-- word n of some, empty where there are fewer
+unfoldable pub wordAt : ℕ → List Word → Word
+wordAt n ws = getD ws n []
 
 abbrev pub crlf : List ℕ
 crlf = 13 ∷ 10 ∷ []
@@ -59,5 +67,5 @@ readWords (suc n) s =
 -- the words of a command, or none where the command is damaged
 unfoldable pub wordsOf : List ℕ → Option (List Word)
 wordsOf s =
-    orElse (readCount 42 64 s) none λ n.
+    orElse (readCount 42 wordsMost s) none λ n.
     cond (leb 1 (n .found)) (readWords (n .found) (n .rest)) none

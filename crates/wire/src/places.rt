@@ -3,8 +3,11 @@ ghost use mathlib.Core.Path.{_≡_};
 ghost use Prim.Native.Nat.{_+_, _≤_};
 ghost use lib.ListN.{length, drop};
 ghost use Rattle.wire.specs.Bytes.{part, same};
-ghost use Rattle.wire.specs.Words.{crlf, beforeCR, readCount, readWord};
-ghost use Rattle.wire.specs.Promises.{Places, nextOf, countedFor, placedFor};
+ghost use Rattle.wire.specs.Words.{wordsMost, wordAt, crlf, beforeCR, readCount, readWord};
+ghost use Rattle.wire.specs.Promises.{wordsIn, Inside, Places, nextOf, countedFor, placedFor};
+
+// The most words of a command.
+pub const WORDS_MOST: usize = 64;
 
 // The next word of a command, by its number, or the end of its words.
 pub enum Next {
@@ -100,13 +103,13 @@ fn read_word(s: &[u8], at: usize) -> Placed
     Placed::Word(start, size, end + 2)
 }
 
-// Where the words of a command stand: their number, with their starts and sizes, or 0 where the command is damaged. Entries from the number on, and all
+// Where the words of a command stand: their number, with a place for each, its start and its size, or 0 where the command is damaged. Places from the number on, and all
 // where it is 0, are left free.
-pub fn split(s: &[u8], starts: &mut [usize], sizes: &mut [usize]) -> usize
-    requires { ⌜ (64 ≤ length (now starts)) × (64 ≤ length (now sizes)) ⌝ }
-    ensures { λ r. ⌜ Places (now (s .entry)) (now (starts .exit)) (now (sizes .exit)) r ⌝ }
+pub fn split(s: &[u8], places: &mut [[usize; 2]]) -> usize
+    requires { ⌜ wordsMost ≤ length (now places) ⌝ }
+    ensures { λ r. ⌜ Places (now (s .entry)) (now (places .exit)) r ⌝ }
 {
-    let head = read_count(s, 0, 42, 64);
+    let head = read_count(s, 0, 42, WORDS_MOST as u64);
     let Counted::Count(count, first) = head else {
         return 0;
     };
@@ -117,8 +120,7 @@ pub fn split(s: &[u8], starts: &mut [usize], sizes: &mut [usize]) -> usize
         let Placed::Word(start, size, next) = word else {
             return 0;
         };
-        starts[i] = start;
-        sizes[i] = size;
+        places[i] = [start, size];
         at = next;
         i += 1;
     }
@@ -126,4 +128,17 @@ pub fn split(s: &[u8], starts: &mut [usize], sizes: &mut [usize]) -> usize
         return 0;
     }
     count
+}
+
+// Word i of a command by its place, or no bytes where the command has fewer words.
+pub fn word<'a>(s: &'a [u8], places: &[[usize; 2]], i: usize) -> &'a [u8]
+    requires { ⌜ Inside (now s) (now places) ⌝ }
+    ensures { λ r. ⌜ now r ≡ wordAt i (wordsIn (now (s .entry)) (now (places .entry))) ⌝ }
+{
+    if places.len() <= i {
+        return &s[0..0];
+    }
+    let start = places[i][0];
+    let end = start + places[i][1];
+    &s[start..end]
 }

@@ -9,10 +9,10 @@ use Rattle.wire.proofs.places.split.Statement.{statement}
 use Rattle.wire.proofs.places.split.Tie as tie
 
 abbrev Inv-loop : tie.InvT-loop
-Inv-loop s starts₀ sizes₀ count first at₀ i₀ starts sizes at i = Progress s starts sizes count first at i × (length starts ≡ length starts₀) × (length sizes ≡ length sizes₀)
+Inv-loop s places₀ count first at₀ i₀ places at i = Progress s places count first at i × (length places ≡ length places₀)
 
 abbrev μ-loop : tie.MeasureT-loop
-μ-loop s starts₀ sizes₀ count first at₀ i₀ starts sizes at i = count - i
+μ-loop s places₀ count first at₀ i₀ places at i = count - i
 
 read-count-requires : tie.Need-read-count-requires Inv-loop μ-loop
 read-count-requires c κs = search needs
@@ -27,7 +27,7 @@ returns : tie.Need-returns Inv-loop μ-loop
 returns c = places-headless (sym (c .enum-told .given .1) ∙ c .before .before .read-count .ensures)
 
 loop-holds : tie.Need-loop-holds Inv-loop μ-loop
-loop-holds c = (progress-begins (sym (c .before .head .given .1) ∙ c .before .before .before .read-count .ensures), refl, refl)
+loop-holds c = (progress-begins (sym (c .before .head .given .1) ∙ c .before .before .before .read-count .ensures), refl)
 
 read-word-requires : tie.Need-read-word-requires Inv-loop μ-loop
 read-word-requires c κs = c .before .loop .inv .0 .within
@@ -41,25 +41,16 @@ enum-told-2 c = search needs
 same-length : tie.Need-same-length Inv-loop μ-loop
 same-length c = c .before .before .before .before .loop .inv .1
 
-same-length-2 : tie.Need-same-length-2 Inv-loop μ-loop
-same-length-2 c = c .before .before .before .before .loop .inv .2
-
 returns-2 : tie.Need-returns-2 Inv-loop μ-loop
 returns-2 c =
     places-none (sym (c .before .before .before .before .before .before .head .given .1) ∙ c .before .before .before .before .before .before .before .before .read-count .ensures)
     (progress-damaged (c .before .before .before .before .loop .inv .0) (c .before .before .before .loop-test .taken) (sym (c .enum-told2 .given .1) ∙ c .before .before .read-word .ensures))
 
-mul-starts : tie.Need-mul-starts Inv-loop μ-loop
-mul-starts c = omega arith
+mul-t15 : tie.Need-mul-t15 Inv-loop μ-loop
+mul-t15 c = omega arith
 
-slice-write-starts : tie.Need-slice-write-starts Inv-loop μ-loop
-slice-write-starts c = omega arith
-
-mul-sizes : tie.Need-mul-sizes Inv-loop μ-loop
-mul-sizes c = omega arith
-
-slice-write-sizes : tie.Need-slice-write-sizes Inv-loop μ-loop
-slice-write-sizes c = omega arith
+slice-set-from-places : tie.Need-slice-set-from-places Inv-loop μ-loop
+slice-set-from-places c = omega arith
 
 add-i : tie.Need-add-i Inv-loop μ-loop
 add-i c = omega arith
@@ -70,25 +61,19 @@ loop-less c = omega arith
 loop-again : tie.Need-loop-again Inv-loop μ-loop
 loop-again c =
     let inv = c .before .before .before .before .before .loop .inv in
-    (progress-goes-on (inv .0) (c .before .before .before .before .loop-test .taken) (omega arith) (omega arith) (sym (c .before .word .given .1) ∙ c .before .before .before .read-word .ensures), rw length-set (inv .1), rw length-set (inv .2))
+    (progress-goes-on (inv .0) (c .before .before .before .before .loop-test .taken) (omega arith) (sym (c .before .word .given .1) ∙ c .before .before .before .read-word .ensures), rw length-set (inv .1))
 
-same-length-3 : tie.Need-same-length-3 Inv-loop μ-loop
-same-length-3 c = c .before .before .loop .inv .1
-
-same-length-4 : tie.Need-same-length-4 Inv-loop μ-loop
-same-length-4 c = c .before .before .loop .inv .2
+same-length-2 : tie.Need-same-length-2 Inv-loop μ-loop
+same-length-2 c = c .before .before .loop .inv .1
 
 returns-3 : tie.Need-returns-3 Inv-loop μ-loop
 returns-3 c = places-none (sym (c .before .before .before .before .head .given .1) ∙ c .before .before .before .before .before .before .read-count .ensures) (progress-after (c .before .before .loop .inv .0) (c .before .loop-test .left) (c .if1 .taken))
 
-same-length-5 : tie.Need-same-length-5 Inv-loop μ-loop
-same-length-5 c = c .before .before .loop .inv .1
-
-same-length-6 : tie.Need-same-length-6 Inv-loop μ-loop
-same-length-6 c = c .before .before .loop .inv .2
+same-length-3 : tie.Need-same-length-3 Inv-loop μ-loop
+same-length-3 c = c .before .before .loop .inv .1
 
 returns-4 : tie.Need-returns-4 Inv-loop μ-loop
-returns-4 c = places-all (sym (c .before .before .before .before .head .given .1) ∙ c .before .before .before .before .before .before .read-count .ensures) (c .before .before .loop .inv .0) (c .before .loop-test .left) (c .if1 .left)
+returns-4 c = places-all (sym (c .before .before .before .before .head .given .1) ∙ c .before .before .before .before .before .before .read-count .ensures) (c .before .before .loop .inv .0) (omega (arith, c .before .before .loop .inv .1)) (c .before .loop-test .left) (c .if1 .left)
 
 pub split-spec : {M : Type 1} → statement M
 split-spec =
@@ -105,18 +90,13 @@ split-spec =
     enum-known-word
     enum-told-2
     same-length
-    same-length-2
     returns-2
-    mul-starts
-    slice-write-starts
-    mul-sizes
-    slice-write-sizes
+    mul-t15
+    slice-set-from-places
     add-i
     loop-less
     loop-again
-    same-length-3
-    same-length-4
+    same-length-2
     returns-3
-    same-length-5
-    same-length-6
+    same-length-3
     returns-4)
