@@ -40,7 +40,8 @@ use Rattle.commands.specs.declared.field.Written.{Written}
 use Rattle.commands.specs.declared.field.Written.the-variants as writes
 use Rattle.commands.specs.Refusal.{table, errorLine}
 use Rattle.commands.specs.Effect.{writing, isStale, nextVersion, setterVersion, nextExpiry, barred, written, counted, hasExpiry, setEffect, incrementEffect, expireEffect, persistEffect, renumberEffect}
-use Rattle.commands.specs.Promises.{HeldAt, Seen, Storable, Wrote, Does, Fitting, settle, isRefusal, entryFor, lookFor, slotAfter, heldVersion, heldExpiry, versioned, expiring}
+use Rattle.commands.specs.ParsePromises.{isRefusal}
+use Rattle.commands.specs.Promises.{HeldAt, Seen, Storable, Wrote, Does, Fitting, settle, entryFor, lookFor, slotAfter, heldVersion, heldExpiry, versioned, expiring}
 use Rattle.commands.proofs.Replies.{error-short, few-short}
 use Rattle.commands.proofs.Answers.{held-fits, sign-said, looked-held, looked-entry, looked-missing}
 use Rattle.commands.proofs.Writes.{next-expiry}

@@ -31,7 +31,8 @@ use Rattle.commands.specs.Parse as P
 use Rattle.commands.specs.Parse.{commands, commandNamed, countFits, wordAt, parse}
 use Rattle.commands.specs.Parse.Parsed.{refused, accepted}
 use Rattle.commands.specs.Execute.{run, perform, exec, execBytes, sweep, namedDead}
-use Rattle.commands.specs.Promises.{Does, Passed, runOn, settle, withoutDead, meant, deedOf, commandFor, amountFits, isRefusal}
+use Rattle.commands.specs.ParsePromises.{meant, deedOf, commandFor, isRefusal}
+use Rattle.commands.specs.Promises.{Does, Passed, runOn, settle, withoutDead, amountFits}
 use Rattle.commands.proofs.Acts.{holds-self}
 use Rattle.commands.proofs.Checks.{checks-clear, givenIn, builtOf, parse-refused, parse-accepted}
 use Rattle.commands.proofs.Sound.{parse-clock}

@@ -40,7 +40,7 @@ use Rattle.commands.specs.Options.{signed64, minGroup, maxGroup, Given, 
 use Rattle.commands.specs.Parse.{Form, commands, allowed, optionWords, numberRange, wordAt, pairsOf, build, isZero, deedVersioning, beyond, deedLifetime, onDeed}
 use Rattle.commands.specs.Parse.Form.{setManyForm, expireForm, persistForm, askForm, getManyForm, deleteForm, listForm}
 use Rattle.commands.specs.Parse.Parsed.{accepted}
-use Rattle.commands.specs.Promises.{groupsFrom, groupOf, meaningOf, takesOperand, optionAt, givenAt, Scanned, unitOf, instantIn, versionedFor, termsFor, conditionFor, boundFor, onInteger, sumFor, lowestSigned, highestSigned, commandOf, parseRest, deedOf, commandFor, meant}
+use Rattle.commands.specs.ParsePromises.{groupsFrom, groupOf, meaningOf, takesOperand, optionAt, givenAt, Scanned, unitOf, instantIn, versionedFor, termsFor, conditionFor, boundFor, onInteger, sumFor, lowestSigned, highestSigned, commandOf, parseRest, deedOf, commandFor, meant}
 use Rattle.commands.proofs.Tallies.{allBelow}
 use Rattle.commands.proofs.OptionWords.{option-some, option-none, min-meaning, max-meaning, instant-read}
 use Rattle.commands.proofs.Parsing.{givenIn, unclean, allRead, saidBy, rest-15, rest-16, rest-17, rest-18, rest-said, Ready, scan-unclean, scan-ready, in-group, version-said, version-refused, terms-refused, terms-said, condition-said, bare, bare-read, hasRead, integer-read, integer-value, bound-readable, bound-said}

@@ -29,7 +29,7 @@ use Rattle.commands.specs.Parse.{Form, row, commands, commandNamed, coun
 use Rattle.commands.specs.Parse.Count.{atLeast}
 use Rattle.commands.specs.Parse.Form.{setForm, setManyForm, incrementForm, expireForm, persistForm, renumberForm, askForm, getManyForm, deleteForm, countForm, listForm}
 use Rattle.commands.specs.Parse.Parsed.{refused, accepted}
-use Rattle.commands.specs.Promises.{Split, commandTable, commandOf, parseRest, meant}
+use Rattle.commands.specs.ParsePromises.{Split, commandTable, commandOf, parseRest, meant}
 use Rattle.commands.proofs.Checks.{parse-accepted}
 use Rattle.commands.proofs.RowNumbers.{command-row, command-below}
 use Rattle.commands.proofs.WordPlaces.{length-words}

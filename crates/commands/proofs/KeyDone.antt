@@ -24,7 +24,8 @@ use Rattle.commands.specs.Refusal.{lowest}
 use Rattle.commands.specs.Effect.{answer, listedSlot, effect}
 use Rattle.commands.specs.Effect.Change.{remove}
 use Rattle.commands.specs.Execute.{passes, adds, added, room, lateChecks}
-use Rattle.commands.specs.Promises.{withoutDead, Passed, settle, runOn, Does, Deletes, answerAbout, commandFor}
+use Rattle.commands.specs.ParsePromises.{commandFor}
+use Rattle.commands.specs.Promises.{withoutDead, Passed, settle, runOn, Does, Deletes, answerAbout}
 use Rattle.commands.proofs.Settling.{does-answer}
 use Rattle.commands.proofs.Sweeps.{dead-none}
 

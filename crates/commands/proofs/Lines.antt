@@ -13,7 +13,7 @@ use Rattle.wire.specs.Promises.{Laid}
 use Rattle.wire.proofs.Lists.{and-left, and-right, every-at, both-ways}
 use Rattle.wire.proofs.Bytes.{same-true}
 use Rattle.commands.specs.Refusal.{table, errorLine}
-use Rattle.commands.specs.Promises.{isRefusal}
+use Rattle.commands.specs.ParsePromises.{isRefusal}
 use Rattle.commands.proofs.Computing.{computing}
 
 -- a test of a number that is met, and that each element's number passes

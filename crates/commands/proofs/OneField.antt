@@ -29,7 +29,8 @@ use Rattle.commands.specs.Command.Deed.{assign, increment, expire}
 use Rattle.commands.specs.Command.Command.{onField}
 use Rattle.commands.specs.Parse.{tooLong, beyond, deedLifetime, onDeed}
 use Rattle.commands.specs.Effect.{setEffect, incrementEffect, expireEffect, persistEffect, renumberEffect, reply, deedEffect, effect}
-use Rattle.commands.specs.Promises.{Looked, Seen, Storable, Passed, Does, settle, withSwept, withoutDead, deedOf, amountFits}
+use Rattle.commands.specs.ParsePromises.{deedOf}
+use Rattle.commands.specs.Promises.{Looked, Seen, Storable, Passed, Does, settle, withSwept, withoutDead, amountFits}
 use Rattle.commands.proofs.Settling.{does-answer}
 
 -- What a look leaves is the store without the named dead entry.

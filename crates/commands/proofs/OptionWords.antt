@@ -30,7 +30,7 @@ use Rattle.commands.specs.declared.Versioning.the-variants as versioning
 use Rattle.commands.specs.Options.{Range, times, versions, Meaning, options, group, operandRange, readIn, readable, numberIn, naturalIn, instant, readableOperand, lifetimeOf, versioningOf, conditionOf, expiryGroup, conditionGroup, versionGroup, minGroup, maxGroup}
 use Rattle.commands.specs.Options.Meaning.{expires, versioned, bound}
 use Rattle.commands.specs.Parse.{wordAt}
-use Rattle.commands.specs.Promises.{meaningOf, groupOf, takesOperand, numbered, optionAt, InGroup, unitOf, instantIn, timedFor, versionedFor, conditionFor, boundFor}
+use Rattle.commands.specs.ParsePromises.{meaningOf, groupOf, takesOperand, numbered, optionAt, InGroup, unitOf, instantIn, timedFor, versionedFor, conditionFor, boundFor}
 use Rattle.commands.proofs.Tallies.{allBelow, below-at}
 
 -- ---- numbers

@@ -35,7 +35,7 @@ use Rattle.commands.specs.Options.Meaning.{bound}
 use Rattle.commands.specs.Options.{Range, signed64, Given, options, operandRange, scan, conflicting, givenOf, readIn, readable, numberIn, readableOperand, lifetimeOf, versioningOf, conditionOf, lifetime, versioning, condition, boundIn}
 use Rattle.commands.specs.Parse.{Parsed, allowed, optionWords, numberRange, wordAt, build, isZero, deedVersioning, beyond, deedLifetime, onDeed, checks}
 use Rattle.commands.specs.Parse.Parsed.{refused, accepted}
-use Rattle.commands.specs.Promises.{groupsFrom, groupOf, meaningOf, numbered, takesOperand, optionAt, givenAt, InGroup, Scanned, timedFor, versionedFor, termsFor, conditionFor, boundFor, commandOf, parseRest, meant}
+use Rattle.commands.specs.ParsePromises.{groupsFrom, groupOf, meaningOf, numbered, takesOperand, optionAt, givenAt, InGroup, Scanned, timedFor, versionedFor, termsFor, conditionFor, boundFor, commandOf, parseRest, meant}
 use Rattle.commands.proofs.Answers.{sign-said}
 use Rattle.commands.proofs.OptionWords.{option-some, option-none, operand-word}
 use Rattle.commands.proofs.Tallies.{allBelow, below-at}

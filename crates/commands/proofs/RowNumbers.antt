@@ -18,7 +18,7 @@ use Rattle.wire.proofs.Lists.{and-left, and-right}
 use Rattle.wire.proofs.Bytes.{same-true}
 use Rattle.commands.specs.Options.{OptionRow, Meaning, options, group, optionNamed}
 use Rattle.commands.specs.Parse.{CommandRow, commands, commandNamed}
-use Rattle.commands.specs.Promises.{nameRow, commandTable, optionTable, meaningOf, groupOf}
+use Rattle.commands.specs.ParsePromises.{nameRow, commandTable, optionTable, meaningOf, groupOf}
 use Rattle.commands.proofs.Computing.{computing}
 
 -- ---- rows of names

@@ -22,7 +22,7 @@ use Rattle.wire.specs.Promises.{nextOf}
 use Rattle.commands.specs.declared.options.Given as code
 use Rattle.commands.specs.Options.{Meaning, Range, OptionRow, Given, _with_, options, group, operandRange, optionNamed, scan, conflicting, givenOf}
 use Rattle.commands.specs.Parse.{wordAt}
-use Rattle.commands.specs.Promises.{optionTable, meaningOf, groupOf, takesOperand, optionSize, groupsFrom, numbered, optionAt, givenAt, Scanned}
+use Rattle.commands.specs.ParsePromises.{optionTable, meaningOf, groupOf, takesOperand, optionSize, groupsFrom, numbered, optionAt, givenAt, Scanned}
 use Rattle.commands.proofs.RowNumbers.{option-row, option-below}
 
 -- ---- options by their number

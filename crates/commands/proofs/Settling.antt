@@ -24,7 +24,8 @@ use Rattle.commands.specs.Refusal.{table, lowest, errorLine}
 use Rattle.commands.specs.Effect.{Effect, answer, writing, change, changeAll}
 use Rattle.commands.specs.Effect.Change.{write}
 use Rattle.commands.specs.Execute.{Outcome, passes, adds, added, room, lateChecks}
-use Rattle.commands.specs.Promises.{Does, Wrote, settle, isRefusal, lookFor, versioned, writtenFor}
+use Rattle.commands.specs.ParsePromises.{isRefusal}
+use Rattle.commands.specs.Promises.{Does, Wrote, settle, lookFor, versioned, writtenFor}
 use Rattle.commands.proofs.Checks.{lowest-number}
 use Rattle.commands.proofs.Went.{refusing}
 use Rattle.commands.proofs.Room.{keep-set-less, slot-none}

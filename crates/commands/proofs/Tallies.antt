@@ -22,7 +22,7 @@ use Rattle.commands.specs.Options.{Given, givenOf}
 use Rattle.commands.specs.Parse.{Form, Count, CommandRow, row, commands, countFits, wordAt, pairsOf, build, tooLong}
 use Rattle.commands.specs.Parse.Count.{exactly, atLeast, evenFrom}
 use Rattle.commands.specs.Parse.Form.{setForm, setManyForm, incrementForm, expireForm, persistForm, renumberForm, askForm, getManyForm, deleteForm, countForm, listForm}
-use Rattle.commands.specs.Promises.{Split, commandOf, anyOver, pairOver}
+use Rattle.commands.specs.ParsePromises.{Split, commandOf, anyOver, pairOver}
 use Rattle.commands.proofs.WordPlaces.{length-words, words-at}
 use Rattle.commands.proofs.Scanning.{getD-inside}
 

@@ -7,5 +7,6 @@ pub mod Parse
 pub mod Effect
 pub mod Execute
 pub mod Claims
+pub mod ParsePromises
 pub mod Promises
 pub mod Examples

@@ -9,7 +9,7 @@ ghost use Prim.Native.Nat.{ℕ, _<_};
 ghost use Rattle.wire.specs.Promises.{wordsIn};
 ghost use Rattle.commands.specs.Options.{Given};
 ghost use Rattle.commands.specs.Parse.{countFits, build, tooLong};
-ghost use Rattle.commands.specs.Promises.{Split, commandOf, anyOver, pairOver};
+ghost use Rattle.commands.specs.ParsePromises.{Split, commandOf, anyOver, pairOver};
 
 // The least number of words of each command.
 const LEAST: [usize; 23] = [

@@ -6,7 +6,7 @@ ghost use Prim.Native.Nat.{_≤_};
 ghost use lib.ListN.{length};
 ghost use Rattle.wire.specs.Promises.{Laid};
 ghost use Rattle.commands.specs.Refusal.{errorLine};
-ghost use Rattle.commands.specs.Promises.{isRefusal};
+ghost use Rattle.commands.specs.ParsePromises.{isRefusal};
 
 // The lines of all refusals, one after another, without their ends.
 const LINES: [u8; 346] = *b"-ERR protocol\

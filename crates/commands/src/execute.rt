@@ -21,7 +21,8 @@ ghost use Rattle.store.specs.Store.{decode, wellFormed};
 ghost use Rattle.commands.specs.Command.Command.{onField};
 ghost use Rattle.commands.specs.Parse.{wordAt};
 ghost use Rattle.commands.specs.Execute.{run, execBytes};
-ghost use Rattle.commands.specs.Promises.{Split, Passed, Does, deedOf, commandFor, amountFits};
+ghost use Rattle.commands.specs.ParsePromises.{Split, deedOf, commandFor};
+ghost use Rattle.commands.specs.Promises.{Passed, Does, amountFits};
 
 // Sets the clock, and does a command on one field.
 fn run_on_field(

@@ -42,7 +42,8 @@ ghost use Rattle.store.specs.Time.{entryOf};
 ghost use Rattle.store.specs.Promises.{Held, entryAt, stamped};
 ghost use Rattle.commands.specs.Command.Command.{onField};
 ghost use Rattle.commands.specs.Effect.{writing, written, counted, setEffect, incrementEffect, expireEffect, persistEffect, renumberEffect, effect};
-ghost use Rattle.commands.specs.Promises.{HeldAt, Seen, Storable, Wrote, Does, Passed, entryFor, heldVersion, heldExpiry, deedOf, amountFits, settle, withoutDead};
+ghost use Rattle.commands.specs.ParsePromises.{deedOf};
+ghost use Rattle.commands.specs.Promises.{HeldAt, Seen, Storable, Wrote, Does, Passed, entryFor, heldVersion, heldExpiry, amountFits, settle, withoutDead};
 
 // An entry was written in its place, or the number of its refusal.
 pub enum Written {

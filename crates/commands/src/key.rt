@@ -26,7 +26,8 @@ ghost use Rattle.store.specs.Time.{entryOf, liveOfKey};
 ghost use Rattle.store.specs.Promises.{Held, Holds, entryAt};
 ghost use Rattle.commands.specs.Command.Command.{getMany, delete};
 ghost use Rattle.commands.specs.Effect.{reply, listed, listedSlot};
-ghost use Rattle.commands.specs.Promises.{Split, Passed, Does, runOn, commandFor, withoutDead, answerAbout, Removes, Deletes, widthOf};
+ghost use Rattle.commands.specs.ParsePromises.{Split, commandFor};
+ghost use Rattle.commands.specs.Promises.{Passed, Does, runOn, withoutDead, answerAbout, Removes, Deletes, widthOf};
 
 // Removes the dead entries of a key and the fields that the words from word 2 on name.
 fn sweep_fields(

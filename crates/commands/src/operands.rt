@@ -20,7 +20,7 @@ ghost use Rattle.wire.specs.Integer.{readInteger, lowest64, highest64};
 ghost use Rattle.store.specs.Layout.{timeLimit};
 ghost use Rattle.commands.specs.Options.{expiryGroup, conditionGroup, versionGroup};
 ghost use Rattle.commands.specs.Parse.{wordAt, isZero, beyond};
-ghost use Rattle.commands.specs.Promises.{Split, InGroup, optionAt, givenAt, termsFor, instantIn, timedFor, versionedFor, conditionFor, boundFor, sumFor, lowestSigned, highestSigned};
+ghost use Rattle.commands.specs.ParsePromises.{Split, InGroup, optionAt, givenAt, termsFor, instantIn, timedFor, versionedFor, conditionFor, boundFor, sumFor, lowestSigned, highestSigned};
 
 // A lifetime, or that its number is refused (16).
 pub enum Timed {

@@ -9,7 +9,7 @@ ghost use mathlib.Core.Bool.{true};
 ghost use Prim.Native.Nat.{_<_};
 ghost use lib.ListN.{length};
 ghost use Rattle.wire.specs.Promises.{wordsIn};
-ghost use Rattle.commands.specs.Promises.{Split, Scanned, groupOf, optionSize};
+ghost use Rattle.commands.specs.ParsePromises.{Split, Scanned, groupOf, optionSize};
 
 // How many options there are. An option's number at this is that none was given.
 const OPTIONS: usize = 12;

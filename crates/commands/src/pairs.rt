@@ -23,7 +23,8 @@ ghost use Rattle.commands.specs.declared.Lifetime.the-variants.{Clear};
 ghost use Rattle.commands.specs.Command.Command.{setMany};
 ghost use Rattle.commands.specs.Parse.{wordAt, pairsOf};
 ghost use Rattle.commands.specs.Effect.{written, effect};
-ghost use Rattle.commands.specs.Promises.{Split, withoutDead, withPut, Passed, settle, Does, fieldsIn, timesIn, Pairing, Placing, withAll, surveyOf, newField};
+ghost use Rattle.commands.specs.ParsePromises.{Split};
+ghost use Rattle.commands.specs.Promises.{withoutDead, withPut, Passed, settle, Does, fieldsIn, timesIn, Pairing, Placing, withAll, surveyOf, newField};
 
 // What the pairs would do: pass the largest version (23), or add so many fields.
 pub enum Survey {

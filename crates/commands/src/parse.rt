@@ -27,7 +27,7 @@ ghost use Rattle.wire.specs.Promises.{wordsIn, Places};
 ghost use Rattle.store.specs.Layout.{timeLimit};
 ghost use Rattle.commands.specs.Parse as P;
 ghost use Rattle.commands.specs.declared.Parsed.the-variants as parses;
-ghost use Rattle.commands.specs.Promises.{Split, commandOf, parseRest, meant};
+ghost use Rattle.commands.specs.ParsePromises.{Split, commandOf, parseRest, meant};
 
 // EXHSET from its options on: checks 15 to 18.
 fn parse_set(command: &[u8], starts: &[usize], sizes: &[usize], count: usize, time: u64) -> Parsed

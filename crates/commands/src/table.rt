@@ -3,7 +3,7 @@ use wire::names::Row;
 use wire::names::find;
 ghost use mathlib.Core.Path.{_≡_};
 ghost use Rattle.wire.specs.Promises.{rowFor, rowNamed};
-ghost use Rattle.commands.specs.Promises.{commandTable, optionTable};
+ghost use Rattle.commands.specs.ParsePromises.{commandTable, optionTable};
 
 // The commands, in the order of their numbers.
 const COMMANDS: [u8; 368] = *b"\x06EXHSET\0\0\0\0\0\0\0\0\0\

@@ -8,7 +8,7 @@ use borrow.Author.Needs.{needs}
 use Rattle.wire.specs.Lists.{any}
 use Rattle.wire.specs.Promises.{wordsIn}
 use Rattle.store.specs.Layout.{fieldMost}
-use Rattle.commands.specs.Promises.{anyOver}
+use Rattle.commands.specs.ParsePromises.{anyOver}
 use Rattle.commands.proofs.Tallies.{over-found, over-on, over-ends}
 use Rattle.commands.proofs.counts.any_over.Statement.{statement}
 use Rattle.commands.proofs.counts.any_over.Tie as tie

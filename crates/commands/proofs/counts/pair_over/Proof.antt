@@ -10,7 +10,7 @@ use Rattle.wire.specs.Lists.{any}
 use Rattle.wire.specs.Promises.{wordsIn}
 use Rattle.store.specs.Layout.{fieldMost, valueMost}
 use Rattle.commands.specs.Parse.{pairsOf}
-use Rattle.commands.specs.Promises.{pairOver}
+use Rattle.commands.specs.ParsePromises.{pairOver}
 use Rattle.commands.proofs.Tallies.{pair-field, pair-value, pair-on, pair-ends}
 use Rattle.commands.proofs.counts.pair_over.Statement.{statement}
 use Rattle.commands.proofs.counts.pair_over.Tie as tie

@@ -6,7 +6,8 @@ use Rattle.wire.specs.Promises.{wordsIn}
 use Rattle.store.specs.Store.{decode}
 use Rattle.store.specs.Time.{ofKey, liveOfKey}
 use Rattle.commands.specs.Command.{keyOf, fieldsOf}
-use Rattle.commands.specs.Promises.{commandFor, runOn, fieldsIn}
+use Rattle.commands.specs.ParsePromises.{commandFor}
+use Rattle.commands.specs.Promises.{runOn, fieldsIn}
 use Rattle.commands.proofs.Deeds.{may-count}
 use Rattle.commands.proofs.KeyDone.{does-deed, deed-passed, does-held, does-live, does-list, few-counted}
 use Rattle.commands.proofs.key.on_key.Statement.{statement}

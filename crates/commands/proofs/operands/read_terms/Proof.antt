@@ -1,4 +1,4 @@
-use Rattle.commands.specs.Promises.{givenAt}
+use Rattle.commands.specs.ParsePromises.{givenAt}
 use Rattle.commands.proofs.Parsing.{terms-untimed, terms-unversioned, terms-zero, terms-beyond, terms-both}
 use borrow.Author.Needs.{needs}
 use Rattle.commands.proofs.operands.read_terms.Statement.{statement}

@@ -1,6 +1,6 @@
 use native.Mathlib.Omega.{arith}
 use Rattle.commands.specs.Parse.{commands}
-use Rattle.commands.specs.Promises.{commandOf}
+use Rattle.commands.specs.ParsePromises.{commandOf}
 use Rattle.commands.proofs.Families.{fixed-many, fixed-delete, fixed-list}
 use Rattle.commands.proofs.parse.key_deed.Statement.{statement}
 use Rattle.commands.proofs.parse.key_deed.Tie as tie

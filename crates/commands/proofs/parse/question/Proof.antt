@@ -1,7 +1,7 @@
 use mathlib.Core.Path.{_≡_}
 use native.Mathlib.Omega.{arith}
 use Rattle.commands.specs.Parse.{commands}
-use Rattle.commands.specs.Promises.{commandOf}
+use Rattle.commands.specs.ParsePromises.{commandOf}
 use Rattle.commands.proofs.parse.question.Statement.{statement}
 use Rattle.commands.proofs.parse.question.Tie as tie
 

@@ -1,5 +1,5 @@
 -- The bytes of the code are those of the definition, computed.
-use Rattle.commands.specs.Promises.{nameRow, optionTable}
+use Rattle.commands.specs.ParsePromises.{nameRow, optionTable}
 use Rattle.commands.proofs.Computing.{computing}
 use Rattle.commands.proofs.RowNumbers.{option-table}
 use borrow.Author.Needs.{needs}
