@@ -39,7 +39,6 @@ use Rattle.commands.specs.declared.Question.{Question}
 use Rattle.commands.specs.Effect.{Effect, change, changeAll, timeLeft, reply, writesOf, writing, effect}
 use Rattle.commands.specs.Effect.Change.{remove}
 use Rattle.commands.specs.Execute.{Outcome, passes, lateChecks}
-use Rattle.commands.specs.ParsePromises.{numbered}
 
 -- ---- the store
 
