@@ -10,12 +10,12 @@ use native.Mathlib.Omega.{arith}
 use borrow.Author.Tests.{leb-true, leb-false}
 use Rattle.wire.specs.Lists.{all, orElse}
 use Rattle.wire.proofs.Lists.{and-left, and-right}
-use Rattle.wire.specs.Words.{Word, wordsOf}
+use Rattle.wire.specs.Words.{Word, wordsOf, wordAt}
 use Rattle.store.specs.Layout.{timeLimit}
 use Rattle.commands.specs.Refusal.{Check, lowest}
 use Rattle.commands.specs.Command.{Command}
 use Rattle.commands.specs.Options.{Given, scan, conflicting, readable, readableOperand}
-use Rattle.commands.specs.Parse.{Form, Count, CommandRow, Parsed, commands, commandNamed, countFits, allowed, optionWords, numberRange, wordAt, build, tooLong, isZero, deedVersioning, beyond, deedLifetime, onDeed, checks, parseWords, parse}
+use Rattle.commands.specs.Parse.{Form, Count, CommandRow, Parsed, commands, commandNamed, countFits, allowed, optionWords, numberRange, build, tooLong, isZero, deedVersioning, beyond, deedLifetime, onDeed, checks, parseWords, parse}
 use Rattle.commands.specs.Parse.Parsed.{refused, accepted}
 
 -- What holds of the number of every check holds of the number that is given.

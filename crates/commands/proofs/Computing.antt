@@ -1,4 +1,5 @@
 -- To compute with the definitions of commands: whoever unfolds `computing` unfolds them all, and those of the crates below.
+use Rattle.wire.specs.Words.{wordAt}
 use Rattle.store.proofs.Computing as store
 use Rattle.commands.specs.Claims.{lastOf, execAll}
 use Rattle.commands.specs.Command.{keyOf, fieldsOf, deedValues, valuesOf}
@@ -6,7 +7,7 @@ use Rattle.commands.specs.Effect.{change, changeAll, nextVersion, isStal
 use Rattle.commands.specs.Examples.{into, spaced, performed, given, expected, markedExamples, workedCases}
 use Rattle.commands.specs.Execute.{namedDead, sweep, passes, writes, adds, added, room, lateChecks, run, perform, exec, execBytes}
 use Rattle.commands.specs.Options.{readIn, readable, numberIn, naturalIn, instant, options, group, operandRange, optionNamed, scan, conflicting, readableOperand, givenOf, lifetimeOf, conditionOf, versioningOf, lifetime, condition, versioning, boundIn}
-use Rattle.commands.specs.Parse.{commands, commandNamed, countFits, allowed, optionWords, numberRange, wordAt, pairsOf, build, tooLong, isZero, deedVersioning, beyond, deedLifetime, onDeed, checks, parseWords, parse}
+use Rattle.commands.specs.Parse.{commands, commandNamed, countFits, allowed, optionWords, numberRange, pairsOf, build, tooLong, isZero, deedVersioning, beyond, deedLifetime, onDeed, checks, parseWords, parse}
 use Rattle.commands.specs.Refusal.{table, lineIn, errorLine, lowest}
 
 unfoldable pub computing : Unit {0}

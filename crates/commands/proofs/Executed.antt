@@ -10,7 +10,7 @@ use lib.Dec.{leb, ltb, eqb}
 use lib.ListN.{length, drop}
 use Rattle.wire.specs.Lists.{all, any}
 use Rattle.wire.specs.Bytes.{spells}
-use Rattle.wire.specs.Words.{Word, wordsOf}
+use Rattle.wire.specs.Words.{Word, wordsOf, wordAt}
 use Rattle.wire.specs.Reply.{laidOver}
 use Rattle.wire.specs.Promises.{Laid, wordsIn, Places}
 use Rattle.wire.proofs.Lists.{and-left, and-right}
@@ -28,7 +28,7 @@ use Rattle.commands.specs.Refusal.{table, errorLine}
 use Rattle.commands.specs.Command.{Command}
 use Rattle.commands.specs.Command.Command.{onField}
 use Rattle.commands.specs.Parse as P
-use Rattle.commands.specs.Parse.{commands, commandNamed, countFits, wordAt, parse}
+use Rattle.commands.specs.Parse.{commands, commandNamed, countFits, parse}
 use Rattle.commands.specs.Parse.Parsed.{refused, accepted}
 use Rattle.commands.specs.Execute.{run, perform, exec, execBytes, sweep, namedDead}
 use Rattle.commands.specs.ParsePromises.{meant, deedOf, commandFor, isRefusal}

@@ -13,7 +13,7 @@ use Rattle.wire.specs.declared.integers.Integer.{Integer}
 use Rattle.wire.specs.declared.integers.Integer.the-variants as integers
 use Rattle.wire.specs.Lists.{all, isSome, orElse}
 use Rattle.wire.specs.Integer.{readInteger, lowest64, highest64}
-use Rattle.wire.specs.Words.{Word}
+use Rattle.wire.specs.Words.{Word, wordAt}
 use Rattle.wire.specs.Promises.{integerFor, integerOf}
 use Rattle.store.specs.Layout.{timeLimit, versionMost}
 use Rattle.commands.specs.declared.Condition.{Condition}
@@ -37,7 +37,7 @@ use Rattle.commands.specs.Command.Deed.{expire, persist, ask}
 use Rattle.commands.specs.Command.Command.{onField, setMany, getMany, delete, countLive, countHeld, list}
 use Rattle.commands.specs.Options.Meaning.{bound}
 use Rattle.commands.specs.Options.{signed64, minGroup, maxGroup, Given, options, group, operandRange, scan, conflicting, givenOf, readIn, readable, numberIn, naturalIn, instant, readableOperand, versioning, boundIn}
-use Rattle.commands.specs.Parse.{Form, commands, allowed, optionWords, numberRange, wordAt, pairsOf, build, isZero, deedVersioning, beyond, deedLifetime, onDeed}
+use Rattle.commands.specs.Parse.{Form, commands, allowed, optionWords, numberRange, pairsOf, build, isZero, deedVersioning, beyond, deedLifetime, onDeed}
 use Rattle.commands.specs.Parse.Form.{setManyForm, expireForm, persistForm, askForm, getManyForm, deleteForm, listForm}
 use Rattle.commands.specs.Parse.Parsed.{accepted}
 use Rattle.commands.specs.ParsePromises.{groupsFrom, groupOf, meaningOf, takesOperand, optionAt, givenAt, Scanned, unitOf, instantIn, versionedFor, termsFor, conditionFor, boundFor, onInteger, sumFor, lowestSigned, highestSigned, commandOf, parseRest, deedOf, commandFor, meant}

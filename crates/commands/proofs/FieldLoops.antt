@@ -8,7 +8,7 @@ use native.Mathlib.Omega.{arith}
 use lib.ListN.{length, drop, length-map, length-drop, drop-of-length-le}
 use lib.Seq.{drop-cons}
 use Rattle.wire.specs.Lists.{any, keep, orElse}
-use Rattle.wire.specs.Words.{Word}
+use Rattle.wire.specs.Words.{Word, wordAt}
 use Rattle.wire.specs.Reply.{header, array}
 use Rattle.wire.proofs.Lists.{length-keep}
 use Rattle.store.specs.Store.{Slot, Store, decode, wellFormed}
@@ -18,7 +18,6 @@ use Rattle.store.proofs.Encode.{decode-valid}
 use Rattle.commands.specs.declared.Question.{Question}
 use Rattle.commands.specs.declared.Listing.{Listing}
 use Rattle.commands.specs.declared.Listing.the-variants.{Fields, Values, Both}
-use Rattle.commands.specs.Parse.{wordAt}
 use Rattle.commands.specs.Command.{fieldsOf}
 use Rattle.commands.specs.Command.Command.{getMany, list}
 use Rattle.commands.specs.Effect.{changeAll, listedSlot, effect}

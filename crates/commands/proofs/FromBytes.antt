@@ -12,7 +12,7 @@ use Rattle.wire.specs.declared.names.Row.{Row}
 use Rattle.wire.specs.declared.names.Row.the-variants as rows
 use Rattle.wire.specs.Lists.{isSome, orElse}
 use Rattle.wire.specs.Integer.{readInteger, lowest64, highest64, within}
-use Rattle.wire.specs.Words.{Word, wordsOf}
+use Rattle.wire.specs.Words.{Word, wordsOf, wordAt}
 use Rattle.wire.specs.Promises.{wordsIn, Places, rowFor, rowNamed}
 use Rattle.wire.proofs.Integer.{read-within}
 use Rattle.store.specs.Layout.{timeLimit}
@@ -25,7 +25,7 @@ use Rattle.commands.specs.Command.Deed.{increment}
 use Rattle.commands.specs.Command.Command.{onField, countLive, countHeld}
 use Rattle.commands.specs.Options.{signed64, Given, givenOf, readIn, numberIn}
 use Rattle.commands.specs.Parse as P
-use Rattle.commands.specs.Parse.{Form, row, commands, commandNamed, countFits, wordAt, build, tooLong, checks, parseWords}
+use Rattle.commands.specs.Parse.{Form, row, commands, commandNamed, countFits, build, tooLong, checks, parseWords}
 use Rattle.commands.specs.Parse.Count.{atLeast}
 use Rattle.commands.specs.Parse.Form.{setForm, setManyForm, incrementForm, expireForm, persistForm, renumberForm, askForm, getManyForm, deleteForm, countForm, listForm}
 use Rattle.commands.specs.Parse.Parsed.{refused, accepted}

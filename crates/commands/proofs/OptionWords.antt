@@ -15,7 +15,7 @@ use Rattle.wire.specs.declared.integers.Integer.{Integer}
 use Rattle.wire.specs.declared.integers.Integer.the-variants as integers
 use Rattle.wire.specs.Lists.{isSome, orElse}
 use Rattle.wire.specs.Integer.{readInteger, readNatural, lowest64, highest64}
-use Rattle.wire.specs.Words.{Word}
+use Rattle.wire.specs.Words.{Word, wordAt}
 use Rattle.wire.specs.Promises.{naturalFor, integerFor}
 use Rattle.wire.proofs.Lists.{and-left, and-right}
 use Rattle.wire.proofs.Integer.{natural-read, readNatural-most}
@@ -29,7 +29,6 @@ use Rattle.commands.specs.declared.Versioning.{Versioning}
 use Rattle.commands.specs.declared.Versioning.the-variants as versionings
 use Rattle.commands.specs.Options.{Range, times, versions, Meaning, options, group, operandRange, readIn, readable, numberIn, naturalIn, instant, readableOperand, lifetimeOf, versioningOf, conditionOf, expiryGroup, conditionGroup, versionGroup, minGroup, maxGroup}
 use Rattle.commands.specs.Options.Meaning.{expires, versioned, bound}
-use Rattle.commands.specs.Parse.{wordAt}
 use Rattle.commands.specs.ParsePromises.{meaningOf, groupOf, takesOperand, numbered, optionAt, InGroup, unitOf, instantIn, timedFor, versionedFor, conditionFor, boundFor}
 use Rattle.commands.proofs.Tallies.{allBelow, below-at}
 

@@ -10,7 +10,7 @@ use lib.Dec.{ltb, eqb}
 use lib.ListN.{length, drop, length-drop, length-map}
 use Rattle.wire.specs.Lists.{any, keep, orElse, isSome}
 use Rattle.wire.specs.Bytes.{same}
-use Rattle.wire.specs.Words.{Word}
+use Rattle.wire.specs.Words.{Word, wordAt}
 use Rattle.wire.specs.Reply.{line}
 use Rattle.wire.specs.Promises.{Laid}
 use Rattle.wire.proofs.Lists.{or-left, or-right, or-neither, length-keep}
@@ -27,7 +27,7 @@ use Rattle.store.proofs.Searches.{any-lowest}
 use Rattle.commands.specs.declared.pairs.Survey.the-variants as surveys
 use Rattle.commands.specs.Command.{Pair, keyOf, fieldsOf, valuesOf}
 use Rattle.commands.specs.Command.Command.{setMany}
-use Rattle.commands.specs.Parse.{wordAt, pairsOf, tooLong}
+use Rattle.commands.specs.Parse.{pairsOf, tooLong}
 use Rattle.commands.specs.Effect.{change, changeAll, nextExpiry, written, writesOf, effect}
 use Rattle.commands.specs.Effect.Change.{write}
 use Rattle.commands.specs.Refusal.{errorLine, lowest}

@@ -14,7 +14,7 @@ use Rattle.wire.specs.declared.integers.Integer.{Integer}
 use Rattle.wire.specs.declared.integers.Integer.the-variants as integers
 use Rattle.wire.specs.Lists.{all, isSome, orElse}
 use Rattle.wire.specs.Integer.{readInteger, lowest64, highest64}
-use Rattle.wire.specs.Words.{Word}
+use Rattle.wire.specs.Words.{Word, wordAt}
 use Rattle.wire.specs.Promises.{signedFor, integerFor, integerOf}
 use Rattle.commands.specs.declared.Condition.the-variants as conditions
 use Rattle.commands.specs.declared.Lifetime.{Lifetime}
@@ -33,7 +33,7 @@ use Rattle.commands.specs.Refusal.{lowest}
 use Rattle.commands.specs.Command.{Command}
 use Rattle.commands.specs.Options.Meaning.{bound}
 use Rattle.commands.specs.Options.{Range, signed64, Given, options, operandRange, scan, conflicting, givenOf, readIn, readable, numberIn, readableOperand, lifetimeOf, versioningOf, conditionOf, lifetime, versioning, condition, boundIn}
-use Rattle.commands.specs.Parse.{Parsed, allowed, optionWords, numberRange, wordAt, build, isZero, deedVersioning, beyond, deedLifetime, onDeed, checks}
+use Rattle.commands.specs.Parse.{Parsed, allowed, optionWords, numberRange, build, isZero, deedVersioning, beyond, deedLifetime, onDeed, checks}
 use Rattle.commands.specs.Parse.Parsed.{refused, accepted}
 use Rattle.commands.specs.ParsePromises.{groupsFrom, groupOf, meaningOf, numbered, takesOperand, optionAt, givenAt, InGroup, Scanned, timedFor, versionedFor, termsFor, conditionFor, boundFor, commandOf, parseRest, meant}
 use Rattle.commands.proofs.Answers.{sign-said}

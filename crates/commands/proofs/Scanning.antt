@@ -13,7 +13,7 @@ use lib.Seq.{drop-cons, getD-set-same, getD-set-other}
 use Rattle.wire.specs.declared.names.Row.{Row}
 use Rattle.wire.specs.declared.names.Row.the-variants as rows
 use Rattle.wire.specs.Lists.{all, any, isSome, onlyIf, orElse}
-use Rattle.wire.specs.Words.{Word}
+use Rattle.wire.specs.Words.{Word, wordAt}
 use Rattle.wire.specs.Promises.{rowFor, rowNamed}
 use Rattle.wire.proofs.Lists.{or-left, or-right, or-neither, or-late, all-at}
 use Rattle.wire.specs.declared.places.Next.{Next}
@@ -21,7 +21,6 @@ use Rattle.wire.specs.declared.places.Next.the-variants as nexts
 use Rattle.wire.specs.Promises.{nextOf}
 use Rattle.commands.specs.declared.options.Given as code
 use Rattle.commands.specs.Options.{Meaning, Range, OptionRow, Given, _with_, options, group, operandRange, optionNamed, scan, conflicting, givenOf}
-use Rattle.commands.specs.Parse.{wordAt}
 use Rattle.commands.specs.ParsePromises.{optionTable, meaningOf, groupOf, takesOperand, optionSize, groupsFrom, numbered, optionAt, givenAt, Scanned}
 use Rattle.commands.proofs.RowNumbers.{option-row, option-below}
 

@@ -11,7 +11,7 @@ use native.Mathlib.Omega.{arith}
 use borrow.Author.Tests.{ltb-false, ltb-true}
 use Rattle.wire.specs.Lists.{any, isSome}
 use Rattle.wire.specs.Bytes.{Bytes}
-use Rattle.wire.specs.Words.{Word, wordsOf}
+use Rattle.wire.specs.Words.{Word, wordsOf, wordAt}
 use Rattle.wire.proofs.Words.{words-bytes, words-count}
 use Rattle.wire.proofs.Lists.{or-left, or-right, any-at}
 use Rattle.store.specs.Layout.{keyMost, fieldMost, valueMost, timeLimit}
@@ -19,7 +19,7 @@ use Rattle.commands.specs.Command.{Deed, Command, keyOf, fieldsOf, value
 use Rattle.commands.specs.Command.Deed.{assign}
 use Rattle.commands.specs.Command.Command.{onField, countHeld, countLive}
 use Rattle.commands.specs.Options.{Given, givenOf, noExpGroup, lifetime, condition, versioning}
-use Rattle.commands.specs.Parse.{Form, wordAt, pairsOf, build, tooLong, beyond, deedLifetime, onDeed, parse}
+use Rattle.commands.specs.Parse.{Form, pairsOf, build, tooLong, beyond, deedLifetime, onDeed, parse}
 use Rattle.commands.specs.Parse.Form.{setForm, setManyForm, incrementForm, expireForm, persistForm, renumberForm, askForm, getManyForm, deleteForm, countForm, listForm}
 use Rattle.commands.specs.Parse.Parsed.{accepted}
 use Rattle.commands.proofs.Checks.{checks-clear, Accepted, parse-accepted, givenIn, builtOf}

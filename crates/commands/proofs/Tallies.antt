@@ -12,14 +12,14 @@ use lib.ListN.{length, drop, getD, List·getD-map, length-take, length-drop, dro
 use lib.Seq.{drop-cons}
 use Rattle.wire.specs.Lists.{any, isSome}
 use Rattle.wire.specs.Bytes.{part}
-use Rattle.wire.specs.Words.{Word}
+use Rattle.wire.specs.Words.{Word, wordAt}
 use Rattle.wire.specs.Promises.{wordsIn}
 use Rattle.wire.proofs.Lists.{and-left, and-right, or-late}
 use Rattle.store.specs.Layout.{keyMost, fieldMost, valueMost}
 use Rattle.commands.specs.Command.{Pair, Command, keyOf, fieldsOf, deedValues, valuesOf}
 use Rattle.commands.specs.Command.Command.{countHeld, countLive}
 use Rattle.commands.specs.Options.{Given, givenOf}
-use Rattle.commands.specs.Parse.{Form, Count, CommandRow, row, commands, countFits, wordAt, pairsOf, build, tooLong}
+use Rattle.commands.specs.Parse.{Form, Count, CommandRow, row, commands, countFits, pairsOf, build, tooLong}
 use Rattle.commands.specs.Parse.Count.{exactly, atLeast, evenFrom}
 use Rattle.commands.specs.Parse.Form.{setForm, setManyForm, incrementForm, expireForm, persistForm, renumberForm, askForm, getManyForm, deleteForm, countForm, listForm}
 use Rattle.commands.specs.ParsePromises.{Split, commandOf, anyOver, pairOver}

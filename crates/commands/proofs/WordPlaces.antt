@@ -6,9 +6,9 @@ use native.Mathlib.Nat.{not-suc-le-zero}
 use native.Mathlib.Omega.{arith}
 use lib.ListN.{length, take, drop, getD, List·getD-eq-default}
 use lib.Seq.{getD-drop}
+use Rattle.wire.specs.Words.{wordAt}
 use Rattle.wire.specs.Bytes.{part}
 use Rattle.wire.specs.Promises.{wordIn, wordsIn}
-use Rattle.commands.specs.Parse.{wordAt}
 
 -- there are as many words as places
 pub length-words : (count : ℕ) (s starts sizes : List ℕ) → length (wordsIn count s starts sizes) ≡ count

@@ -14,7 +14,7 @@ use Rattle.wire.specs.Words.{Word}
 use Rattle.wire.specs.Reply.{line, nil, integer, number, bulk, array}
 use Rattle.store.specs.declared.Expiry.{Expiry}
 use Rattle.store.specs.declared.Expiry.the-variants.{Never, At}
-use Rattle.store.specs.Store.{Entry, Slot, holds}
+use Rattle.store.specs.Store.{Entry, entry, withVersion, withExpiry, Slot, holds}
 use Rattle.store.specs.Time.{keyExists, ofKey, liveOfKey, entryOf, put, without}
 use Rattle.commands.specs.declared.Versioning.{Versioning}
 use Rattle.commands.specs.declared.Versioning.the-variants.{Next, Match, Exactly}
@@ -97,7 +97,7 @@ barred Live found = not (isSome found)
 
 unfoldable pub written : Word → Word → Word → Versioning → Lifetime → Option Entry → Entry
 written k f v n t found =
-    record { key = k; field = f; value = v; version = nextVersion n found; expiry = nextExpiry t found }
+    entry k f v (nextVersion n found) (nextExpiry t found)
 
 -- "New 1, overwritten 0."
 unfoldable pub setEffect : Word → Word → Word → Condition → Versioning → Lifetime → Option Entry → Effect
@@ -127,7 +127,7 @@ unfoldable pub expireEffect : ℕ → Versioning → Option Entry → Effect
 expireEffect t n found =
     orElse found (answer (number 0)) λ e.
     writing (isStale n found)
-    (record { key = e .key; field = e .field; value = e .value; version = setterVersion n e; expiry = At t })
+    (withVersion (setterVersion n e) (withExpiry (At t) e))
     (number 1)
 
 unfoldable pub hasExpiry : Expiry → Bool
@@ -139,14 +139,14 @@ unfoldable pub persistEffect : Option Entry → Effect
 persistEffect found =
     orElse found (answer (number 0)) λ e.
     cond (hasExpiry (e .expiry))
-    (writing false (record { key = e .key; field = e .field; value = e .value; version = e .version; expiry = Never }) (number 1))
+    (writing false (withExpiry Never e) (number 1))
     (answer (number 0))
 
 -- "EXHSETVER (0 allowed): missing 0, else 1."
 unfoldable pub renumberEffect : ℕ → Option Entry → Effect
 renumberEffect v found =
     orElse found (answer (number 0)) λ e.
-    writing false (record { key = e .key; field = e .field; value = e .value; version = v; expiry = e .expiry }) (number 1)
+    writing false (withVersion v e) (number 1)
 
 -- "EXHPTTL: missing -2, no expiry -1, else expiry less now. EXHTTL: .. that difference divided by 1,000 and rounded down."
 unfoldable pub timeLeft : ℕ → ℕ → Expiry → ℤ

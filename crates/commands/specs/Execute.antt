@@ -9,7 +9,7 @@ use Rattle.wire.specs.Lists.{any, keep, orElse}
 use Rattle.wire.specs.Bytes.{same}
 use Rattle.wire.specs.Words.{Word}
 use Rattle.store.specs.Layout.{versionMost}
-use Rattle.store.specs.Store.{Entry, Slot, Store, decode, encode, holds}
+use Rattle.store.specs.Store.{Entry, Slot, Store, withClock, withSlots, decode, encode, holds}
 use Rattle.store.specs.Time.{nowAt, live, roomSlot, without}
 use Rattle.commands.specs.Refusal.{Check, _when_, lowest, errorLine}
 use Rattle.commands.specs.Command.{Command, keyOf, fieldsOf}
@@ -18,12 +18,16 @@ use Rattle.commands.specs.Parse.Parsed.{refused, accepted}
 use Rattle.commands.specs.Effect.{Change, Effect, effect, changeAll}
 use Rattle.commands.specs.Effect.Change.{write, remove}
 
--- "if it names fields, every dead entry it names is removed next"
-unfoldable pub namedDead : ℕ → Command → Entry → Bool
-namedDead now c e = same (e .key) (keyOf c) && any (same (e .field)) (fieldsOf c) && not (live now e)
+-- a dead entry of a key and one of some fields
+unfoldable pub namedDead : ℕ → Word → List Word → Entry → Bool
+namedDead now k fs e = same (e .key) k && any (same (e .field)) fs && not (live now e)
 
-unfoldable pub sweep : ℕ → Command → List Slot → List Slot
-sweep now c ss = without (namedDead now c) ss
+-- "if it names fields, every dead entry it names is removed next"
+unfoldable pub sweep : ℕ → Word → List Word → List Slot → List Slot
+sweep now k fs ss = without (namedDead now k fs) ss
+
+abbrev pub swept : ℕ → Word → List Word → Store → Store
+swept now k fs s = withSlots (sweep now k fs (s .slots)) s
 
 -- 23: "version would pass its largest, at any pair of an EXHMSET"
 unfoldable pub passes : Change → Bool
@@ -68,22 +72,32 @@ pub record Outcome : Type 0 where
   pub reply : List ℕ
   pub store : Store
 
--- "Every command that passes checks 10 to 18 sets the store's clock to now"; "20 to 24 set the clock and remove named dead entries only."
+abbrev pub refusedWith : ℕ → Store → Outcome
+refusedWith n s = record { refusal = some n; reply = errorLine n; store = s }
+
+abbrev pub doneWith : List ℕ → Store → Outcome
+doneWith reply s = record { refusal = none; reply = reply; store = s }
+
+-- an effect on a store whose clock is set and whose named dead entries are gone: "20 to 24 set the clock and remove named dead entries only."
+unfoldable pub settle : ℕ → Effect → Store → Outcome
+settle now e s =
+    orElse (lowest (lateChecks now e (s .slots)))
+    (doneWith (e .reply) (withSlots (changeAll now (e .changes) (s .slots)) s))
+    λ n. refusedWith n s
+
+-- a command on a store whose clock is set
+unfoldable pub runOn : ℕ → Command → Store → Outcome
+runOn now c s =
+    let cleared : Store = swept now (keyOf c) (fieldsOf c) s in
+    settle now (effect now c (cleared .slots)) cleared
+
+-- "Every command that passes checks 10 to 18 sets the store's clock to now"
 unfoldable pub run : ℕ → Command → Store → Outcome
-run now c s =
-    let swept : List Slot = sweep now c (s .slots) in
-    let e : Effect = effect now c swept in
-    orElse (lowest (lateChecks now e swept))
-    (record {
-      refusal = none;
-      reply = e .reply;
-      store = record { clock = now; slots = changeAll now (e .changes) swept };
-    })
-    λ n. record { refusal = some n; reply = errorLine n; store = record { clock = now; slots = swept } }
+run now c s = runOn now c (withClock now s)
 
 -- "10 to 18 use the record and leave the whole store."
 unfoldable pub perform : ℕ → Parsed → Store → Outcome
-perform now (refused n) s = record { refusal = some n; reply = errorLine n; store = s }
+perform now (refused n) s = refusedWith n s
 perform now (accepted c) s = run now c s
 
 -- "Now is the larger of the store's clock and the record's."

@@ -9,7 +9,7 @@ use lib.ListN.{length, drop, getD}
 use Rattle.wire.specs.Lists.{all, any, isSome, orElse}
 use Rattle.wire.specs.Bytes.{spells}
 use Rattle.wire.specs.Integer.{lowest64, highest64}
-use Rattle.wire.specs.Words.{Word, wordsOf}
+use Rattle.wire.specs.Words.{Word, wordAt, wordsOf}
 use Rattle.store.specs.Layout.{keyMost, fieldMost, valueMost, timeLimit}
 use Rattle.commands.specs.declared.Versioning.{Versioning}
 use Rattle.commands.specs.declared.Versioning.the-variants.{Next, Match, Exactly}
@@ -136,9 +136,6 @@ numberRange countForm = none
 numberRange (listForm l) = none
 
 -- ---- what the words say
-
-unfoldable pub wordAt : ℕ → List Word → Word
-wordAt n ws = getD ws n []
 
 unfoldable pub pairsOf : List Word → List Pair
 pairsOf [] = []

@@ -10,7 +10,7 @@ use lib.ListN.{length, drop, getD}
 use Rattle.wire.specs.Lists.{any, isSome, orElse}
 use Rattle.wire.specs.Bytes.{text, padded}
 use Rattle.wire.specs.Integer.{readInteger, lowest64, highest64}
-use Rattle.wire.specs.Words.{Word}
+use Rattle.wire.specs.Words.{Word, wordAt}
 use Rattle.wire.specs.declared.integers.Signed.{Signed}
 use Rattle.wire.specs.declared.integers.Integer.{Integer}
 use Rattle.wire.specs.declared.integers.Integer.the-variants as integers
@@ -44,7 +44,7 @@ use Rattle.commands.specs.Command.Command.{onField, setMany, getMany, de
 use Rattle.commands.specs.Options as O
 use Rattle.commands.specs.Options.{Meaning, options, group, operandRange, scan, conflicting, readableOperand, givenOf, lifetimeOf, conditionOf, versioningOf}
 use Rattle.commands.specs.Parse as P
-use Rattle.commands.specs.Parse.{commands, wordAt, pairsOf, beyond, allowed, optionWords, build, checks, isZero}
+use Rattle.commands.specs.Parse.{commands, pairsOf, beyond, allowed, optionWords, build, checks, isZero}
 
 -- ---- words
 
@@ -218,4 +218,3 @@ parseRest time i ws =
     let scanned : Option (List O.Given) = scan (allowed (commandOf i .form)) none (optionWords (commandOf i .form) ws) in
     let c : Command = build time (commandOf i .form) ws (Option·getD scanned []) in
     orElse (lowest (drop 2 (checks (commandOf i .form) (commandOf i .count) ws scanned c))) (P.Parsed.accepted c) P.Parsed.refused
-

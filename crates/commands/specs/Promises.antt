@@ -8,37 +8,38 @@ use lib.Dec.{ltb, eqb}
 use lib.IntN.{negsuc}
 use lib.ListN.{length}
 use Rattle.wire.specs.Lists.{any, keep, orElse}
-use Rattle.wire.specs.Bytes.{Bytes, same}
+use Rattle.wire.specs.Bytes.{same}
 use Rattle.wire.specs.Integer.{lowest64, highest64, within}
 use Rattle.wire.specs.Words.{Word}
 use Rattle.wire.specs.declared.integers.Signed.{Signed}
+use Rattle.wire.specs.Reply.{laidOver}
 use Rattle.wire.specs.Promises.{signedFor, integerOf, Laid}
 use Rattle.store.specs.declared.Expiry.{Expiry}
 use Rattle.store.specs.declared.Expiry.the-variants.{Never}
 use Rattle.store.specs.declared.Found.{Found}
 use Rattle.store.specs.declared.Found.the-variants as founds
-use Rattle.store.specs.Layout.{keyMost, fieldMost, valueMost, versionMost, timeLimit}
-use Rattle.store.specs.Store.{Entry, Slot, Store, decode, wellFormed, instantOf, holds}
-use Rattle.store.specs.Time.{live, keyExists, lowestSlot, entryOf, slotFor, put, without, emptySlot, deadSlot}
-use Rattle.store.specs.Promises.{foundFor, entryAt, Held, Holds, entry}
+use Rattle.store.specs.Layout.{versionMost}
+use Rattle.store.specs.Store.{Entry, entry, Slot, Store, withSlots, decode, wellFormed, holds}
+use Rattle.store.specs.Time.{keyExists, lowestSlot, entryOf, slotFor, put, emptySlot, deadSlot}
+use Rattle.store.specs.Valid.{Short}
+use Rattle.store.specs.Promises.{foundFor, entryAt, Held, Holds}
 use Rattle.commands.specs.declared.FieldDeed.{FieldDeed}
 use Rattle.commands.specs.declared.FieldDeed.the-variants as fieldDeeds
 use Rattle.commands.specs.declared.Lifetime.{Lifetime}
 use Rattle.commands.specs.declared.field.Written.{Written}
 use Rattle.commands.specs.declared.field.Written.the-variants as writes
-use Rattle.commands.specs.declared.operands.Added.{Added}
 use Rattle.commands.specs.declared.pairs.Survey.{Survey}
 use Rattle.commands.specs.declared.pairs.Survey.the-variants as surveys
-use Rattle.commands.specs.Refusal.{lowest, errorLine}
-use Rattle.commands.specs.Command.{Pair, Command, keyOf, fieldsOf}
+use Rattle.commands.specs.Command.{Pair, Command}
 use Rattle.commands.specs.Command.Command.{setMany}
-use Rattle.commands.specs.Parse.{commands, pairsOf, tooLong, onDeed, beyond, deedLifetime, checks}
+use Rattle.commands.specs.Parse.{pairsOf, tooLong, onDeed, beyond, deedLifetime}
 use Rattle.commands.specs.declared.Listing.{Listing}
 use Rattle.commands.specs.declared.Listing.the-variants.{Fields, Values, Both}
 use Rattle.commands.specs.declared.Question.{Question}
-use Rattle.commands.specs.Effect.{Effect, change, changeAll, timeLeft, reply, writesOf, writing, effect}
+use Rattle.commands.specs.Effect.{change, changeAll, timeLeft, reply, writesOf, writing}
 use Rattle.commands.specs.Effect.Change.{remove}
-use Rattle.commands.specs.Execute.{Outcome, passes, lateChecks}
+use Rattle.commands.specs.declared.Executed.{Executed}
+use Rattle.commands.specs.Execute.{Outcome, Done, passes, settle}
 
 -- ---- the store
 
@@ -55,26 +56,9 @@ unfoldable pub slotAfter : ℕ → Found → List Slot → Found
 slotAfter now (founds.At i) ss = founds.At i
 slotAfter now founds.Nothing ss = foundFor (orElse (lowestSlot emptySlot ss) (lowestSlot (deadSlot now) ss) some)
 
--- a store without the entry of a key and a field, if that is dead
-unfoldable pub withSwept : ℕ → List ℕ → List ℕ → Store → Store
-withSwept now k f s =
-    record { clock = s .clock; slots = without (λ e. same (e .key) k && same (e .field) f && not (live now e)) (s .slots) }
-
 -- a store with an entry put in its place
 unfoldable pub withPut : ℕ → Entry → Store → Store
-withPut now e s = record { clock = s .clock; slots = put now e (s .slots) }
-
--- a well-formed store, and an entry that a slot can hold
-pub record Fitting (b : List ℕ) (e : Entry) : Type 0 where
-  pub well : wellFormed b ≡ true
-  pub key : length (e .key) ≤ keyMost
-  pub field : length (e .field) ≤ fieldMost
-  pub value : length (e .value) ≤ valueMost
-  pub version : e .version ≤ versionMost
-  pub expiry : instantOf (e .expiry) ≤ timeLimit
-  pub keyBytes : Bytes (e .key)
-  pub fieldBytes : Bytes (e .field)
-  pub valueBytes : Bytes (e .value)
+withPut now e s = withSlots (put now e (s .slots)) s
 
 -- ---- replies
 
@@ -93,35 +77,20 @@ pub record Passed (c : Command) : Type 0 where
   pub short : tooLong c ≡ false
   pub timed : onDeed (λ d. beyond (deedLifetime d)) c ≡ false
 
--- an effect on a store whose clock is set and whose named dead entries are gone: refused by 20 to 24, or done
-unfoldable pub settle : ℕ → Effect → Store → Outcome
-settle now e s =
-    orElse (lowest (lateChecks now e (s .slots)))
-    (record {
-      refusal = none;
-      reply = e .reply;
-      store = record { clock = s .clock; slots = changeAll now (e .changes) (s .slots) };
-    })
-    λ n. record { refusal = some n; reply = errorLine n; store = s }
-
--- a store without the dead entries of a key and some fields
-unfoldable pub withoutDead : ℕ → Word → List Word → Store → Store
-withoutDead now k fs s =
-    record {
-      clock = s .clock;
-      slots = without (λ e. same (e .key) k && any (same (e .field)) fs && not (live now e)) (s .slots);
-    }
-
--- a command on a store whose clock is set
-unfoldable pub runOn : ℕ → Command → Store → Outcome
-runOn now c s =
-    let swept : Store = withoutDead now (keyOf c) (fieldsOf c) s in
-    settle now (effect now c (swept .slots)) swept
+-- the longest answer about one field: an array of a value and a version
+abbrev pub answerMost : ℕ
+answerMost = 146
 
 -- an outcome in bytes: its reply is laid at the buffer's start, and the bytes are its store
 pub record Does (o : Outcome) (after before buffer : List ℕ) (r : ℕ) : Type 0 where
   pub laid : Laid (o .reply) before buffer r
   pub holds : Holds after (o .store)
+
+-- a record was done on a store's bytes: the store, the reply's length, and the reply over the start of the buffer
+pub record Replied (d : Done) (store before after : List ℕ) (r : Executed) : Type 0 where
+  pub size : r .replied ≡ length (d .reply)
+  pub stored : store ≡ d .store
+  pub bytes : after ≡ laidOver (d .reply) before
 
 -- the entry of a slot that was found
 unfoldable pub entryFor : List Slot → Found → Option Entry
@@ -142,12 +111,12 @@ widthOf Both = 2
 
 -- the entry of a key and a field is gone, and r says how many that was
 pub record Removes (k f : Word) (s : Store) (after : List ℕ) (r : ℕ) : Type 0 where
-  pub store : (now : ℕ) → Holds after (record { clock = s .clock; slots = change now (remove k f) (s .slots) })
+  pub store : (now : ℕ) → Holds after (withSlots (change now (remove k f) (s .slots)) s)
   pub count : r ≡ length (keep (holds k f) (s .slots))
 
 -- the entries of a key and some fields are gone, and r says how many that were
 pub record Deletes (k : Word) (fs : List Word) (s : Store) (after : List ℕ) (r : ℕ) : Type 0 where
-  pub store : (now : ℕ) → Holds after (record { clock = s .clock; slots = changeAll now (map (remove k) fs) (s .slots) })
+  pub store : (now : ℕ) → Holds after (withSlots (changeAll now (map (remove k) fs) (s .slots)) s)
   pub count : r ≡ length (keep (λ x. any (λ f. holds k f x) fs) (s .slots))
 
 -- what a field has, a missing one version 0 and no expiry
@@ -200,9 +169,7 @@ surveyOf k fs ss = cond (overflowing (versionIn k ss) fs) surveys.Overflow (surv
 -- a pair that can be written
 pub record Pairing (b : List ℕ) (k f v : Word) : Type 0 where
   pub well : wellFormed b ≡ true
-  pub key : length k ≤ keyMost
-  pub field : length f ≤ fieldMost
-  pub value : length v ≤ valueMost
+  pub short : Short k f v
   pub version : versionIn k (decode b .slots) f < versionMost
 
 -- pairs that can be written one after the other
@@ -213,7 +180,7 @@ pub record Placing (now : ℕ) (k : Word) (ps : List Pair) (b : List ℕ) : Type
 
 -- a store with pairs written one after the other
 unfoldable pub withAll : ℕ → Word → List Pair → Store → Store
-withAll now k ps s = record { clock = s .clock; slots = changeAll now (writesOf now k ps (s .slots)) (s .slots) }
+withAll now k ps s = withSlots (changeAll now (writesOf now k ps (s .slots)) (s .slots)) s
 
 -- a slot that was found holds an entry
 abbrev pub HeldAt : List ℕ → Found → Type 0
@@ -226,9 +193,7 @@ pub record Seen (b k f : List ℕ) (found : Found) : Type 0 where
 
 -- a key, a field, a value and a lifetime that a slot can hold
 pub record Storable (k f v : List ℕ) (t : Lifetime) : Type 0 where
-  pub key : length k ≤ keyMost
-  pub field : length f ≤ fieldMost
-  pub value : length v ≤ valueMost
+  pub short : Short k f v
   pub lifetime : beyond t ≡ false
 
 -- the amount that a deed adds is of signed 64 bits

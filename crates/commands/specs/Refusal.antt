@@ -34,6 +34,17 @@ table =
     ∷ 24 says "-ERR store is full"
     ∷ []
 
+-- "10 to 18 use the record and leave the whole store. 20 to 24 set the clock and remove named dead entries only.": the last of each
+abbrev pub earlyMost : ℕ
+earlyMost = 18
+
+abbrev pub lateMost : ℕ
+lateMost = 24
+
+-- 3: "reply buffer under 56,000 bytes"
+abbrev pub bufferLeast : ℕ
+bufferLeast = 56000
+
 unfoldable pub lineIn : List Row → ℕ → List ℕ
 lineIn [] n = []
 lineIn (r ∷ rs) n =

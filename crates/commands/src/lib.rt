@@ -12,7 +12,6 @@ mod pairs;
 mod parse;
 mod table;
 mod versions;
-mod words;
 
 use wire::integers::Signed;
 
@@ -87,4 +86,9 @@ pub enum Parsed {
     Refused(u32),
     OnField(FieldDeed),
     OnKey(KeyDeed),
+}
+
+// What doing a command answers: the reply's length.
+pub struct Executed {
+    pub replied: usize,
 }

@@ -15,11 +15,12 @@ use wire::integers::read_natural;
 ghost use mathlib.Core.Path.{_≡_};
 ghost use Prim.Native.Nat.{_≤_, _<_};
 ghost use lib.ListN.{getD};
+ghost use Rattle.wire.specs.Words.{wordAt};
 ghost use Rattle.wire.specs.Promises.{wordsIn, integerFor};
 ghost use Rattle.wire.specs.Integer.{readInteger, lowest64, highest64};
 ghost use Rattle.store.specs.Layout.{timeLimit};
 ghost use Rattle.commands.specs.Options.{expiryGroup, conditionGroup, versionGroup};
-ghost use Rattle.commands.specs.Parse.{wordAt, isZero, beyond};
+ghost use Rattle.commands.specs.Parse.{isZero, beyond};
 ghost use Rattle.commands.specs.ParsePromises.{Split, InGroup, optionAt, givenAt, termsFor, instantIn, timedFor, versionedFor, conditionFor, boundFor, sumFor, lowestSigned, highestSigned};
 
 // A lifetime, or that its number is refused (16).

@@ -14,7 +14,7 @@ use Rattle.store.specs.declared.Expiry.the-variants.{Never, At}
 use Rattle.store.specs.declared.Found.{Found}
 use Rattle.store.specs.declared.Found.the-variants as founds
 use Rattle.store.specs.Layout.{headerSize, slotSize, stateAt, keyLengthAt, keyAt, keyMost, fieldAt, fieldMost, emptyState, versionSize, expirySize}
-use Rattle.store.specs.Store.{Entry, entry, withVersion, withExpiry, Slot, Store, decodeSlot, slotsIn, decode, slotsWithin, slotCount, slotWell, sizeTests, wellFormed, instantOf, holds, clash, stateOf}
+use Rattle.store.specs.Store.{Entry, entry, withVersion, withExpiry, Slot, Store, withSlots, decodeSlot, slotsIn, decode, slotsWithin, slotCount, slotWell, sizeTests, wellFormed, instantOf, holds, clash, stateOf}
 use Rattle.store.specs.Valid.{Short, Fits}
 use Rattle.store.specs.Time.{lowestSlot, emptySlot}
 
@@ -155,11 +155,8 @@ lowestFrom i p ss = Option·map (λ j. i + j) (lowestSlot p (drop i ss))
 
 -- ---- changes
 
-abbrev pub withClock : ℕ → Store → Store
-withClock t s = record { clock = t; slots = s .slots }
-
 abbrev pub withSlot : ℕ → Slot → Store → Store
-withSlot i x s = record { clock = s .clock; slots = set (s .slots) i x }
+withSlot i x s = withSlots (set (s .slots) i x) s
 
 -- an entry with another version and expiry
 abbrev pub stamped : ℕ → Expiry → Entry → Entry

@@ -41,6 +41,12 @@ pub record Store : Type 0 where
   pub clock : ℕ
   pub slots : List Slot
 
+abbrev pub withClock : ℕ → Store → Store
+withClock t s = record { clock = t; slots = s .slots }
+
+abbrev pub withSlots : List Slot → Store → Store
+withSlots ss s = record { clock = s .clock; slots = ss }
+
 -- ---- from bytes
 
 unfoldable pub decodeExpiry : List ℕ → Expiry

@@ -4,10 +4,9 @@ use Prim.Native.Nat.{_+_, _-_}
 use native.Mathlib.Omega.{arith}
 use denote.Ref.{now}
 use lib.ListN.{drop}
-use Rattle.wire.specs.Words.{Word}
+use Rattle.wire.specs.Words.{Word, wordAt}
 use Rattle.wire.specs.Promises.{wordsIn}
 use Rattle.store.specs.Store.{decode}
-use Rattle.commands.specs.Parse.{wordAt}
 use Rattle.commands.specs.Promises.{fieldsIn, timesIn}
 use Rattle.commands.proofs.WordPlaces.{length-words}
 use Rattle.commands.proofs.Deeds.{seen-held}
