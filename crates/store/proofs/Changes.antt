@@ -14,9 +14,9 @@ use Rattle.wire.specs.Bytes.{toLE, part}
 use Rattle.wire.proofs.Bytes.{length-toLE}
 use Rattle.store.specs.declared.Expiry.{Expiry}
 use Rattle.store.specs.Layout.{headerSize, slotSize, clockSize, reservedSize, timeLimit, versionMost}
-use Rattle.store.specs.Store.{Entry, Slot, Store, slotCount, decode, encodeEntry, encodeSlot, encode, clash, instantOf, wellFormed}
+use Rattle.store.specs.Store.{Entry, Slot, Store, slotCount, decode, encodeEntry, encodeSlot, encode, clash, instantOf, wellFormed, withClock}
 use Rattle.store.specs.Time.{emptySlot}
-use Rattle.store.specs.Promises.{Held, Holds, Placeable, entryAt, withClock, withSlot, stamped, stampedBytes}
+use Rattle.store.specs.Promises.{Held, Holds, Placeable, entryAt, withSlot, stamped, stampedBytes}
 use Rattle.store.specs.Valid.{Fits, FitsSlot, AllFit, Valid}
 use Rattle.store.proofs.Put.{getD-set, apart-set}
 use Rattle.store.proofs.SlotBytes.{length-encodeSlot}
@@ -150,19 +150,7 @@ pub slot-placed : (b : List ℕ) (i : ℕ) (e : Entry) (y : List ℕ) → Placea
     → Holds (replaced i b y) (withSlot i (some e) (decode b))
 unfolding encodeSlot clash orElse
 slot-placed b i e y p q =
-    slot-put b (p .well) i (p .inside) (some e) y
-    (record {
-      key = p .key;
-      field = p .field;
-      value = p .value;
-      version = p .version;
-      expiry = p .expiry;
-      keyBytes = p .keyBytes;
-      fieldBytes = p .fieldBytes;
-      valueBytes = p .valueBytes;
-    })
-    (p .alone)
-    q
+    slot-put b (p .well) i (p .inside) (some e) y (p .fits) (p .alone) q
 
 -- a slot that is not empty holds its entry
 pub held-entry : (ss : List Slot) (i : ℕ) → emptySlot (getD ss i none) ≡ false → getD ss i none ≡ some (entryAt ss i)
@@ -172,6 +160,18 @@ held-entry ss i h = go (getD ss i none) refl
     go : (o : Slot) → getD ss i none ≡ o → getD ss i none ≡ some (entryAt ss i)
     go none q = let z : _≡_ {A = Bool} true false = rw q at h in absurd (false≢true (sym z))
     go (some e) q = q ∙ rw q
+
+-- an entry with another version and expiry fits if these do
+pub stamped-fits : {e : Entry} (n : ℕ) (x : Expiry) → Fits e → n ≤ versionMost → instantOf x ≤ timeLimit → Fits (stamped n x e)
+stamped-fits n x h u w =
+    record {
+      short = h .short;
+      version = u;
+      expiry = w;
+      keyBytes = h .keyBytes;
+      fieldBytes = h .fieldBytes;
+      valueBytes = h .valueBytes;
+    }
 
 -- the entry of a slot is stamped anew
 module _ (b : List ℕ) (i : ℕ) (n : ℕ) (x : Expiry) (y : List ℕ) (p : Held b i) where
@@ -200,15 +200,6 @@ module _ (b : List ℕ) (i : ℕ) (n : ℕ) (x : Expiry) (y : List ℕ) (p : Hel
   unfolding encodeSlot old
   slot-stamped u w q =
       slot-put b (p .well) i (p .inside) (some (stamped n x old)) y
-      (record {
-        key = fits .key;
-        field = fits .field;
-        value = fits .value;
-        version = u;
-        expiry = w;
-        keyBytes = fits .keyBytes;
-        fieldBytes = fits .fieldBytes;
-        valueBytes = fits .valueBytes;
-      })
+      (stamped-fits n x fits u w)
       alone
       (q ∙ ap (stampedBytes n x) bytes ∙ stamp-entry old n x)

@@ -12,7 +12,7 @@ use Rattle.wire.specs.Bytes.{Bytes, fromLE, toLE, part, allZero}
 use Rattle.wire.proofs.Lists.{and-both, and-left, and-right, every-at}
 use Rattle.wire.proofs.Bytes.{bytes-append, bytes-take, bytes-drop, bytes-toLE, bytes-zeros, fromLE-toLE, length-toLE, zero-replicate}
 use Rattle.store.specs.Layout.{headerSize, slotSize, slotsMost, clockSize, reservedSize, timeLimit}
-use Rattle.store.specs.Store.{Slot, Store, decodeSlot, slotsIn, slotCount, slotBytes, clockOf, decode, encodeSlot, encode, slotWell, distinct, wellFormed}
+use Rattle.store.specs.Store.{Slot, Store, decodeSlot, slotsIn, slotCount, slotBytes, clockOf, decode, encodeSlot, encode, slotWell, distinct, sizeTests, headerTests, wellFormed}
 use Rattle.store.specs.Valid.{AllFit, Valid}
 use Rattle.store.proofs.Pieces.{length-part, number-back, zeros-are}
 use Rattle.store.proofs.SlotBytes.{length-encodeSlot, decode-encodeSlot, well-encodeSlot, bytes-encodeSlot}
@@ -113,17 +113,16 @@ module _ (s : Store) (v : Valid s) where
 
   -- a valid store's bytes are a store
   pub encode-well : wellFormed (encode s) ≡ true
-  unfolding wellFormed every
+  unfolding wellFormed slotCount sizeTests headerTests every
   encode-well =
       rw (count-encode, slots-decode, slots-encode, clock-encode)
       (and-both bytes-encode
+      (and-both
       (and-both (eq-eqb (length (encode s)) (headerSize + slotSize * length (s .slots)) length-encode)
-      (and-both (le-leb 1 (length (s .slots)) (v .least))
-      (and-both (le-leb (length (s .slots)) slotsMost (v .most))
-      (and-both (lt-ltb (s .clock) timeLimit (v .clock))
-      (and-both reserved-encode
-      (and-both (well-slots (s .slots) (v .fits))
-      (and-both (apart-distinct (s .slots) (v .apart)) refl))))))))
+      (and-both (le-leb 1 (length (s .slots)) (v .least)) (and-both (le-leb (length (s .slots)) slotsMost (v .most)) refl)))
+      (and-both
+      (and-both (lt-ltb (s .clock) timeLimit (v .clock)) (and-both reserved-encode refl))
+      (and-both (well-slots (s .slots) (v .fits)) (and-both (apart-distinct (s .slots) (v .apart)) refl)))))
 
 -- ---- the bytes of slots that pass their test
 
@@ -187,17 +186,19 @@ pub record WellFormed (b : List ℕ) : Type 0 where
 
 -- bytes that are a store pass each test
 pub well-formed : (b : List ℕ) → wellFormed b ≡ true → WellFormed b
-unfolding wellFormed
+unfolding wellFormed slotCount sizeTests headerTests
 well-formed b h =
+    let sized : every (sizeTests (length b)) ≡ true = every-at _ h 1 in
+    let headed : every (headerTests b) ≡ true = every-at _ h 2 in
     record {
       bytes = every-at _ h 0;
-      size = eqb-true (length b) (headerSize + slotSize * slotCount b) (every-at _ h 1);
-      least = leb-true 1 (slotCount b) (every-at _ h 2);
-      most = leb-true (slotCount b) slotsMost (every-at _ h 3);
-      clock = ltb-true (clockOf b) timeLimit (every-at _ h 4);
-      reserved = every-at _ h 5;
-      slots = every-at _ h 6;
-      apart = every-at _ h 7;
+      size = eqb-true (length b) (headerSize + slotSize * slotCount b) (every-at _ sized 0);
+      least = leb-true 1 (slotCount b) (every-at _ sized 1);
+      most = leb-true (slotCount b) slotsMost (every-at _ sized 2);
+      clock = ltb-true (clockOf b) timeLimit (every-at _ headed 0);
+      reserved = every-at _ headed 1;
+      slots = every-at _ h 3;
+      apart = every-at _ h 4;
     }
 
 -- a store has as many slots as its bytes

@@ -15,7 +15,7 @@ use Rattle.wire.proofs.Bytes.{bytes-flatten, bytes-padded, bytes-toLE, bytes-ze
 use Rattle.store.specs.declared.Expiry.{Expiry}
 use Rattle.store.specs.declared.Expiry.the-variants.{Never, At}
 use Rattle.store.specs.Layout.{slotSize, stateAt, keyLengthAt, fieldLengthAt, valueLengthAt, emptyState, expiringState, versionAt, versionSize, expiryAt, expirySize, keyAt, keyMost, fieldAt, fieldMost, valueAt, valueMost, timeLimit}
-use Rattle.store.specs.Store.{Entry, Slot, decodeExpiry, decodeEntry, decodeSlot, stateOf, instantOf, encodeEntry, encodeSlot, zeroBeyond, heldWell, slotWell}
+use Rattle.store.specs.Store.{Entry, Slot, decodeExpiry, decodeEntry, decodeSlot, stateOf, instantOf, encodeEntry, encodeSlot, zeroBeyond, heldWell, lengthTests, expiryTests, placeTests, slotWell}
 use Rattle.store.specs.Valid.{Fits, FitsSlot}
 use Rattle.store.proofs.Pieces.{total, cut, cut-flatten, length-flatten, take-part}
 
@@ -77,9 +77,9 @@ module _ (e : Entry) (h : Fits e) where
       rw (
         length-toLE versionSize (e .version),
         length-toLE expirySize (instantOf (e .expiry)),
-        length-padded keyMost (e .key) (h .key),
-        length-padded fieldMost (e .field) (h .field),
-        length-padded valueMost (e .value) (h .value),
+        length-padded keyMost (e .key) (h .short .key),
+        length-padded fieldMost (e .field) (h .short .field),
+        length-padded valueMost (e .value) (h .short .value),
       )
 
   -- an entry's bytes are as many as a slot has
@@ -141,13 +141,13 @@ module _ (e : Entry) (h : Fits e) where
   expiry-at = rw expiry-bytes (fromLE-toLE expirySize (instantOf (e .expiry)) (omega (arith, h .expiry)))
 
   pub key-at : part keyAt (length (e .key)) (encodeEntry e) ≡ e .key
-  key-at = used-at keyAt keyMost (e .key) (encodeEntry e) (h .key) key-bytes
+  key-at = used-at keyAt keyMost (e .key) (encodeEntry e) (h .short .key) key-bytes
 
   pub field-at : part fieldAt (length (e .field)) (encodeEntry e) ≡ e .field
-  field-at = used-at fieldAt fieldMost (e .field) (encodeEntry e) (h .field) field-bytes
+  field-at = used-at fieldAt fieldMost (e .field) (encodeEntry e) (h .short .field) field-bytes
 
   pub value-at : part valueAt (length (e .value)) (encodeEntry e) ≡ e .value
-  value-at = used-at valueAt valueMost (e .value) (encodeEntry e) (h .value) value-bytes
+  value-at = used-at valueAt valueMost (e .value) (encodeEntry e) (h .short .value) value-bytes
 
   -- ---- what is read of it
 
@@ -163,18 +163,21 @@ module _ (e : Entry) (h : Fits e) where
 
   -- an entry's bytes pass the tests of a held slot
   pub well-encodeEntry : heldWell (encodeEntry e) ≡ true
-  unfolding heldWell every
+  unfolding heldWell lengthTests expiryTests placeTests every
   well-encodeEntry =
       rw (state-at, key-length-at, field-length-at, value-length-at, expiry-at, expiry-bytes)
+      (and-both
       (and-both (well-state (e .expiry))
-      (and-both (le-leb (length (e .key)) keyMost (h .key))
-      (and-both (le-leb (length (e .field)) fieldMost (h .field))
-      (and-both (le-leb (length (e .value)) valueMost (h .value))
-      (and-both (well-expiry (e .expiry))
-      (and-both (le-leb (instantOf (e .expiry)) timeLimit (h .expiry))
+      (and-both (le-leb (length (e .key)) keyMost (h .short .key))
+      (and-both (le-leb (length (e .field)) fieldMost (h .short .field))
+      (and-both (le-leb (length (e .value)) valueMost (h .short .value)) refl))))
+      (and-both
+      (and-both (well-expiry (e .expiry)) (and-both (le-leb (instantOf (e .expiry)) timeLimit (h .expiry)) refl))
+      (and-both
       (and-both (beyond-at keyAt keyMost (e .key) (encodeEntry e) key-bytes)
       (and-both (beyond-at fieldAt fieldMost (e .field) (encodeEntry e) field-bytes)
-      (and-both (beyond-at valueAt valueMost (e .value) (encodeEntry e) value-bytes) refl)))))))))
+      (and-both (beyond-at valueAt valueMost (e .value) (encodeEntry e) value-bytes) refl)))
+      refl)))
 
   -- an entry's bytes are bytes
   pub bytes-encodeEntry : Bytes (encodeEntry e)
@@ -187,9 +190,9 @@ module _ (e : Entry) (h : Fits e) where
       each : (i : ℕ) → Bytes (getD (pieces e) i [])
       each zero =
           and-both (lt-ltb (stateOf (e .expiry)) 256 (state (e .expiry)))
-          (and-both (lt-ltb (length (e .key)) 256 (omega (arith, h .key)))
-          (and-both (lt-ltb (length (e .field)) 256 (omega (arith, h .field)))
-          (and-both (lt-ltb (length (e .value)) 256 (omega (arith, h .value))) refl)))
+          (and-both (lt-ltb (length (e .key)) 256 (omega (arith, h .short .key)))
+          (and-both (lt-ltb (length (e .field)) 256 (omega (arith, h .short .field)))
+          (and-both (lt-ltb (length (e .value)) 256 (omega (arith, h .short .value))) refl)))
       each (suc zero) = bytes-toLE versionSize (e .version)
       each (suc (suc zero)) = bytes-toLE expirySize (instantOf (e .expiry))
       each (suc (suc (suc zero))) = bytes-padded keyMost (e .key) (h .keyBytes)

@@ -15,8 +15,7 @@ use Rattle.wire.proofs.Lists.{every-at}
 use Rattle.wire.proofs.Bytes.{bytes-part, zero-split, fromLE-none}
 use Rattle.wire.proofs.Passing.{or-zero, fromLE-drop}
 use Rattle.store.specs.Layout.{stateAt, keyLengthAt, fieldLengthAt, valueLengthAt, emptyState, expiringState, expiryAt, expirySize, keyAt, keyMost, fieldAt, fieldMost, valueAt, valueMost, timeLimit}
-use Rattle.store.specs.Store.{zeroBeyond, heldWell, slotWell}
-use Rattle.store.specs.Promises.{lengthTests, expiryTests, placeTests}
+use Rattle.store.specs.Store.{zeroBeyond, heldWell, slotWell, lengthTests, expiryTests, placeTests}
 use Rattle.store.proofs.Pieces.{take-part}
 
 -- ---- tests in parts
@@ -38,8 +37,8 @@ every-fails (false ∷ ts) (suc i) h = refl
 
 -- a held slot passes its tests of lengths, expiry and places
 pub held-parts : (t : List ℕ) → heldWell t ≡ every (lengthTests t) && (every (expiryTests t) && every (placeTests t))
-unfolding heldWell lengthTests expiryTests placeTests
-held-parts t = every-append (lengthTests t) (expiryTests t ++ placeTests t) ∙ rw (every-append (expiryTests t) (placeTests t))
+unfolding heldWell every
+held-parts t = rw (and-true (every (placeTests t)))
 
 module _ (t : List ℕ) where
   -- the test of an empty slot

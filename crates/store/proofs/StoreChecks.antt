@@ -16,8 +16,8 @@ use Rattle.wire.specs.Bytes.{Bytes, part, allZero}
 use Rattle.wire.proofs.Lists.{all-at, every-at}
 use Rattle.wire.proofs.Bytes.{bytes-part}
 use Rattle.store.specs.Layout.{headerSize, slotSize, slotsMost, clockSize, reservedSize, timeLimit}
-use Rattle.store.specs.Store.{decodeSlot, slotsIn, slotCount, slotBytes, clockOf, decode, slotWell, holds, distinct, wellFormed}
-use Rattle.store.specs.Promises.{SlotBytes, slotAt, sizeTests, countFor, headerWell, slotsOf, SlotsWell}
+use Rattle.store.specs.Store.{decodeSlot, slotsIn, slotsWithin, slotCount, slotBytes, clockOf, decode, slotWell, holds, distinct, wellFormed, sizeTests, headerTests}
+use Rattle.store.specs.Promises.{SlotBytes, slotAt, countFor, slotsOf, SlotsWell}
 use Rattle.store.proofs.Pieces.{length-part}
 use Rattle.store.proofs.Encode.{length-slotsIn}
 use Rattle.store.proofs.Places.{slotsIn-at}
@@ -121,7 +121,7 @@ module _ (k f : List ℕ) (count : ℕ) (b : List ℕ) (from : ℕ) where
 
 module _ (size : ℕ) where
   abbrev slots : ℕ
-  slots = (size - headerSize) / slotSize
+  slots = slotsWithin size
 
   -- the count by the size, as the code finds it
   count-failed : every (sizeTests size) ≡ false → 0 ≡ countFor size
@@ -169,24 +169,14 @@ module _ (size : ℕ) where
 -- ---- all tests
 
 module _ (b : List ℕ) where
-  abbrev laterTests : List Bool
-  laterTests = ltb (clockOf b) timeLimit ∷ allZero (part clockSize reservedSize b) ∷ all slotWell (slotBytes b) ∷ distinct (decode b .slots) ∷ []
+  -- header and slots are well formed, and no two slots have the same name
+  abbrev laterTests : Bool
+  laterTests = every (headerTests b) && (all slotWell (slotBytes b) && distinct (decode b .slots))
 
   -- the tests of a store: bytes, size, and the others
-  parts : wellFormed b ≡ areBytes b && (every (sizeTests (length b)) && every laterTests)
-  unfolding wellFormed slotCount sizeTests every
-  parts = every-append (areBytes b ∷ []) (sizeTests (length b) ++ laterTests) ∙ rw (and-true (areBytes b), every-append (sizeTests (length b)) laterTests)
-
-  later : every laterTests ≡ headerWell b && (all slotWell (slotBytes b) && distinct (decode b .slots))
-  unfolding every headerWell
-  later = go (ltb (clockOf b) timeLimit) (allZero (part clockSize reservedSize b)) (all slotWell (slotBytes b)) (distinct (decode b .slots))
-    where
-      go : (p q r s : Bool) → p && (q && (r && (s && true))) ≡ p && q && (r && s)
-      go true true true true = refl
-      go true true true false = refl
-      go true true false s = refl
-      go true false r s = refl
-      go false q r s = refl
+  parts : wellFormed b ≡ areBytes b && (every (sizeTests (length b)) && laterTests)
+  unfolding wellFormed every
+  parts = rw (and-true (distinct (decode b .slots)))
 
   module _ (n : ℕ) (e : n ≡ countFor (length b)) where
     -- bytes of another size are no store
@@ -194,7 +184,7 @@ module _ (b : List ℕ) where
     unfolding countFor sizeTests
     size-wrong z = rw parts (go (every (sizeTests (length b))) refl)
       where
-        go : (x : Bool) → every (sizeTests (length b)) ≡ x → areBytes b && (x && every laterTests) ≡ false
+        go : (x : Bool) → every (sizeTests (length b)) ≡ x → areBytes b && (x && laterTests) ≡ false
         go true q =
             let s : countFor (length b) ≡ slots (length b) = rw q in
             absurd (omega (arith, leb-true 1 (slots (length b)) (every-at _ q 1)))
@@ -212,6 +202,6 @@ module _ (b : List ℕ) where
       slots-inside = rw e (omega (arith, count-fits (length b) nonzero))
 
       -- bytes of a store's size are one if header and slots are well formed and no two slots have the same name
-      pub size-right : Bytes b → wellFormed b ≡ headerWell b && (all slotWell (slotsIn n (drop headerSize b)) && distinct (slotsOf n b))
+      pub size-right : Bytes b → wellFormed b ≡ every (headerTests b) && (all slotWell (slotsIn n (drop headerSize b)) && distinct (slotsOf n b))
       unfolding slotBytes slotCount decode slotsOf
-      size-right y = rw (parts, y, counted (length b) nonzero, e, count-is (length b) nonzero) later
+      size-right y = rw (parts, y, counted (length b) nonzero, e, count-is (length b) nonzero)

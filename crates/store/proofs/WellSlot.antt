@@ -9,12 +9,13 @@ use native.Mathlib.Omega.{arith}
 use lib.Dec.{eqb}
 use lib.ListN.{length, getD}
 use borrow.Author.Tests.{leb-true, eqb-true, eqb-false}
+use Rattle.wire.specs.Lists.{every}
 use Rattle.wire.specs.Bytes.{Bytes, fromLE, toLE, part, padded, allZero}
 use Rattle.wire.proofs.Lists.{every-at}
 use Rattle.wire.proofs.Bytes.{bytes-part, padded-is}
 use Rattle.store.specs.declared.Expiry.the-variants.{Never, At}
 use Rattle.store.specs.Layout.{slotSize, stateAt, keyLengthAt, fieldLengthAt, valueLengthAt, emptyState, expiringState, versionAt, versionSize, expiryAt, expirySize, keyAt, keyMost, fieldAt, fieldMost, valueAt, valueMost, timeLimit}
-use Rattle.store.specs.Store.{Slot, decodeExpiry, decodeEntry, decodeSlot, stateOf, instantOf, encodeEntry, encodeSlot, zeroBeyond, heldWell, slotWell}
+use Rattle.store.specs.Store.{Slot, decodeExpiry, decodeEntry, decodeSlot, stateOf, instantOf, encodeEntry, encodeSlot, zeroBeyond, lengthTests, expiryTests, placeTests, heldWell, slotWell}
 use Rattle.store.specs.Valid.{Fits, FitsSlot}
 use Rattle.store.proofs.Pieces.{total, cut, flatten-cut, length-part, take-part, number-back, number-below, zeros-are}
 use Rattle.store.proofs.SlotBytes.{sizes, pieces, encode-pieces}
@@ -33,18 +34,21 @@ pub record Held (t : List ℕ) : Type 0 where
 
 -- bytes that pass the tests of a held slot pass each of them
 pub held-well : (t : List ℕ) → heldWell t ≡ true → Held t
-unfolding heldWell
+unfolding heldWell lengthTests expiryTests placeTests
 held-well t h =
+    let lengths : every (lengthTests t) ≡ true = every-at _ h 0 in
+    let expires : every (expiryTests t) ≡ true = every-at _ h 1 in
+    let places : every (placeTests t) ≡ true = every-at _ h 2 in
     record {
-      state = leb-true (getD t stateAt 0) expiringState (every-at _ h 0);
-      key = leb-true (getD t keyLengthAt 0) keyMost (every-at _ h 1);
-      field = leb-true (getD t fieldLengthAt 0) fieldMost (every-at _ h 2);
-      value = leb-true (getD t valueLengthAt 0) valueMost (every-at _ h 3);
-      never = every-at _ h 4;
-      expiry = leb-true (fromLE (part expiryAt expirySize t)) timeLimit (every-at _ h 5);
-      keyBeyond = every-at _ h 6;
-      fieldBeyond = every-at _ h 7;
-      valueBeyond = every-at _ h 8;
+      state = leb-true (getD t stateAt 0) expiringState (every-at _ lengths 0);
+      key = leb-true (getD t keyLengthAt 0) keyMost (every-at _ lengths 1);
+      field = leb-true (getD t fieldLengthAt 0) fieldMost (every-at _ lengths 2);
+      value = leb-true (getD t valueLengthAt 0) valueMost (every-at _ lengths 3);
+      never = every-at _ expires 0;
+      expiry = leb-true (fromLE (part expiryAt expirySize t)) timeLimit (every-at _ expires 1);
+      keyBeyond = every-at _ places 0;
+      fieldBeyond = every-at _ places 1;
+      valueBeyond = every-at _ places 2;
     }
 
 -- ---- the pieces of a slot's bytes, each written back from what it means
@@ -124,9 +128,7 @@ module _ (t : List ℕ) (l : length t ≡ slotSize) (b : Bytes t) (w : Held t) (
   unfolding decodeEntry
   decode-fitsEntry =
       record {
-        key = rw key-length (w .key);
-        field = rw field-length (w .field);
-        value = rw value-length (w .value);
+        short = record { key = rw key-length (w .key); field = rw field-length (w .field); value = rw value-length (w .value) };
         version = omega (arith, number-below versionAt versionSize t (omega arith) b);
         expiry = expiry-most;
         keyBytes = bytes-part keyAt (getD t keyLengthAt 0) t b;

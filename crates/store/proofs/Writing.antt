@@ -11,7 +11,7 @@ use Rattle.wire.specs.Reply.{laidOver}
 use Rattle.wire.proofs.Bytes.{length-padded}
 use Rattle.wire.proofs.Laying.{take-laid, length-laid}
 use Rattle.store.specs.declared.Expiry.{Expiry}
-use Rattle.store.specs.Layout.{slotSize, versionSize, expirySize}
+use Rattle.store.specs.Layout.{slotSize, keyLengthAt, fieldLengthAt, valueLengthAt, versionSize, expirySize, keyAt, keyMost, fieldAt, fieldMost, valueAt, valueMost}
 use Rattle.store.specs.Store.{Entry, encodeEntry, stateOf, instantOf}
 use Rattle.store.specs.Promises.{Writable, stamped, stampedBytes}
 
@@ -47,7 +47,7 @@ stamp-written (a ∷ a₁ ∷ a₂ ∷ a₃ ∷ t) n x b z u w l p o q r =
     rw (v, s, p, drop-drop 8 4 t)
 
 -- a slot's bytes keep their number
-pub stamp-size : (t : List ℕ) (k f v : ℕ) (u : List ℕ) → length t ≡ slotSize → length u ≡ length (set (set (set t 1 k) 2 f) 3 v) → length u ≡ slotSize
+pub stamp-size : (t : List ℕ) (k f v : ℕ) (u : List ℕ) → length t ≡ slotSize → length u ≡ length (set (set (set t keyLengthAt k) 2 f) 3 v) → length u ≡ slotSize
 stamp-size t k f v u n e = e ∙ rw (length-set, length-set, length-set) n
 
 -- an entry's bytes stamped anew are those of the entry stamped anew
@@ -83,23 +83,23 @@ fixed : Entry → List ℕ
 fixed e = stateOf (e .expiry) ∷ length (e .key) ∷ length (e .field) ∷ length (e .value) ∷ (toLE versionSize (e .version) ++ toLE expirySize (instantOf (e .expiry)))
 
 module _ (e : Entry) (t u : List ℕ) (h : Writable t (e .key) (e .field) (e .value))
-    (q : u ≡ stampedBytes (e .version) (e .expiry) (set (set (set t 1 (length (e .key) % 256)) 2 (length (e .field) % 256)) 3 (length (e .value) % 256))) where
+    (q : u ≡ stampedBytes (e .version) (e .expiry) (set (set (set t keyLengthAt (length (e .key) % 256)) fieldLengthAt (length (e .field) % 256)) valueLengthAt (length (e .value) % 256))) where
   -- the lengths and the stamp are the first 16 bytes
   begun : Begun (fixed e) u
   unfolding fixed toLE stampedBytes part
   begun = go t (h .size) q
     where
       k : length (e .key) % 256 ≡ length (e .key)
-      k = omega (arith, h .key)
+      k = omega (arith, h .short .key)
 
       f : length (e .field) % 256 ≡ length (e .field)
-      f = omega (arith, h .field)
+      f = omega (arith, h .short .field)
 
       v : length (e .value) % 256 ≡ length (e .value)
-      v = omega (arith, h .value)
+      v = omega (arith, h .short .value)
 
       go : (t : List ℕ) → length t ≡ slotSize
-          → u ≡ stampedBytes (e .version) (e .expiry) (set (set (set t 1 (length (e .key) % 256)) 2 (length (e .field) % 256)) 3 (length (e .value) % 256))
+          → u ≡ stampedBytes (e .version) (e .expiry) (set (set (set t keyLengthAt (length (e .key) % 256)) fieldLengthAt (length (e .field) % 256)) valueLengthAt (length (e .value) % 256))
           → Begun (fixed e) u
       go [] l q = absurd (omega arith)
       go (a ∷ []) l q = absurd (omega arith)
@@ -108,18 +108,18 @@ module _ (e : Entry) (t u : List ℕ) (h : Writable t (e .key) (e .field) (e .va
       go (a ∷ a₁ ∷ a₂ ∷ a₃ ∷ t) l q = rw (q, k, f, v) (record { size = rw length-drop (omega arith); bytes = refl })
 
   -- an entry's bytes, whatever the slot held
-  pub entry-written : (y₁ y₂ y₃ : List ℕ) → y₁ ≡ padded (length (midOf 16 16 u)) (e .key)
-      → y₂ ≡ padded (length (midOf 32 32 (putMid 16 16 u y₁))) (e .field)
-      → y₃ ≡ padded (length (midOf 64 64 (putMid 32 32 (putMid 16 16 u y₁) y₂))) (e .value)
-      → putMid 64 64 (putMid 32 32 (putMid 16 16 u y₁) y₂) y₃ ≡ encodeEntry e
+  pub entry-written : (y₁ y₂ y₃ : List ℕ) → y₁ ≡ padded (length (midOf keyAt keyMost u)) (e .key)
+      → y₂ ≡ padded (length (midOf fieldAt fieldMost (putMid keyAt keyMost u y₁))) (e .field)
+      → y₃ ≡ padded (length (midOf valueAt valueMost (putMid fieldAt fieldMost (putMid keyAt keyMost u y₁) y₂))) (e .value)
+      → putMid valueAt valueMost (putMid fieldAt fieldMost (putMid keyAt keyMost u y₁) y₂) y₃ ≡ encodeEntry e
   unfolding fixed toLE encodeEntry flatten
   entry-written y₁ y₂ y₃ q₁ q₂ q₃ =
-      let k : length (padded 16 (e .key)) ≡ 16 = length-padded 16 (e .key) (h .key) in
-      let f : length (padded 32 (e .field)) ≡ 32 = length-padded 32 (e .field) (h .field) in
-      let v : length (padded 64 (e .value)) ≡ 64 = length-padded 64 (e .value) (h .value) in
-      let n₁ : length (fixed e ++ padded 16 (e .key)) ≡ 32 = rw (length-append, k) in
-      let n₂ : length ((fixed e ++ padded 16 (e .key)) ++ padded 32 (e .field)) ≡ 64 = rw (length-append, n₁, f) in
-      let n₃ : length (((fixed e ++ padded 16 (e .key)) ++ padded 32 (e .field)) ++ padded 64 (e .value)) ≡ 128 = rw (length-append, n₂, v) in
-      let g₁ : Begun (fixed e ++ padded 16 (e .key)) (putMid 16 16 u y₁) = begun-more 16 16 (e .key) begun refl (omega arith) (h .key) q₁ in
-      let g₂ : Begun ((fixed e ++ padded 16 (e .key)) ++ padded 32 (e .field)) (putMid 32 32 (putMid 16 16 u y₁) y₂) = begun-more 32 32 (e .field) g₁ n₁ (omega arith) (h .field) q₂ in
-      begun-all (begun-more 64 64 (e .value) g₂ n₂ (omega arith) (h .value) q₃) n₃ ∙ simp (append-assoc, append-nil)
+      let k : length (padded keyMost (e .key)) ≡ keyMost = length-padded keyMost (e .key) (h .short .key) in
+      let f : length (padded fieldMost (e .field)) ≡ fieldMost = length-padded fieldMost (e .field) (h .short .field) in
+      let v : length (padded valueMost (e .value)) ≡ valueMost = length-padded valueMost (e .value) (h .short .value) in
+      let n₁ : length (fixed e ++ padded keyMost (e .key)) ≡ fieldAt = rw (length-append, k) in
+      let n₂ : length ((fixed e ++ padded keyMost (e .key)) ++ padded fieldMost (e .field)) ≡ valueAt = rw (length-append, n₁, f) in
+      let n₃ : length (((fixed e ++ padded keyMost (e .key)) ++ padded fieldMost (e .field)) ++ padded valueMost (e .value)) ≡ slotSize = rw (length-append, n₂, v) in
+      let g₁ : Begun (fixed e ++ padded keyMost (e .key)) (putMid keyAt keyMost u y₁) = begun-more keyAt keyMost (e .key) begun refl (omega arith) (h .short .key) q₁ in
+      let g₂ : Begun ((fixed e ++ padded keyMost (e .key)) ++ padded fieldMost (e .field)) (putMid fieldAt fieldMost (putMid keyAt keyMost u y₁) y₂) = begun-more fieldAt fieldMost (e .field) g₁ n₁ (omega arith) (h .short .field) q₂ in
+      begun-all (begun-more valueAt valueMost (e .value) g₂ n₂ (omega arith) (h .short .value) q₃) n₃ ∙ simp (append-assoc, append-nil)

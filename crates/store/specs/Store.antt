@@ -70,10 +70,10 @@ slotsIn zero s = []
 slotsIn (suc n) s = take slotSize s ∷ slotsIn n (drop slotSize s)
 
 -- how many slots bytes of a size have
-unfoldable pub slotsWithin : ℕ → ℕ
+abbrev pub slotsWithin : ℕ → ℕ
 slotsWithin size = (size - headerSize) / slotSize
 
-abbrev pub slotCount : List ℕ → ℕ
+unfoldable pub slotCount : List ℕ → ℕ
 slotCount b = slotsWithin (length b)
 
 unfoldable pub slotBytes : List ℕ → List (List ℕ)

@@ -30,8 +30,8 @@ ghost use Prim.Native.Nat.{_+_, _*_, _≤_};
 ghost use lib.ListN.{length, drop};
 ghost use Rattle.wire.specs.Lists.{every, all};
 ghost use Rattle.store.specs.Layout.{headerSize, slotSize};
-ghost use Rattle.store.specs.Store.{slotsIn, slotWell, wellFormed};
-ghost use Rattle.store.specs.Promises.{countFor, headerWell, lengthTests, expiryTests, placeTests};
+ghost use Rattle.store.specs.Store.{slotsIn, slotWell, wellFormed, headerTests, lengthTests, expiryTests, placeTests};
+ghost use Rattle.store.specs.Promises.{countFor};
 
 // How many slots the bytes have, or 0 where their length is not a store's.
 fn slot_count(size: usize) -> usize
@@ -53,7 +53,7 @@ fn slot_count(size: usize) -> usize
 // Whether the header is well formed.
 fn header_well(store: &[u8]) -> bool
     requires { ⌜ headerSize ≤ length (now store) ⌝ }
-    ensures { λ r. ⌜ r ≡ headerWell (now (store .entry)) ⌝ }
+    ensures { λ r. ⌜ r ≡ every (headerTests (now (store .entry))) ⌝ }
 {
     read_le(&store[0..CLOCK_SIZE]) < TIME_LIMIT && all_zero(&store[CLOCK_SIZE..HEADER_SIZE])
 }

@@ -3,7 +3,7 @@ use denote.Ref.{now}
 use Prim.Native.Nat.{_%_}
 use lib.ListN.{length}
 use borrow.Rule.Slice.PartMut.{putMid, same-len-mid}
-use Rattle.store.specs.Promises.{entry}
+use Rattle.store.specs.Store.{entry}
 use Rattle.store.proofs.Writing.{stamp-size, entry-written}
 use borrow.Author.Needs.{needs}
 use Rattle.store.proofs.change.write_entry.Statement.{statement}

@@ -3,7 +3,7 @@ use native.Mathlib.Omega.{arith}
 use borrow.Author.Tests.{lt-leb}
 use denote.Ref.{now}
 use lib.ListN.{getD}
-use Rattle.store.specs.Promises.{lengthTests}
+use Rattle.store.specs.Store.{lengthTests}
 use Rattle.store.proofs.SlotChecks.{every-fails, lengths-last}
 use borrow.Author.Needs.{needs}
 use Rattle.store.proofs.check.lengths_well.Statement.{statement}
