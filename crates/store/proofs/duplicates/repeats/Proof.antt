@@ -1,7 +1,7 @@
 use mathlib.Core.Path.{sym, _∙_}
 use borrow.Author.Tests.{not-true}
 use Rattle.store.proofs.StoreChecks.{slot-size}
-use Rattle.store.proofs.Marks.{turn-empty, turn-unseen, turn-seen, held-bytes}
+use Rattle.store.proofs.BloomFilter.{turn-empty, turn-new, turn-contained, held-bytes}
 use borrow.Author.Needs.{needs}
 use Rattle.store.proofs.duplicates.repeats.Statement.{statement}
 use Rattle.store.proofs.duplicates.repeats.Tie as tie
@@ -15,17 +15,17 @@ is-empty-requires c κs = rw (c .bytes .ensures) (slot-size _ _ _ (c .before .be
 returns : tie.Need-returns
 returns c = turn-empty _ _ _ _ (c .before .before .before .before .before .pre) (sym (rw (c .before .before .bytes .ensures) at (c .before .is-empty .ensures)) ∙ c .if1 .taken)
 
-name-of-requires : tie.Need-name-of-requires
-name-of-requires c κs = rw (c .before .before .before .bytes .ensures) (slot-size _ _ _ (c .before .before .before .before .before .before .pre .slots .size) (c .before .before .before .before .before .before .pre .inside))
+name-hash-requires : tie.Need-name-hash-requires
+name-hash-requires c κs = rw (c .before .before .before .bytes .ensures) (slot-size _ _ _ (c .before .before .before .before .before .before .pre .slots .size) (c .before .before .before .before .before .before .pre .inside))
 
-mark-requires : tie.Need-mark-requires
-mark-requires c κs = search needs
+insert-requires : tie.Need-insert-requires
+insert-requires c κs = search needs
 
 same-length : tie.Need-same-length
 same-length c = search needs
 
 returns-2 : tie.Need-returns-2
-returns-2 c = turn-unseen _ _ _ _ (c .before .before .before .before .before .before .before .before .before .before .before .pre) (sym (rw (c .before .before .before .before .before .before .before .before .bytes .ensures) at (c .before .before .before .before .before .before .before .is-empty .ensures)) ∙ c .before .before .before .before .before .before .if1 .left) (rw (c .before .before .before .before .name-of .ensures, c .before .before .before .before .before .before .before .before .bytes .ensures) at (c .before .before .before .mark .ensures .1)) (sym (rw (c .before .before .before .before .name-of .ensures, c .before .before .before .before .before .before .before .before .bytes .ensures) at (c .before .before .before .mark .ensures .0)) ∙ not-true (c .before .before .before .mark .result) (c .if2 .taken))
+returns-2 c = turn-new _ _ _ _ (c .before .before .before .before .before .before .before .before .before .before .before .pre) (sym (rw (c .before .before .before .before .before .before .before .before .bytes .ensures) at (c .before .before .before .before .before .before .before .is-empty .ensures)) ∙ c .before .before .before .before .before .before .if1 .left) (rw (c .before .before .before .before .name-hash .ensures, c .before .before .before .before .before .before .before .before .bytes .ensures) at (c .before .before .before .insert .ensures .1)) (sym (rw (c .before .before .before .before .name-hash .ensures, c .before .before .before .before .before .before .before .before .bytes .ensures) at (c .before .before .before .insert .ensures .0)) ∙ not-true (c .before .before .before .insert .result) (c .if2 .taken))
 
 add-named-from : tie.Need-add-named-from
 add-named-from c = search needs
@@ -43,7 +43,7 @@ same-length-2 : tie.Need-same-length-2
 same-length-2 c = search needs
 
 returns-3 : tie.Need-returns-3
-returns-3 c = turn-seen _ _ _ _ (c .before .before .before .before .before .before .before .before .before .before .before .before .before .before .pre) (sym (rw (c .before .before .before .before .before .before .before .before .before .before .before .bytes .ensures) at (c .before .before .before .before .before .before .before .before .before .before .is-empty .ensures)) ∙ c .before .before .before .before .before .before .before .before .before .if1 .left) (rw (c .before .before .before .before .before .before .before .name-of .ensures, c .before .before .before .before .before .before .before .before .before .before .before .bytes .ensures) at (c .before .before .before .before .before .before .mark .ensures .1)) (rw (c .before .before .key .ensures, c .before .field .ensures, c .before .before .before .before .before .before .before .before .before .before .before .bytes .ensures) at (c .named-from .ensures))
+returns-3 c = turn-contained _ _ _ _ (c .before .before .before .before .before .before .before .before .before .before .before .before .before .before .pre) (sym (rw (c .before .before .before .before .before .before .before .before .before .before .before .bytes .ensures) at (c .before .before .before .before .before .before .before .before .before .before .is-empty .ensures)) ∙ c .before .before .before .before .before .before .before .before .before .if1 .left) (rw (c .before .before .before .before .before .before .before .name-hash .ensures, c .before .before .before .before .before .before .before .before .before .before .before .bytes .ensures) at (c .before .before .before .before .before .before .insert .ensures .1)) (rw (c .before .before .key .ensures, c .before .field .ensures, c .before .before .before .before .before .before .before .before .before .before .before .bytes .ensures) at (c .named-from .ensures))
 
 pub repeats-spec : {M : Type 1} → statement M
 repeats-spec =
@@ -52,8 +52,8 @@ repeats-spec =
     bytes-requires
     is-empty-requires
     returns
-    name-of-requires
-    mark-requires
+    name-hash-requires
+    insert-requires
     same-length
     returns-2
     add-named-from

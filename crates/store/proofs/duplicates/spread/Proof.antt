@@ -1,6 +1,6 @@
 use mathlib.Core.Path.{refl}
 use Rattle.store.specs.Promises.{halvesSum, spreadOf}
-use Rattle.store.proofs.Marks.{halves-fit}
+use Rattle.store.proofs.BloomFilter.{halves-fit}
 use borrow.Author.Needs.{needs}
 use Rattle.store.proofs.duplicates.spread.Statement.{statement}
 use Rattle.store.proofs.duplicates.spread.Tie as tie

@@ -1,7 +1,7 @@
-use Rattle.store.specs.Promises.{firstBit, secondBit, seen, withMark}
+use Rattle.store.specs.Promises.{firstBit, secondBit, mayContain, withName}
 use borrow.Author.Needs.{needs}
-use Rattle.store.proofs.duplicates.mark.Statement.{statement}
-use Rattle.store.proofs.duplicates.mark.Tie as tie
+use Rattle.store.proofs.duplicates.insert.Statement.{statement}
+use Rattle.store.proofs.duplicates.insert.Tie as tie
 
 set-bit-requires : tie.Need-set-bit-requires
 set-bit-requires c κs = search needs
@@ -13,8 +13,8 @@ same-length : tie.Need-same-length
 same-length c = search needs
 
 returns : tie.Need-returns
-unfolding firstBit secondBit seen withMark
+unfolding firstBit secondBit mayContain withName
 returns c = (rw (c .before .before .before .before .before .before .set-bit .ensures .0, c .before .before .set-bit2 .ensures .0, c .before .before .before .before .before .before .set-bit .ensures .1), rw (c .before .before .set-bit2 .ensures .1, c .before .before .before .before .before .before .set-bit .ensures .1))
 
-pub mark-spec : {M : Type 1} → statement M
-mark-spec = tie.close (tie.spec set-bit-requires set-bit-requires-2 same-length returns)
+pub insert-spec : {M : Type 1} → statement M
+insert-spec = tie.close (tie.spec set-bit-requires set-bit-requires-2 same-length returns)

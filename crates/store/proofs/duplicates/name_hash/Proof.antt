@@ -1,8 +1,8 @@
 use Rattle.wire.specs.Bytes.{part}
-use Rattle.store.specs.Promises.{nameOf}
+use Rattle.store.specs.Promises.{nameHash}
 use borrow.Author.Needs.{needs}
-use Rattle.store.proofs.duplicates.name_of.Statement.{statement}
-use Rattle.store.proofs.duplicates.name_of.Tie as tie
+use Rattle.store.proofs.duplicates.name_hash.Statement.{statement}
+use Rattle.store.proofs.duplicates.name_hash.Tie as tie
 
 sub-key-word : tie.Need-sub-key-word
 sub-key-word c = search needs
@@ -32,11 +32,11 @@ spread-requires : tie.Need-spread-requires
 spread-requires c κs = search needs
 
 returns : tie.Need-returns
-unfolding nameOf part
+unfolding nameHash part
 returns c = rw (c .spread .ensures, c .before .before .before .key-word .ensures, c .before .field-word .ensures)
 
-pub name-of-spec : {M : Type 1} → statement M
-name-of-spec =
+pub name-hash-spec : {M : Type 1} → statement M
+name-hash-spec =
     tie.close
     (tie.spec
     sub-key-word

@@ -1,4 +1,4 @@
--- Laws of the marks of names: a name that was seen has its marks, so that a slot whose name has none clashes with no slot seen before.
+-- Laws of the Bloom filter of names: a name that was inserted has its bits, so that a slot whose name lacks one clashes with no slot seen before.
 use mathlib.Core.Path.{_≡_, refl, sym, ap, ap₂, subst, _∙_}
 use mathlib.Core.Bool.{Bool, true, false, cond, not, and-true}
 use mathlib.Core.List.{List, [], _∷_}
@@ -19,7 +19,7 @@ use Rattle.wire.proofs.Lists.{any-none, and-right, both-ways}
 use Rattle.store.specs.Layout.{stateAt, emptyState, keyMost, fieldMost}
 use Rattle.store.specs.Store.{Entry, Slot, decodeEntry, decodeSlot, encodeEntry, encodeSlot, holds, clash, distinct}
 use Rattle.store.specs.Time.{emptySlot}
-use Rattle.store.specs.Promises.{SlotBytes, HeldBytes, slotAt, slotsOf, SlotsWell, keyWord, fieldWord, halvesSum, spreadOf, nameOf, marksSize, hasBit, withBit, firstBit, secondBit, seen, withMark, withSlotMark, HasMarks, Marked, Turn, Turned}
+use Rattle.store.specs.Promises.{SlotBytes, HeldBytes, slotAt, slotsOf, SlotsWell, keyWord, fieldWord, halvesSum, spreadOf, nameHash, filterWords, hasBit, withBit, firstBit, secondBit, mayContain, withName, withSlotName, HasBits, Covered, Turn, Turned}
 use Rattle.store.specs.Valid.{Fits, FitsSlot}
 use Rattle.store.proofs.Slots.{Named, holds-named, none-clash, clash-none}
 use Rattle.store.proofs.SlotBytes.{key-bytes, field-bytes}
@@ -39,13 +39,13 @@ module _ (t : List ℕ) (w : SlotBytes t) (e : Entry) (h : decodeSlot t ≡ some
   entry-back = ap encodeSlot (sym h) ∙ encode-decodeSlot t (w .size) (w .bytes) (w .well)
 
   -- a slot's name is that of its entry's key and field
-  name-entry : nameOf t ≡ spreadOf (keyWord (padded keyMost (e .key))) (fieldWord (padded fieldMost (e .field)))
-  unfolding nameOf
+  name-entry : nameHash t ≡ spreadOf (keyWord (padded keyMost (e .key))) (fieldWord (padded fieldMost (e .field)))
+  unfolding nameHash
   name-entry = rw (← entry-back, key-bytes e entry-fits, field-bytes e entry-fits)
 
 -- slots that clash have the same name
 pub clash-name : (t u : List ℕ) → SlotBytes t → SlotBytes u → (d e : Entry) → decodeSlot t ≡ some d → decodeSlot u ≡ some e → clash (some d) (some e) ≡ true
-    → nameOf t ≡ nameOf u
+    → nameHash t ≡ nameHash u
 unfolding clash orElse
 clash-name t u v w d e p q h =
     let n : Named (d .key) (d .field) e = holds-named (d .key) (d .field) e h in
@@ -103,7 +103,7 @@ bit-word : (a : ℕ) → 1 * 2 ^ (a % 64) % 2 ^ 64 ≡ 2 ^ (a % 64)
 bit-word a = shl-exact 1 (a % 64) 64 (lit< tt) (omega arith) ∙ one-mul (2 ^ (a % 64))
 
 module _ (a : ℕ) (m : List ℕ) where
-  -- whether a bit is set, and the marks with it, by a shifted 1
+  -- whether a bit is set, and the filter with it, by a shifted 1
   pub bit-told : eqb (bitOr (getD m (a / 64) 0) (1 * 2 ^ (a % 64) % 2 ^ 64)) (getD m (a / 64) 0) ≡ hasBit a m
   unfolding hasBit
   bit-told = rw (bit-word a)
@@ -129,32 +129,32 @@ module _ (a : ℕ) (m : List ℕ) where
   unfolding withBit
   length-bit = rw length-set
 
--- ---- one mark more
+-- ---- one name more
 
 -- both bits are inside
-first-inside : (name : ℕ) → firstBit name / 64 < marksSize
+first-inside : (name : ℕ) → firstBit name / 64 < filterWords
 unfolding firstBit
 first-inside name = omega arith
 
-second-inside : (name : ℕ) → secondBit name / 64 < marksSize
+second-inside : (name : ℕ) → secondBit name / 64 < filterWords
 unfolding secondBit
 second-inside name = omega arith
 
 module _ (name : ℕ) (m : List ℕ) where
-  -- a name with its marks was seen
-  seen-marks : HasMarks name m → seen name m ≡ true
-  unfolding seen
-  seen-marks h = rw (h .first, bit-keeps (firstBit name) m (secondBit name) (h .second))
+  -- a filter may contain a name that has its bits
+  has-contained : HasBits name m → mayContain name m ≡ true
+  unfolding mayContain
+  has-contained h = rw (h .first, bit-keeps (firstBit name) m (secondBit name) (h .second))
 
-  -- marks stay
-  mark-keeps : (a : ℕ) → hasBit a m ≡ true → hasBit a (withMark name m) ≡ true
-  unfolding withMark
-  mark-keeps a h = bit-keeps (secondBit name) (withBit (firstBit name) m) a (bit-keeps (firstBit name) m a h)
+  -- bits stay
+  insert-keeps : (a : ℕ) → hasBit a m ≡ true → hasBit a (withName name m) ≡ true
+  unfolding withName
+  insert-keeps a h = bit-keeps (secondBit name) (withBit (firstBit name) m) a (bit-keeps (firstBit name) m a h)
 
   -- the name has its own
-  mark-has : length m ≡ marksSize → HasMarks name (withMark name m)
-  unfolding withMark
-  mark-has e =
+  insert-has : length m ≡ filterWords → HasBits name (withName name m)
+  unfolding withName
+  insert-has e =
       let l : firstBit name / 64 < length m = omega (arith, first-inside name) in
       let k : secondBit name / 64 < length (withBit (firstBit name) m) = omega (arith, second-inside name, length-bit (firstBit name) m) in
       record {
@@ -162,28 +162,28 @@ module _ (name : ℕ) (m : List ℕ) where
         second = bit-has (secondBit name) (withBit (firstBit name) m) k;
       }
 
-  -- and the marks are as many
-  length-mark : length (withMark name m) ≡ length m
-  unfolding withMark
-  length-mark = length-bit (secondBit name) (withBit (firstBit name) m) ∙ length-bit (firstBit name) m
+  -- and the words are as many
+  length-insert : length (withName name m) ≡ length m
+  unfolding withName
+  length-insert = length-bit (secondBit name) (withBit (firstBit name) m) ∙ length-bit (firstBit name) m
 
 module _ (t m : List ℕ) where
-  -- a slot that holds no entry has no mark
-  pub mark-empty : getD t stateAt 0 ≡ emptyState → m ≡ withSlotMark t m
-  unfolding withSlotMark
-  mark-empty h = rw (eq-eqb (getD t stateAt 0) emptyState h)
+  -- a slot that holds no entry has no name
+  pub insert-empty : getD t stateAt 0 ≡ emptyState → m ≡ withSlotName t m
+  unfolding withSlotName
+  insert-empty h = rw (eq-eqb (getD t stateAt 0) emptyState h)
 
   -- another has that of its name
-  pub mark-held : (getD t stateAt 0 ≡ emptyState → ⊥) → withMark (nameOf t) m ≡ withSlotMark t m
-  unfolding withSlotMark
-  mark-held h = rw (ne-eqb (getD t stateAt 0) emptyState h)
+  pub insert-held : (getD t stateAt 0 ≡ emptyState → ⊥) → withName (nameHash t) m ≡ withSlotName t m
+  unfolding withSlotName
+  insert-held h = rw (ne-eqb (getD t stateAt 0) emptyState h)
 
-  -- what holds with the marks as they were and with one more
-  mark-either : (P : List ℕ → Type 0) → P m → P (withMark (nameOf t) m) → P (withSlotMark t m)
-  unfolding withSlotMark
-  mark-either P p q = go (eqb (getD t stateAt 0) emptyState)
+  -- what holds of the filter as it was and with a name more
+  insert-either : (P : List ℕ → Type 0) → P m → P (withName (nameHash t) m) → P (withSlotName t m)
+  unfolding withSlotName
+  insert-either P p q = go (eqb (getD t stateAt 0) emptyState)
     where
-      go : (x : Bool) → P (cond x m (withMark (nameOf t) m))
+      go : (x : Bool) → P (cond x m (withName (nameHash t) m))
       go true = p
       go false = q
 
@@ -191,20 +191,20 @@ module _ (t m : List ℕ) where
 
 module _ (count : ℕ) (b : List ℕ) (i : ℕ) (m : List ℕ) (c : Turn count b i m) where
   -- a later slot of another name does not clash
-  apart-go : (j : ℕ) → i < j → j < count → seen (nameOf (slotAt b i)) m ≡ false
+  apart-go : (j : ℕ) → i < j → j < count → mayContain (nameHash (slotAt b i)) m ≡ false
       → (s u : Slot) → decodeSlot (slotAt b i) ≡ s → decodeSlot (slotAt b j) ≡ u → (x : Bool) → clash s u ≡ x → clash s u ≡ false
   apart-go j l n f none u p q x h = none-clash u
   apart-go j l n f (some d) none p q x h = clash-none (some d)
   apart-go j l n f (some d) (some e) p q false h = h
   apart-go j l n f (some d) (some e) p q true h =
-      let same-name : nameOf (slotAt b i) ≡ nameOf (slotAt b j)
+      let same-name : nameHash (slotAt b i) ≡ nameHash (slotAt b j)
       = clash-name (slotAt b i) (slotAt b j) (slot-bytes count b i (c .slots) (c .inside)) (slot-bytes count b j (c .slots) n) d e p q h in
       let held : getD (slotAt b j) stateAt 0 ≡ emptyState → ⊥ = λ z. Option·none-ne-some e (sym (state-empty (slotAt b j) z) ∙ q) in
-      both-ways (rw same-name (seen-marks (nameOf (slotAt b j)) m (c .marked .marks j (omega arith) n held))) f
+      both-ways (rw same-name (has-contained (nameHash (slotAt b j)) m (c .covered .names j (omega arith) n held))) f
 
-  -- a slot whose name was not seen clashes with no later one
-  pub unseen-apart : seen (nameOf (slotAt b i)) m ≡ false → any (clash (decodeSlot (slotAt b i))) (drop (i + 1) (slotsOf count b)) ≡ false
-  unseen-apart f = any-none (clash (decodeSlot (slotAt b i))) (drop (i + 1) (slotsOf count b)) none each
+  -- a slot whose name is new clashes with no later one
+  pub new-apart : mayContain (nameHash (slotAt b i)) m ≡ false → any (clash (decodeSlot (slotAt b i))) (drop (i + 1) (slotsOf count b)) ≡ false
+  new-apart f = any-none (clash (decodeSlot (slotAt b i))) (drop (i + 1) (slotsOf count b)) none each
     where
       each : (k : ℕ) → k < length (drop (i + 1) (slotsOf count b)) → clash (decodeSlot (slotAt b i)) (getD (drop (i + 1) (slotsOf count b)) k none) ≡ false
       each k l =
@@ -216,29 +216,29 @@ module _ (count : ℕ) (b : List ℕ) (i : ℕ) (m : List ℕ) (c : Turn count b
   pub empty-apart : getD (slotAt b i) stateAt 0 ≡ emptyState → any (clash (decodeSlot (slotAt b i))) (drop (i + 1) (slotsOf count b)) ≡ false
   empty-apart h = rw (state-empty (slotAt b i) h) (any-none (clash none) (drop (i + 1) (slotsOf count b)) none (λ k l. none-clash (getD (drop (i + 1) (slotsOf count b)) k none)))
 
-  -- the marks of the slots from this one on
-  pub marked-again : Marked count b i (withSlotMark (slotAt b i) m)
-  marked-again = record { size = size; marks = marks }
+  -- the filter of the slots from this one on
+  pub covered-again : Covered count b i (withSlotName (slotAt b i) m)
+  covered-again = record { size = size; names = names }
     where
-      size : length (withSlotMark (slotAt b i) m) ≡ marksSize
-      size = mark-either (slotAt b i) m (λ (l : List ℕ). length l ≡ marksSize) (c .marked .size) (length-mark (nameOf (slotAt b i)) m ∙ c .marked .size)
+      size : length (withSlotName (slotAt b i) m) ≡ filterWords
+      size = insert-either (slotAt b i) m (λ (l : List ℕ). length l ≡ filterWords) (c .covered .size) (length-insert (nameHash (slotAt b i)) m ∙ c .covered .size)
 
-      keeps : (a : ℕ) → hasBit a m ≡ true → hasBit a (withSlotMark (slotAt b i) m) ≡ true
-      keeps a h = mark-either (slotAt b i) m (λ (l : List ℕ). hasBit a l ≡ true) h (mark-keeps (nameOf (slotAt b i)) m a h)
+      keeps : (a : ℕ) → hasBit a m ≡ true → hasBit a (withSlotName (slotAt b i) m) ≡ true
+      keeps a h = insert-either (slotAt b i) m (λ (l : List ℕ). hasBit a l ≡ true) h (insert-keeps (nameHash (slotAt b i)) m a h)
 
-      own : (getD (slotAt b i) stateAt 0 ≡ emptyState → ⊥) → HasMarks (nameOf (slotAt b i)) (withSlotMark (slotAt b i) m)
-      own h = rw (← mark-held (slotAt b i) m h) (mark-has (nameOf (slotAt b i)) m (c .marked .size))
+      own : (getD (slotAt b i) stateAt 0 ≡ emptyState → ⊥) → HasBits (nameHash (slotAt b i)) (withSlotName (slotAt b i) m)
+      own h = rw (← insert-held (slotAt b i) m h) (insert-has (nameHash (slotAt b i)) m (c .covered .size))
 
       go : (j : ℕ) → i ≤ j → j < count → (getD (slotAt b j) stateAt 0 ≡ emptyState → ⊥) → (x : Bool) → eqb i j ≡ x
-          → HasMarks (nameOf (slotAt b j)) (withSlotMark (slotAt b i) m)
+          → HasBits (nameHash (slotAt b j)) (withSlotName (slotAt b i) m)
       go j l n h true q =
-          subst (λ (k : ℕ). (getD (slotAt b k) stateAt 0 ≡ emptyState → ⊥) → HasMarks (nameOf (slotAt b k)) (withSlotMark (slotAt b i) m)) (eqb-true i j q) own h
+          subst (λ (k : ℕ). (getD (slotAt b k) stateAt 0 ≡ emptyState → ⊥) → HasBits (nameHash (slotAt b k)) (withSlotName (slotAt b i) m)) (eqb-true i j q) own h
       go j l n h false q =
-          let has : HasMarks (nameOf (slotAt b j)) m = c .marked .marks j (omega (arith, eqb-false i j q)) n h in
-          record { first = keeps (firstBit (nameOf (slotAt b j))) (has .first); second = keeps (secondBit (nameOf (slotAt b j))) (has .second) }
+          let has : HasBits (nameHash (slotAt b j)) m = c .covered .names j (omega (arith, eqb-false i j q)) n h in
+          record { first = keeps (firstBit (nameHash (slotAt b j))) (has .first); second = keeps (secondBit (nameHash (slotAt b j))) (has .second) }
 
-      marks : (j : ℕ) → i ≤ j → j < count → (getD (slotAt b j) stateAt 0 ≡ emptyState → ⊥) → HasMarks (nameOf (slotAt b j)) (withSlotMark (slotAt b i) m)
-      marks j l n h = go j l n h (eqb i j) refl
+      names : (j : ℕ) → i ≤ j → j < count → (getD (slotAt b j) stateAt 0 ≡ emptyState → ⊥) → HasBits (nameHash (slotAt b j)) (withSlotName (slotAt b i) m)
+      names j l n h = go j l n h (eqb i j) refl
 
 -- a held slot clashes with those that hold its name
 pub held-clashes : (t : List ℕ) (ss : List Slot) → (getD t stateAt 0 ≡ emptyState → ⊥)
@@ -251,7 +251,7 @@ module _ (count : ℕ) (b : List ℕ) (i : ℕ) (m : List ℕ) (c : Turn count b
   pub turn-empty : emptySlot (decodeSlot (slotAt b i)) ≡ true → Turned count b i m m false
   turn-empty h =
       let z : getD (slotAt b i) stateAt 0 ≡ emptyState = eqb-true (getD (slotAt b i) stateAt 0) emptyState (sym (empty-state (slotAt b i)) ∙ h) in
-      record { answer = sym (empty-apart count b i m c z); marks = mark-empty (slotAt b i) m z }
+      record { answer = sym (empty-apart count b i m c z); filter = insert-empty (slotAt b i) m z }
 
   module _ (h : emptySlot (decodeSlot (slotAt b i)) ≡ false) where
     held : getD (slotAt b i) stateAt 0 ≡ emptyState → ⊥
@@ -261,16 +261,16 @@ module _ (count : ℕ) (b : List ℕ) (i : ℕ) (m : List ℕ) (c : Turn count b
     pub held-bytes : HeldBytes (slotAt b i)
     held-bytes = record { slot = slot-bytes count b i (c .slots) (c .inside); held = held }
 
-    module _ {n : List ℕ} (e : n ≡ withMark (nameOf (slotAt b i)) m) where
-      -- the turn of a slot whose name was not seen, and of one whose name may have been
-      pub turn-unseen : seen (nameOf (slotAt b i)) m ≡ false → Turned count b i m n false
-      turn-unseen f = record { answer = sym (unseen-apart count b i m c f); marks = e ∙ mark-held (slotAt b i) m held }
+    module _ {n : List ℕ} (e : n ≡ withName (nameHash (slotAt b i)) m) where
+      -- the turn of a slot whose name is new, and of one whose name may have been
+      pub turn-new : mayContain (nameHash (slotAt b i)) m ≡ false → Turned count b i m n false
+      turn-new f = record { answer = sym (new-apart count b i m c f); filter = e ∙ insert-held (slotAt b i) m held }
 
-      pub turn-seen : {r : Bool} → r ≡ any (holds (decodeEntry (slotAt b i) .key) (decodeEntry (slotAt b i) .field)) (drop (i + 1) (slotsOf count b)) → Turned count b i m n r
-      turn-seen a =
+      pub turn-contained : {r : Bool} → r ≡ any (holds (decodeEntry (slotAt b i) .key) (decodeEntry (slotAt b i) .field)) (drop (i + 1) (slotsOf count b)) → Turned count b i m n r
+      turn-contained a =
           record {
             answer = a ∙ held-clashes (slotAt b i) (drop (i + 1) (slotsOf count b)) held;
-            marks = e ∙ mark-held (slotAt b i) m held;
+            filter = e ∙ insert-held (slotAt b i) m held;
           }
 
 -- ---- all turns, from the last slot to the first
@@ -282,28 +282,28 @@ distinct-drop ss zero h = h
 distinct-drop [] (suc i) h = h
 distinct-drop (s ∷ ss) (suc i) h = distinct-drop ss i (and-right (not (any (clash s) ss)) (distinct ss) h)
 
--- The slots from i on are distinct, and have their marks.
+-- The slots from i on are distinct, and their names are in the filter.
 pub record Sifting (count : ℕ) (b : List ℕ) (i : ℕ) (m : List ℕ) : Type 0 where
   pub inside : i ≤ count
   pub apart : distinct (drop i (slotsOf count b)) ≡ true
-  pub marked : Marked count b i m
+  pub covered : Covered count b i m
 
 module _ (count : ℕ) (b : List ℕ) where
-  pub sift-begins : (m : List ℕ) → length m ≡ marksSize → Sifting count b count m
+  pub sift-begins : (m : List ℕ) → length m ≡ filterWords → Sifting count b count m
   unfolding distinct
   sift-begins m e =
       let n : length (slotsOf count b) ≤ count = omega (arith, length-slotsOf count b) in
       record {
         inside = omega arith;
         apart = rw (drop-of-length-le (slotsOf count b) n);
-        marked = record { size = e; marks = λ j l n h. absurd (omega arith) };
+        covered = record { size = e; names = λ j l n h. absurd (omega arith) };
       }
 
   module _ (i : ℕ) (m : List ℕ) (w : SlotsWell count b) (f : Sifting count b i m) (l : 0 < i) where
     pub sift-turn : Turn count b (i - 1) m
     sift-turn =
         let e : i - 1 + 1 ≡ i = omega arith in
-        record { slots = w; inside = omega (arith, f .inside); marked = rw e (f .marked) }
+        record { slots = w; inside = omega (arith, f .inside); covered = rw e (f .covered) }
 
     -- the slots from the turn's on are distinct if its slot clashes with none after it
     sift-next : distinct (drop (i - 1) (slotsOf count b)) ≡ not (any (clash (decodeSlot (slotAt b (i - 1)))) (drop (i - 1 + 1) (slotsOf count b)))
@@ -333,7 +333,7 @@ module _ (count : ℕ) (b : List ℕ) where
           record {
             inside = omega (arith, f .inside);
             apart = rw (sift-next, ← (t .answer), h);
-            marked = rw (t .marks) (marked-again count b (i - 1) m sift-turn);
+            covered = rw (t .filter) (covered-again count b (i - 1) m sift-turn);
           }
 
   pub sift-ends : (i : ℕ) (m : List ℕ) → Sifting count b i m → i ≤ 0 → distinct (slotsOf count b) ≡ true
