@@ -31,7 +31,13 @@ same-length : tie.Need-same-length
 same-length c = search needs
 
 returns : tie.Need-returns
-returns c = slot-stamped (now (c .before .before .before .before .before .args .store)) (c .before .before .before .before .before .args .i) (c .before .before .before .before .before .args .version) (c .before .before .before .before .before .args .expiry) (c .before .before .write-stamp .last .0) (c .before .before .before .before .before .pre .0) (c .before .before .before .before .before .pre .1) (c .before .before .before .before .before .pre .2) (c .before .before .write-stamp .ensures)
+returns c =
+    let back2 = c .before .before in
+    let write-stamp = back2 .write-stamp in
+    let back5 = back2 .before .before .before in
+    let args = back5 .args in
+    let pre = back5 .pre in
+    slot-stamped (now (args .store)) (args .i) (args .version) (args .expiry) (write-stamp .last .0) (pre .0) (pre .1) (pre .2) (write-stamp .ensures)
 
 pub restamp-spec : {M : Type 1} → statement M
 restamp-spec =

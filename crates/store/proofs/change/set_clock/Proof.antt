@@ -22,7 +22,13 @@ same-length : tie.Need-same-length
 same-length c = search needs
 
 returns : tie.Need-returns
-returns c = clock-laid (now (c .before .before .before .before .before .args .store)) (c .before .before .before .before .before .pre .0) (c .before .before .before .before .before .args .time) (c .before .before .write-le .last .0) (c .before .before .before .before .before .pre .1) (c .before .before .write-le .ensures)
+returns c =
+    let back2 = c .before .before in
+    let write-le = back2 .write-le in
+    let back5 = back2 .before .before .before in
+    let args = back5 .args in
+    let pre = back5 .pre in
+    clock-laid (now (args .store)) (pre .0) (args .time) (write-le .last .0) (pre .1) (write-le .ensures)
 
 pub set-clock-spec : {M : Type 1} → statement M
 set-clock-spec =

@@ -25,8 +25,13 @@ word-requires-2 c κs = search needs
 returns : tie.Need-returns
 unfolding part
 returns c =
-    sym (other-fingerprint (now (c .before .before .before .before .before .before .before .args .t)) (now (c .before .before .before .before .before .before .before .args .k)) (now (c .before .before .before .before .before .before .before .args .f)) (c .before .before .before .before .before .before .before .pre .0)
-    (λ q. c .if1 .taken (fingerprint-words (part fieldAt fieldMost (now (c .before .before .before .before .before .before .before .args .t))) (c .before .before .word .result) (c .before .word2 .result) (c .before .before .word .ensures) (c .before .word2 .ensures) ∙ q ∙ sym (c .before .before .before .before .before .before .before .pre .1))))
+    let back2 = c .before .before in
+    let word = back2 .word in
+    let back7 = back2 .before .before .before .before .before in
+    let args = back7 .args in
+    let pre = back7 .pre in
+    sym (other-fingerprint (now (args .t)) (now (args .k)) (now (args .f)) (pre .0)
+    (λ q. c .if1 .taken (fingerprint-words (part fieldAt fieldMost (now (args .t))) (word .result) (c .before .word2 .result) (word .ensures) (c .before .word2 .ensures) ∙ q ∙ sym (pre .1))))
 
 holds-requires : tie.Need-holds-requires
 holds-requires c κs = search needs
