@@ -12,6 +12,7 @@ use borrow.Author.Tests.{le-leb, ne-eqb, eq-eqb}
 use lib.Dec.{leb, eqb}
 use lib.ListN.{length, getD, take, drop, set, length-append, length-take, length-drop, length-map, drop-of-length-le, List·getD-map, List·getD-eq-default}
 use lib.Seq.{drop-cons, drop-drop, drop-length, take-at, take-append-seam, drop-append-seam, getD-set-same, getD-set-other, getD-take, take-suc-set, length-take-le, append-snoc}
+use Rattle.wire.proofs.Lists.{impossible}
 use Rattle.wire.specs.declared.integers.Natural.the-variants as naturals
 use Rattle.wire.specs.declared.places.Counted.the-variants as counts
 use Rattle.wire.specs.declared.places.Placed.the-variants as placed
@@ -163,7 +164,7 @@ module _ (s : List ℕ) (at mark most : ℕ) where
           go : (o : Option ℕ) → naturals.Refused ≡ naturalFor o
               → counts.Damaged ≡ countedFor (length s) (Option·map (λ n. record { found = n; rest = drop (end + 2) s }) o)
           go none r = refl
-          go (some n) r = absurd (let z : _≡_ {A = ℕ} 0 1 = cc in omega arith)
+          go (some n) r = impossible cc
 
       pub counted-value : (n : ℕ) → same (part end 2 s) crlf ≡ true
           → naturals.Value n ≡ naturalFor (readNatural most (take (end - (at + 1)) (drop (at + 1) s)))
@@ -173,7 +174,7 @@ module _ (s : List ℕ) (at mark most : ℕ) where
         where
           go : (o : Option ℕ) → naturals.Value n ≡ naturalFor o
               → counts.Count n (end + 2) ≡ countedFor (length s) (Option·map (λ n. record { found = n; rest = drop (end + 2) s }) o)
-          go none r = absurd (let z : _≡_ {A = ℕ} 0 1 = cc in omega arith)
+          go none r = impossible cc
           go (some m) r =
               let place : end + 2 ≡ length s - length (drop (end + 2) s) = omega (arith, length-drop (end + 2) s, ends-room s end h) in
               let same-count : n ≡ m = cc in
@@ -188,7 +189,7 @@ module _ (s : List ℕ) (at mark most : ℕ) where
     where
       go : (o : Option (Read ℕ)) → readCount mark most (drop at s) ≡ o → counts.Count n k ≡ countedFor (length s) o
           → (readCount mark most (drop at s) ≡ some (record { found = n; rest = drop k s })) × (k ≤ length s) × (n ≤ most)
-      go none e h = absurd (let z : _≡_ {A = ℕ} 0 1 = cc in omega arith)
+      go none e h = impossible cc
       go (some c) e h =
           let f : c .found ≡ n = cc in
           let p : length s - length (c .rest) ≡ k = cc in
@@ -203,7 +204,7 @@ module _ (s : List ℕ) (at mark most : ℕ) where
     where
       go : (o : Option (Read ℕ)) → counts.Damaged ≡ countedFor (length s) o → o ≡ none
       go none h = refl
-      go (some c) h = absurd (let z : _≡_ {A = ℕ} 0 1 = cc in omega arith)
+      go (some c) h = impossible cc
 
 -- ---- a word at a place
 
@@ -253,7 +254,7 @@ module _ (s : List ℕ) (at : ℕ) where
     where
       go : (o : Option (Read Word)) → readWord (drop at s) ≡ o → placed.Word start size next ≡ placedFor (length s) o
           → (readWord (drop at s) ≡ some (record { found = take size (drop start s); rest = drop next s })) × (start + size ≤ length s) × (next ≤ length s)
-      go none e h = absurd (let z : _≡_ {A = ℕ} 0 1 = cc in omega arith)
+      go none e h = impossible cc
       go (some w) e h =
           let p : length s - (length (w .found) + 2 + length (w .rest)) ≡ start = cc in
           let q : length (w .found) ≡ size = cc in
@@ -275,7 +276,7 @@ module _ (s : List ℕ) (at : ℕ) where
     where
       go : (o : Option (Read Word)) → placed.Damaged ≡ placedFor (length s) o → o ≡ none
       go none h = refl
-      go (some w) h = absurd (let z : _≡_ {A = ℕ} 0 1 = cc in omega arith)
+      go (some w) h = impossible cc
 
 -- ---- the words of a command
 

@@ -49,6 +49,10 @@ every-at [] h i = refl
 every-at (t ∷ ts) h zero = and-left t (every ts) h
 every-at (t ∷ ts) h (suc i) = every-at ts (and-right t (every ts) h) i
 
+-- where constructors that differ are said to be equal, `cc` says so of 0 and 1, and anything follows: `impossible cc`
+pub impossible {ℓ} : {A : Type ℓ} → _≡_ {A = ℕ} 0 1 → A
+impossible h = absurd (omega arith)
+
 -- ---- elements
 
 module _ {ℓ} {A : Type ℓ} (p : A → Bool) where
