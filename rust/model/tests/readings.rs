@@ -238,8 +238,8 @@ fn the_lowest_number_is_given() {
         ("EXHSET m a 1 ABS 0 EX x".to_string(), 16),
         ("EXHSET m a 1 ABS 0 EX 4102444800000".to_string(), 17),
         (format!("EXHINCRBY m a {long}"), 16),
-        (format!("EXHSET {long} a 1 GT"), 14),
-        ("EXHSET m a 1 GT".to_string(), 15),
+        (format!("EXHSET {long} a 1 XN"), 14),
+        ("EXHSET m a 1 XN".to_string(), 15),
         ("EXHSCAN m a".to_string(), 12),
     ] {
         assert_eq!(Handset::new(1).run(0, &command).0, refusal, "{command}");
