@@ -32,7 +32,8 @@ c-example: $(LIBRARY)
 	@$(C) bench/check.c $(LIBRARY) -o target/bench-check
 	@$(CXX) -x c++ -fsyntax-only $(WARNINGS) include/exhash.h
 
-# The Rust crates: format, lints and tests, with nothing printed if all is well. target/rust-test.log says how many cases ran.
+# The Rust crates: format, lints and tests, with nothing printed if all is well. How many cases ran stands in
+# target/rust-test.log.
 rust-test: $(LIBRARY)
 	@mkdir -p target
 	@$(CARGO) fmt --check
