@@ -1,6 +1,6 @@
 #!/usr/bin/env python3
-"""Prints the figures of docs/CHANGES.md as a table, a row a crate: lines of code (src), definitions (specs but Promises),
-promises (specs/Promises.antt), laws (proofs/*.antt) and proofs of functions (Proof.antt below proofs/*/); characters of
+"""Prints the figures of docs/CHANGES.md as a table, a row a crate: lines of code (src), definitions (other specs),
+promises (the Promises files of specs), laws (proofs but Proof.antt) and proofs of functions (Proof.antt); characters of
 the longest line that a `requires` or `ensures` stands on, and of the longest such clause with its white space folded;
 functions, and how many take seven parameters or more; seconds that the crate's proof took. The last row adds up, or
 takes the longest.
@@ -62,13 +62,14 @@ def row(crate):
     code = [re.sub(r"//[^\n]*", "", text_of(path)) for path in sorted(crate.glob("src/**/*.rt"))]
     found = [(text, *clause) for text in code for clause in clauses(text)]
     counts = [count for text in code for count in parameters(text)]
-    promises = list(crate.glob("specs/Promises.antt"))
+    promises = list(crate.glob("specs/**/*Promises.antt"))
+    proofs = list(crate.glob("proofs/**/Proof.antt"))
     return [
         lines(crate.glob("src/**/*.rt")),
         lines(path for path in crate.glob("specs/**/*.antt") if path not in promises),
         lines(promises),
-        lines(crate.glob("proofs/*.antt")),
-        lines(crate.glob("proofs/*/**/Proof.antt")),
+        lines(path for path in crate.glob("proofs/**/*.antt") if path not in proofs),
+        lines(proofs),
         max((widest(*clause) for clause in found), default=0),
         max((len(" ".join(text[start:end].split())) for text, start, end in found), default=0),
         len(counts),
