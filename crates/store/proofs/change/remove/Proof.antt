@@ -31,13 +31,7 @@ same-length : tie.Need-same-length
 same-length c = search needs
 
 returns : tie.Need-returns
-returns c =
-    let back2 = c .before .before in
-    let clear = back2 .clear in
-    let back5 = back2 .before .before .before in
-    let args = back5 .args in
-    let pre = back5 .pre in
-    slot-cleared (now (args .store)) (pre .0) (args .i) (pre .1) (clear .last .0) (clear .ensures)
+returns c = let back2 = c .before .before in let clear = back2 .clear in let back5 = back2 .before .before .before in let args = back5 .args in let pre = back5 .pre in slot-cleared (now (args .store)) (pre .0) (args .i) (pre .1) (clear .last .0) (clear .ensures)
 
 pub remove-spec : {M : Type 1} → statement M
 remove-spec =

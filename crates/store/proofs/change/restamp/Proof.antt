@@ -31,13 +31,7 @@ same-length : tie.Need-same-length
 same-length c = search needs
 
 returns : tie.Need-returns
-returns c =
-    let back2 = c .before .before in
-    let write-stamp = back2 .write-stamp in
-    let back5 = back2 .before .before .before in
-    let args = back5 .args in
-    let pre = back5 .pre in
-    slot-stamped (now (args .store)) (args .i) (args .version) (args .expiry) (write-stamp .last .0) (pre .0) (pre .1) (pre .2) (write-stamp .ensures)
+returns c = let back2 = c .before .before in let write-stamp = back2 .write-stamp in let back5 = back2 .before .before .before in let args = back5 .args in let pre = back5 .pre in slot-stamped (now (args .store)) (args .i) (args .version) (args .expiry) (write-stamp .last .0) (pre .0) (pre .1) (pre .2) (write-stamp .ensures)
 
 pub restamp-spec : {M : Type 1} → statement M
 restamp-spec =

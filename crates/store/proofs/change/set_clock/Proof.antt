@@ -22,13 +22,7 @@ same-length : tie.Need-same-length
 same-length c = search needs
 
 returns : tie.Need-returns
-returns c =
-    let back2 = c .before .before in
-    let write-le = back2 .write-le in
-    let back5 = back2 .before .before .before in
-    let args = back5 .args in
-    let pre = back5 .pre in
-    clock-laid (now (args .store)) (pre .0) (args .time) (write-le .last .0) (pre .1) (write-le .ensures)
+returns c = let back2 = c .before .before in let write-le = back2 .write-le in let back5 = back2 .before .before .before in let args = back5 .args in let pre = back5 .pre in clock-laid (now (args .store)) (pre .0) (args .time) (write-le .last .0) (pre .1) (write-le .ensures)
 
 pub set-clock-spec : {M : Type 1} → statement M
 set-clock-spec =

@@ -23,14 +23,7 @@ same-length : tie.Need-same-length
 same-length c = search needs
 
 returns : tie.Need-returns
-returns c =
-    let back2 = c .before .before in
-    let clear = back2 .clear in
-    let back6 = back2 .before .before .before .before in
-    let copy = back6 .copy in
-    let back10 = back6 .before .before .before .before in
-    let args = back10 .args in
-    padded-over (now (args .from)) (now (args .to)) (copy .last .1 .0) (clear .last .0) (back10 .pre) (copy .ensures) (clear .ensures)
+returns c = let back2 = c .before .before in let clear = back2 .clear in let back6 = back2 .before .before .before .before in let copy = back6 .copy in let back10 = back6 .before .before .before .before in let args = back10 .args in padded-over (now (args .from)) (now (args .to)) (copy .last .1 .0) (clear .last .0) (back10 .pre) (copy .ensures) (clear .ensures)
 
 pub write-padded-spec : {M : Type 1} → statement M
 write-padded-spec =

@@ -23,15 +23,11 @@ shared-slice-read-if1 c = search needs
 
 returns : tie.Need-returns
 unfolding part
-returns c =
-    let back2 = c .before .before in
-    rw (back2 .read-le .ensures) (sym (expiring-test (now (back2 .before .before .before .args .t)) (c .if1 .taken)))
+returns c = rw (c .before .before .read-le .ensures) (sym (expiring-test (now (c .before .before .before .before .before .args .t)) (c .if1 .taken)))
 
 returns-2 : tie.Need-returns-2
 unfolding part
-returns-2 c =
-    let back2 = c .before .before in
-    rw (back2 .read-le .ensures) (sym (lasting-test (now (back2 .before .before .before .args .t)) (c .if1 .left)))
+returns-2 c = rw (c .before .before .read-le .ensures) (sym (lasting-test (now (c .before .before .before .before .before .args .t)) (c .if1 .left)))
 
 pub expiry-well-spec : {M : Type 1} → statement M
 expiry-well-spec =

@@ -34,10 +34,7 @@ all-zero-requires c κs = search needs
 
 returns : tie.Need-returns
 unfolding headerTests every clockOf part
-returns c =
-    let back2 = c .before .before in
-    let read-le = back2 .before .read-le in
-    rw (← (read-le .ensures), lt-ltb (read-le .result) timeLimit (back2 .if1 .taken), and-true) (c .all-zero .ensures)
+returns c = rw (← (c .before .before .before .read-le .ensures), lt-ltb (c .before .before .before .read-le .result) timeLimit (c .before .before .if1 .taken), and-true) (c .all-zero .ensures)
 
 returns-2 : tie.Need-returns-2
 unfolding headerTests every clockOf part

@@ -43,10 +43,7 @@ cast-result : tie.Need-cast-result
 cast-result c = omega (arith, c .shared-slice-known4 .given 3)
 
 returns-4 : tie.Need-returns-4
-returns-4 c =
-    let back3 = c .before .before .before in
-    let back5 = back3 .before .before in
-    sym (lengths-last (now (back5 .before .before .args .t)) (back5 .if1 .left) (back3 .if2 .left) (c .before .if3 .left))
+returns-4 c = sym (lengths-last (now (c .before .before .before .before .before .before .before .args .t)) (c .before .before .before .before .before .if1 .left) (c .before .before .before .if2 .left) (c .before .if3 .left))
 
 pub lengths-well-spec : {M : Type 1} → statement M
 lengths-well-spec =

@@ -24,28 +24,16 @@ cast-value-length : tie.Need-cast-value-length
 cast-value-length c = omega (arith, c .shared-slice-known4 .given 3)
 
 padding-of-16-requires : tie.Need-padding-of-16-requires
-padding-of-16-requires c κs =
-    let back4 = c .before .before .before .before in
-    let pre = back4 .pre in
-    (pre .0, (omega arith, key-fits (now (back4 .args .t)) (pre .1)))
+padding-of-16-requires c κs = let back4 = c .before .before .before .before in let pre = back4 .pre in (pre .0, (omega arith, key-fits (now (back4 .args .t)) (pre .1)))
 
 padding-of-32-requires : tie.Need-padding-of-32-requires
-padding-of-32-requires c κs =
-    let back5 = c .before .before .before .before .before in
-    let pre = back5 .pre in
-    (pre .0, (omega arith, field-fits (now (back5 .args .t)) (pre .1)))
+padding-of-32-requires c κs = let back5 = c .before .before .before .before .before in let pre = back5 .pre in (pre .0, (omega arith, field-fits (now (back5 .args .t)) (pre .1)))
 
 padding-of-64-requires : tie.Need-padding-of-64-requires
-padding-of-64-requires c κs =
-    let back6 = c .before .before .before .before .before .before in
-    let pre = back6 .pre in
-    (pre .0, (omega arith, value-fits (now (back6 .args .t)) (pre .1)))
+padding-of-64-requires c κs = let back6 = c .before .before .before .before .before .before in let pre = back6 .pre in (pre .0, (omega arith, value-fits (now (back6 .args .t)) (pre .1)))
 
 returns : tie.Need-returns
-returns c =
-    let back2 = c .before .before in
-    let padding-of-16 = back2 .padding-of-16 in
-    places-bits (now (back2 .before .before .before .before .before .args .t)) (padding-of-16 .result) (c .before .padding-of-32 .result) (c .padding-of-64 .result) (padding-of-16 .ensures) (c .before .padding-of-32 .ensures) (c .padding-of-64 .ensures)
+returns c = places-bits (now (c .before .before .before .before .before .before .before .args .t)) (c .before .before .padding-of-16 .result) (c .before .padding-of-32 .result) (c .padding-of-64 .result) (c .before .before .padding-of-16 .ensures) (c .before .padding-of-32 .ensures) (c .padding-of-64 .ensures)
 
 pub places-well-spec : {M : Type 1} → statement M
 places-well-spec =

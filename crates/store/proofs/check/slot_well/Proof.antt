@@ -19,36 +19,19 @@ lengths-well-requires : tie.Need-lengths-well-requires
 lengths-well-requires c κs = search needs
 
 returns-2 : tie.Need-returns-2
-returns-2 c =
-    let back2 = c .before .before in
-    rw (well-held (now (back2 .before .before .before .args .t)) (back2 .if1 .left), ← (c .before .lengths-well .ensures), not-true (c .before .lengths-well .result) (c .if2 .taken))
+returns-2 c = rw (well-held (now (c .before .before .before .before .before .args .t)) (c .before .before .if1 .left), ← (c .before .lengths-well .ensures), not-true (c .before .lengths-well .result) (c .if2 .taken))
 
 expiry-well-requires : tie.Need-expiry-well-requires
 expiry-well-requires c κs = search needs
 
 places-well-requires : tie.Need-places-well-requires
-places-well-requires c κs =
-    let back2 = c .before .before in
-    let back3 = back2 .before in
-    let lengths-well = back3 .lengths-well in
-    (back3 .before .before .before .before .pre, sym (lengths-well .ensures) ∙ not-false (lengths-well .result) (back2 .if2 .left))
+places-well-requires c κs = (c .before .before .before .before .before .before .before .pre, sym (c .before .before .before .lengths-well .ensures) ∙ not-false (c .before .before .before .lengths-well .result) (c .before .before .if2 .left))
 
 returns-3 : tie.Need-returns-3
-returns-3 c =
-    let back2 = c .before .before in
-    let back3 = back2 .before in
-    let back4 = back3 .before in
-    let lengths-well = back4 .lengths-well in
-    let back5 = back4 .before in
-    rw (well-held (now (back5 .before .before .before .args .t)) (back5 .if1 .left), ← (lengths-well .ensures), not-false (lengths-well .result) (back3 .if2 .left), ← (back2 .expiry-well .ensures), c .before .if3 .taken) (c .places-well .ensures)
+returns-3 c = rw (well-held (now (c .before .before .before .before .before .before .before .before .args .t)) (c .before .before .before .before .before .if1 .left), ← (c .before .before .before .before .lengths-well .ensures), not-false (c .before .before .before .before .lengths-well .result) (c .before .before .before .if2 .left), ← (c .before .before .expiry-well .ensures), c .before .if3 .taken) (c .places-well .ensures)
 
 returns-4 : tie.Need-returns-4
-returns-4 c =
-    let back2 = c .before .before in
-    let back3 = back2 .before in
-    let lengths-well = back3 .lengths-well in
-    let back4 = back3 .before in
-    rw (well-held (now (back4 .before .before .before .args .t)) (back4 .if1 .left), ← (lengths-well .ensures), not-false (lengths-well .result) (back2 .if2 .left), ← (c .before .expiry-well .ensures), c .if3 .left)
+returns-4 c = rw (well-held (now (c .before .before .before .before .before .before .before .args .t)) (c .before .before .before .before .if1 .left), ← (c .before .before .before .lengths-well .ensures), not-false (c .before .before .before .lengths-well .result) (c .before .before .if2 .left), ← (c .before .expiry-well .ensures), c .if3 .left)
 
 pub slot-well-spec : {M : Type 1} → statement M
 slot-well-spec =

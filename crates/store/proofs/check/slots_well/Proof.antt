@@ -20,17 +20,10 @@ bytes-requires : tie.Need-bytes-requires Inv-loop μ-loop
 bytes-requires c κs = omega arith
 
 slot-well-requires : tie.Need-slot-well-requires Inv-loop μ-loop
-slot-well-requires c κs =
-    let back2 = c .before .before in
-    let back4 = back2 .before .before in
-    let args = back4 .args in
-    rw (c .bytes .ensures) (slot-size (args .count) (now (args .store)) (back2 .loop .i) (back4 .pre) (c .before .loop-test .taken))
+slot-well-requires c κs = rw (c .bytes .ensures) (slot-size (c .before .before .before .before .args .count) (now (c .before .before .before .before .args .store)) (c .before .before .loop .i) (c .before .before .before .before .pre) (c .before .loop-test .taken))
 
 returns : tie.Need-returns Inv-loop μ-loop
-returns c =
-    let back2 = c .before .before in
-    let back3 = back2 .before in
-    sym (judge-fails _ _ _ (back3 .before .loop .inv) (back3 .loop-test .taken) (sym (rw (back2 .bytes .ensures) at (c .before .slot-well .ensures)) ∙ not-true (c .before .slot-well .result) (c .if1 .taken)))
+returns c = sym (judge-fails _ _ _ (c .before .before .before .before .loop .inv) (c .before .before .before .loop-test .taken) (sym (rw (c .before .before .bytes .ensures) at (c .before .slot-well .ensures)) ∙ not-true (c .before .slot-well .result) (c .if1 .taken)))
 
 add-i : tie.Need-add-i Inv-loop μ-loop
 add-i c = omega arith
@@ -39,10 +32,7 @@ loop-less : tie.Need-loop-less Inv-loop μ-loop
 loop-less c = omega arith
 
 loop-again : tie.Need-loop-again Inv-loop μ-loop
-loop-again c =
-    let back2 = c .before .before in
-    let back3 = back2 .before in
-    judge-goes-on _ _ _ (back3 .before .loop .inv) (back3 .loop-test .taken) (sym (rw (back2 .bytes .ensures) at (c .before .slot-well .ensures)) ∙ not-false (c .before .slot-well .result) (c .if1 .left))
+loop-again c = judge-goes-on _ _ _ (c .before .before .before .before .loop .inv) (c .before .before .before .loop-test .taken) (sym (rw (c .before .before .bytes .ensures) at (c .before .slot-well .ensures)) ∙ not-false (c .before .slot-well .result) (c .if1 .left))
 
 returns-2 : tie.Need-returns-2 Inv-loop μ-loop
 returns-2 c = sym (judge-ends _ _ _ (c .before .loop .inv) (c .loop-test .left))

@@ -22,26 +22,16 @@ slice-aggregate-repeats : tie.Need-slice-aggregate-repeats Inv-loop μ-loop
 slice-aggregate-repeats c = sym (c .before .before .loop .inv .covered .size)
 
 repeats-requires : tie.Need-repeats-requires Inv-loop μ-loop
-repeats-requires c κs =
-    let back2 = c .before .before in
-    sift-turn _ _ _ _ (back2 .before .before .pre) (back2 .loop .inv) (c .before .loop-test .taken)
+repeats-requires c κs = sift-turn _ _ _ _ (c .before .before .before .before .pre) (c .before .before .loop .inv) (c .before .loop-test .taken)
 
 returns : tie.Need-returns Inv-loop μ-loop
-returns c =
-    let back2 = c .before .before in
-    let back4 = back2 .before .before in
-    let back5 = back4 .before in
-    sym (sift-fails _ _ _ _ (back5 .before .before .pre) (back5 .loop .inv) (back4 .loop-test .taken) _ _ (back2 .repeats .ensures) (c .if1 .taken))
+returns c = sym (sift-fails _ _ _ _ (c .before .before .before .before .before .before .before .pre) (c .before .before .before .before .before .loop .inv) (c .before .before .before .before .loop-test .taken) _ _ (c .before .before .repeats .ensures) (c .if1 .taken))
 
 loop-less : tie.Need-loop-less Inv-loop μ-loop
 loop-less c = omega arith
 
 loop-again : tie.Need-loop-again Inv-loop μ-loop
-loop-again c =
-    let back2 = c .before .before in
-    let back4 = back2 .before .before in
-    let back5 = back4 .before in
-    sift-goes-on _ _ _ _ (back5 .before .before .pre) (back5 .loop .inv) (back4 .loop-test .taken) _ _ (back2 .repeats .ensures) (c .if1 .left)
+loop-again c = sift-goes-on _ _ _ _ (c .before .before .before .before .before .before .before .pre) (c .before .before .before .before .before .loop .inv) (c .before .before .before .before .loop-test .taken) _ _ (c .before .before .repeats .ensures) (c .if1 .left)
 
 returns-2 : tie.Need-returns-2 Inv-loop μ-loop
 returns-2 c = sym (sift-ends _ _ _ _ (c .before .loop .inv) (c .loop-test .left))

@@ -26,12 +26,7 @@ rotate-requires-3 c κs = search needs
 
 returns : tie.Need-returns
 unfolding fieldWord
-returns c =
-    let back2 = c .before .before in
-    let back3 = back2 .before in
-    let back4 = back3 .before in
-    let back5 = back4 .before in
-    rw (back5 .before .word .ensures, back4 .rotate .ensures, back5 .word2 .ensures, back2 .rotate2 .ensures, back3 .word3 .ensures, c .rotate3 .ensures, c .before .word4 .ensures)
+returns c = rw (c .before .before .before .before .before .before .word .ensures, c .before .before .before .before .rotate .ensures, c .before .before .before .before .before .word2 .ensures, c .before .before .rotate2 .ensures, c .before .before .before .word3 .ensures, c .rotate3 .ensures, c .before .word4 .ensures)
 
 pub field-word-spec : {M : Type 1} → statement M
 field-word-spec =

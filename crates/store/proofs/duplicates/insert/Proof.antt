@@ -14,11 +14,7 @@ same-length c = search needs
 
 returns : tie.Need-returns
 unfolding firstBit secondBit mayContain withName
-returns c =
-    let back2 = c .before .before in
-    let set-bit2 = back2 .set-bit2 in
-    let set-bit = back2 .before .before .before .before .set-bit in
-    (rw (set-bit .ensures .0, set-bit2 .ensures .0, set-bit .ensures .1), rw (set-bit2 .ensures .1, set-bit .ensures .1))
+returns c = let back2 = c .before .before in let set-bit2 = back2 .set-bit2 in let set-bit = back2 .before .before .before .before .set-bit in (rw (set-bit .ensures .0, set-bit2 .ensures .0, set-bit .ensures .1), rw (set-bit2 .ensures .1, set-bit .ensures .1))
 
 pub insert-spec : {M : Type 1} → statement M
 insert-spec = tie.close (tie.spec set-bit-requires set-bit-requires-2 same-length returns)

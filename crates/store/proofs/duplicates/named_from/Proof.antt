@@ -19,17 +19,10 @@ bytes-requires : tie.Need-bytes-requires Inv-loop μ-loop
 bytes-requires c κs = omega (arith, c .before .before .before .before .before .pre .0 .size)
 
 holds-requires : tie.Need-holds-requires Inv-loop μ-loop
-holds-requires c κs =
-    let back2 = c .before .before in
-    let back6 = back2 .before .before .before .before in
-    let args = back6 .args in
-    rw (c .bytes .ensures) (slot-bytes (args .count) (now (args .store)) (back2 .loop .i) (back6 .pre .0) (c .before .loop-test .taken))
+holds-requires c κs = let back2 = c .before .before in let back6 = back2 .before .before .before .before in let args = back6 .args in rw (c .bytes .ensures) (slot-bytes (args .count) (now (args .store)) (back2 .loop .i) (back6 .pre .0) (c .before .loop-test .taken))
 
 returns : tie.Need-returns Inv-loop μ-loop
-returns c =
-    let back2 = c .before .before in
-    let back3 = back2 .before in
-    sym (seek-finds _ _ _ _ _ _ (back3 .before .loop .inv) (back3 .loop-test .taken) (sym (rw (back2 .bytes .ensures) at (c .before .holds .ensures)) ∙ c .if1 .taken))
+returns c = sym (seek-finds _ _ _ _ _ _ (c .before .before .before .before .loop .inv) (c .before .before .before .loop-test .taken) (sym (rw (c .before .before .bytes .ensures) at (c .before .holds .ensures)) ∙ c .if1 .taken))
 
 add-i : tie.Need-add-i Inv-loop μ-loop
 add-i c = omega arith
@@ -38,10 +31,7 @@ loop-less : tie.Need-loop-less Inv-loop μ-loop
 loop-less c = omega arith
 
 loop-again : tie.Need-loop-again Inv-loop μ-loop
-loop-again c =
-    let back2 = c .before .before in
-    let back3 = back2 .before in
-    seek-goes-on _ _ _ _ _ _ (back3 .before .loop .inv) (back3 .loop-test .taken) (sym (rw (back2 .bytes .ensures) at (c .before .holds .ensures)) ∙ c .if1 .left)
+loop-again c = seek-goes-on _ _ _ _ _ _ (c .before .before .before .before .loop .inv) (c .before .before .before .loop-test .taken) (sym (rw (c .before .before .bytes .ensures) at (c .before .holds .ensures)) ∙ c .if1 .left)
 
 returns-2 : tie.Need-returns-2 Inv-loop μ-loop
 returns-2 c = sym (seek-ends _ _ _ _ _ _ (c .before .loop .inv) (c .loop-test .left))

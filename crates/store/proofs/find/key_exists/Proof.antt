@@ -18,17 +18,11 @@ enum-told-2 c = search needs
 
 returns : tie.Need-returns
 unfolding keyExists
-returns c =
-    let back2 = c .before .before in
-    let args = back2 .before .before .before .args in
-    sym (found-any (liveOfKey (args .time) (now (args .key))) (decode (now (args .store)) .slots) (c .enum-told .given .0 .0) (sym (c .enum-told .given .1) ∙ back2 .next-live .ensures))
+returns c = let back2 = c .before .before in let args = back2 .before .before .before .args in sym (found-any (liveOfKey (args .time) (now (args .key))) (decode (now (args .store)) .slots) (c .enum-told .given .0 .0) (sym (c .enum-told .given .1) ∙ back2 .next-live .ensures))
 
 returns-2 : tie.Need-returns-2
 unfolding keyExists
-returns-2 c =
-    let back2 = c .before .before in
-    let args = back2 .before .before .before .args in
-    sym (nothing-any (liveOfKey (args .time) (now (args .key))) (decode (now (args .store)) .slots) (sym (c .enum-told2 .given .1) ∙ back2 .next-live .ensures))
+returns-2 c = let back2 = c .before .before in let args = back2 .before .before .before .args in sym (nothing-any (liveOfKey (args .time) (now (args .key))) (decode (now (args .store)) .slots) (sym (c .enum-told2 .given .1) ∙ back2 .next-live .ensures))
 
 pub key-exists-spec : {M : Type 1} → statement M
 key-exists-spec = tie.close (tie.spec next-live-requires enum-told enum-told-2 returns returns-2)

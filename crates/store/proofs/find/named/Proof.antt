@@ -21,24 +21,16 @@ fingerprint-of-requires : tie.Need-fingerprint-of-requires Inv-loop μ-loop
 fingerprint-of-requires c κs = search needs
 
 loop-holds : tie.Need-loop-holds Inv-loop μ-loop
-loop-holds c =
-    let back5 = c .before .before .before .before .before in
-    let args = back5 .args in
-    seek-begins (holds (now (args .key)) (now (args .field))) (now (args .store)) (back5 .pre) (c .before .slots .ensures)
+loop-holds c = let back5 = c .before .before .before .before .before in let args = back5 .args in seek-begins (holds (now (args .key)) (now (args .field))) (now (args .store)) (back5 .pre) (c .before .slots .ensures)
 
 bytes-requires : tie.Need-bytes-requires Inv-loop μ-loop
 bytes-requires c κs = walk-inside (c .before .loop .inv .walk) (c .loop-test .taken)
 
 holds-with-requires : tie.Need-holds-with-requires Inv-loop μ-loop
-holds-with-requires c κs =
-    let back2 = c .before .before in
-    (walk-bytes (back2 .loop .inv .walk) (c .before .loop-test .taken) (c .bytes .ensures), back2 .before .fingerprint-of .ensures)
+holds-with-requires c κs = (walk-bytes (c .before .before .loop .inv .walk) (c .before .loop-test .taken) (c .bytes .ensures), c .before .before .before .fingerprint-of .ensures)
 
 returns : tie.Need-returns Inv-loop μ-loop
-returns c =
-    let back2 = c .before .before in
-    let back3 = back2 .before in
-    seek-finds (back3 .before .loop .inv) (back3 .loop-test .taken) (back2 .bytes .ensures) (c .before .holds-with .ensures) (c .if1 .taken)
+returns c = seek-finds (c .before .before .before .before .loop .inv) (c .before .before .before .loop-test .taken) (c .before .before .bytes .ensures) (c .before .holds-with .ensures) (c .if1 .taken)
 
 add-i : tie.Need-add-i Inv-loop μ-loop
 add-i c = search needs
@@ -47,10 +39,7 @@ loop-less : tie.Need-loop-less Inv-loop μ-loop
 loop-less c = omega arith
 
 loop-again : tie.Need-loop-again Inv-loop μ-loop
-loop-again c =
-    let back2 = c .before .before in
-    let back3 = back2 .before in
-    seek-goes-on (back3 .before .loop .inv) (back3 .loop-test .taken) (back2 .bytes .ensures) (c .before .holds-with .ensures) (c .if1 .left)
+loop-again c = seek-goes-on (c .before .before .before .before .loop .inv) (c .before .before .before .loop-test .taken) (c .before .before .bytes .ensures) (c .before .holds-with .ensures) (c .if1 .left)
 
 returns-2 : tie.Need-returns-2 Inv-loop μ-loop
 returns-2 c = seek-ends (c .before .loop .inv) (c .loop-test .left)

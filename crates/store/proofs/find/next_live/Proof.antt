@@ -28,10 +28,7 @@ is-live-of-requires : tie.Need-is-live-of-requires Inv-loop μ-loop
 is-live-of-requires c κs = walk-bytes (c .before .before .loop .inv .walk) (c .before .loop-test .taken) (c .bytes .ensures)
 
 returns : tie.Need-returns Inv-loop μ-loop
-returns c =
-    let back2 = c .before .before in
-    let back3 = back2 .before in
-    seek-finds (back3 .before .loop .inv) (back3 .loop-test .taken) (back2 .bytes .ensures) (c .before .is-live-of .ensures) (c .if1 .taken)
+returns c = seek-finds (c .before .before .before .before .loop .inv) (c .before .before .before .loop-test .taken) (c .before .before .bytes .ensures) (c .before .is-live-of .ensures) (c .if1 .taken)
 
 add-i : tie.Need-add-i Inv-loop μ-loop
 add-i c = search needs
@@ -40,10 +37,7 @@ loop-less : tie.Need-loop-less Inv-loop μ-loop
 loop-less c = omega arith
 
 loop-again : tie.Need-loop-again Inv-loop μ-loop
-loop-again c =
-    let back2 = c .before .before in
-    let back3 = back2 .before in
-    seek-goes-on (back3 .before .loop .inv) (back3 .loop-test .taken) (back2 .bytes .ensures) (c .before .is-live-of .ensures) (c .if1 .left)
+loop-again c = seek-goes-on (c .before .before .before .before .loop .inv) (c .before .before .before .loop-test .taken) (c .before .before .bytes .ensures) (c .before .is-live-of .ensures) (c .if1 .left)
 
 returns-2 : tie.Need-returns-2 Inv-loop μ-loop
 returns-2 c = seek-ends (c .before .loop .inv) (c .loop-test .left)

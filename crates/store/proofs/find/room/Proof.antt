@@ -20,10 +20,7 @@ slots-requires : tie.Need-slots-requires Inv-loop μ-loop
 slots-requires c κs = search needs
 
 loop-holds : tie.Need-loop-holds Inv-loop μ-loop
-loop-holds c =
-    let back2 = c .before .before in
-    let args = back2 .args in
-    count-begins (roomSlot (args .time)) (now (args .store)) (back2 .pre) (c .slots .ensures)
+loop-holds c = count-begins (roomSlot (c .before .before .args .time)) (now (c .before .before .args .store)) (c .before .before .pre) (c .slots .ensures)
 
 bytes-requires : tie.Need-bytes-requires Inv-loop μ-loop
 bytes-requires c κs = walk-inside (c .before .loop .inv .walk) (c .loop-test .taken)
@@ -43,14 +40,9 @@ loop-less c = omega arith
 loop-again : tie.Need-loop-again Inv-loop μ-loop
 unfolding roomSlot
 loop-again c =
-    let back2 = c .before .before in
-    let bytes = back2 .bytes in
-    let back3 = back2 .before in
-    let loop-test = back3 .loop-test in
-    let loop = back3 .before .loop in
     ⊎-elim
-    (λ w. rw (w .1) (count-adds (loop .inv) (loop-test .taken) (bytes .ensures) (ap not (c .before .is-live .ensures)) (w .0 .taken)))
-    (λ w. rw (w .1) (count-goes-on (loop .inv) (loop-test .taken) (bytes .ensures) (ap not (c .before .is-live .ensures)) (w .0 .left)))
+    (λ w. rw (w .1) (count-adds (c .before .before .before .before .loop .inv) (c .before .before .before .loop-test .taken) (c .before .before .bytes .ensures) (ap not (c .before .is-live .ensures)) (w .0 .taken)))
+    (λ w. rw (w .1) (count-goes-on (c .before .before .before .before .loop .inv) (c .before .before .before .loop-test .taken) (c .before .before .bytes .ensures) (ap not (c .before .is-live .ensures)) (w .0 .left)))
     (c .if1 .came)
 
 returns : tie.Need-returns Inv-loop μ-loop

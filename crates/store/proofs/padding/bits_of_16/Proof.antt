@@ -17,9 +17,7 @@ word-requires-2 c κs = search needs
 
 returns : tie.Need-returns
 unfolding zeroBeyond
-returns c =
-    let args = c .before .before .before .args in
-    beyond-bits (args .at) 8 8 0 (now (args .t)) (omega arith) (c .before .word .result) (c .word2 .result) (spells-none _ _ (c .before .word .ensures)) (spells-none _ _ (c .word2 .ensures))
+returns c = beyond-bits (c .before .before .before .args .at) 8 8 0 (now (c .before .before .before .args .t)) (omega arith) (c .before .word .result) (c .word2 .result) (spells-none _ _ (c .before .word .ensures)) (spells-none _ _ (c .word2 .ensures))
 
 pub bits-of-16-spec : {M : Type 1} → statement M
 bits-of-16-spec = tie.close (tie.spec word-requires add-word word-requires-2 returns)

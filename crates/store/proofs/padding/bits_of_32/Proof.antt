@@ -17,9 +17,7 @@ bits-of-16-requires-2 c κs = search needs
 
 returns : tie.Need-returns
 unfolding zeroBeyond
-returns c =
-    let args = c .before .before .before .args in
-    beyond-bits (args .at) 16 16 0 (now (args .t)) (omega arith) (c .before .bits-of-16 .result) (c .bits-of-162 .result) (c .before .bits-of-16 .ensures) (c .bits-of-162 .ensures)
+returns c = beyond-bits (c .before .before .before .args .at) 16 16 0 (now (c .before .before .before .args .t)) (omega arith) (c .before .bits-of-16 .result) (c .bits-of-162 .result) (c .before .bits-of-16 .ensures) (c .bits-of-162 .ensures)
 
 pub bits-of-32-spec : {M : Type 1} → statement M
 bits-of-32-spec =

@@ -16,9 +16,7 @@ bits-of-16-requires : tie.Need-bits-of-16-requires
 bits-of-16-requires c κs = search needs
 
 returns : tie.Need-returns
-returns c =
-    let args = c .before .before .before .before .args in
-    beyond-bits (args .at) 16 16 (args .used) (now (args .t)) (omega arith) (c .before .padding-of-16 .result) (c .bits-of-16 .result) (c .before .padding-of-16 .ensures) (c .bits-of-16 .ensures)
+returns c = let args = c .before .before .before .before .args in beyond-bits (args .at) 16 16 (args .used) (now (args .t)) (omega arith) (c .before .padding-of-16 .result) (c .bits-of-16 .result) (c .before .padding-of-16 .ensures) (c .bits-of-16 .ensures)
 
 add-padding-of-16 : tie.Need-add-padding-of-16
 add-padding-of-16 c = search needs
@@ -27,9 +25,7 @@ padding-of-16-requires-2 : tie.Need-padding-of-16-requires-2
 padding-of-16-requires-2 c κs = search needs
 
 returns-2 : tie.Need-returns-2
-returns-2 c =
-    let args = c .before .before .before .args in
-    c .padding-of-162 .ensures ∙ sym (beyond-last (args .at) 16 16 (args .used) (now (args .t)) (c .before .if1 .left))
+returns-2 c = let args = c .before .before .before .args in c .padding-of-162 .ensures ∙ sym (beyond-last (args .at) 16 16 (args .used) (now (args .t)) (c .before .if1 .left))
 
 pub padding-of-32-spec : {M : Type 1} → statement M
 padding-of-32-spec =

@@ -7,17 +7,10 @@ bytes-requires : tie.Need-bytes-requires
 bytes-requires c κs = slot-inside (now (c .before .args .store)) (c .before .args .i) (c .before .pre .0) (c .before .pre .1)
 
 is-live-requires : tie.Need-is-live-requires
-is-live-requires c κs =
-    let back2 = c .before .before in
-    let args = back2 .args in
-    let pre = back2 .pre in
-    slot-bytes (now (args .store)) (args .i) (pre .0) (pre .1) (c .bytes .ensures) .size
+is-live-requires c κs = slot-bytes (now (c .before .before .args .store)) (c .before .before .args .i) (c .before .before .pre .0) (c .before .before .pre .1) (c .bytes .ensures) .size
 
 returns : tie.Need-returns
-returns c =
-    let back3 = c .before .before .before in
-    let args = back3 .args in
-    rw (← (slot-means (now (args .store)) (args .i) (back3 .pre .1) (c .before .bytes .ensures))) (c .is-live .ensures)
+returns c = rw (← (slot-means (now (c .before .before .before .args .store)) (c .before .before .before .args .i) (c .before .before .before .pre .1) (c .before .bytes .ensures))) (c .is-live .ensures)
 
 pub is-live-spec : {M : Type 1} → statement M
 is-live-spec = tie.close (tie.spec bytes-requires is-live-requires returns)

@@ -33,9 +33,7 @@ read-le-requires c κs = search needs
 -- src/slot.rt:87:9
 returns : tie.Need-returns
 unfolding part
-returns c =
-    let back2 = c .before .before in
-    ap At (c .read-le .ensures) ∙ sym (state-expiring (now (back2 .before .before .before .args .t)) (back2 .if1 .taken))
+returns c = ap At (c .read-le .ensures) ∙ sym (state-expiring (now (c .before .before .before .before .before .args .t)) (c .before .before .if1 .taken))
 
 -- src/slot.rt:82:1
 returns-2 : tie.Need-returns-2

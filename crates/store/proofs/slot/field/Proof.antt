@@ -36,9 +36,7 @@ part-result-end c = field-inside (now (c .before .args .t)) (c .before .pre)
 -- src/slot.rt:115:1
 returns : tie.Need-returns
 unfolding decodeEntry
-returns c =
-    let args = c .before .before .args in
-    part-of 32 (getD (now (args .t)) 2 0) (now (args .t))
+returns c = part-of 32 (getD (now (c .before .before .args .t)) 2 0) (now (c .before .before .args .t))
 
 pub field-spec : {M : Type 1} → statement M
 field-spec =

@@ -41,21 +41,11 @@ equal-requires-2 c κs = search needs
 
 -- src/slot.rt:143:1
 returns-2 : tie.Need-returns-2
-returns-2 c =
-    let back2 = c .before .before in
-    let back3 = back2 .before in
-    let back4 = back3 .before in
-    let back5 = back4 .before in
-    let args = back5 .before .before .before .before .before .args in
-    rw (holds-held (now (args .t)) (now (args .k)) (now (args .f)) (back5 .if1 .left), ← (c .before .key .ensures), ← (back4 .field .ensures)) (rw (← (back3 .equal .ensures), back2 .if2 .taken, ← (c .equal2 .ensures)) (sym (and-true (c .equal2 .result))))
+returns-2 c = let back2 = c .before .before in let back3 = back2 .before in let back4 = back3 .before in let back5 = back4 .before in let args = back5 .before .before .before .before .before .args in rw (holds-held (now (args .t)) (now (args .k)) (now (args .f)) (back5 .if1 .left), ← (c .before .key .ensures), ← (back4 .field .ensures)) (rw (← (back3 .equal .ensures), back2 .if2 .taken, ← (c .equal2 .ensures)) (sym (and-true (c .equal2 .result))))
 
 -- src/slot.rt:143:1
 returns-3 : tie.Need-returns-3
-returns-3 c =
-    let back2 = c .before .before in
-    let back3 = back2 .before in
-    let args = back3 .before .before .before .before .before .args in
-    rw (holds-held (now (args .t)) (now (args .k)) (now (args .f)) (back3 .if1 .left), ← (back2 .field .ensures)) (rw (← (c .before .equal .ensures), c .if2 .left) (sym (and-false (same (decodeEntry (now (args .t)) .key) (now (args .k))))))
+returns-3 c = let back2 = c .before .before in let back3 = back2 .before in let args = back3 .before .before .before .before .before .args in rw (holds-held (now (args .t)) (now (args .k)) (now (args .f)) (back3 .if1 .left), ← (back2 .field .ensures)) (rw (← (c .before .equal .ensures), c .if2 .left) (sym (and-false (same (decodeEntry (now (args .t)) .key) (now (args .k))))))
 
 pub holds-spec : {M : Type 1} → statement M
 holds-spec =

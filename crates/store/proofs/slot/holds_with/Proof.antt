@@ -25,11 +25,7 @@ word-requires-2 c κs = search needs
 returns : tie.Need-returns
 unfolding part
 returns c =
-    let back2 = c .before .before in
-    let word = back2 .word in
-    let back7 = back2 .before .before .before .before .before in
-    let args = back7 .args in
-    let pre = back7 .pre in
+    let back2 = c .before .before in let word = back2 .word in let back7 = back2 .before .before .before .before .before in let args = back7 .args in let pre = back7 .pre in
     sym (other-fingerprint (now (args .t)) (now (args .k)) (now (args .f)) (pre .0)
     (λ q. c .if1 .taken (fingerprint-words (part fieldAt fieldMost (now (args .t))) (word .result) (c .before .word2 .result) (word .ensures) (c .before .word2 .ensures) ∙ q ∙ sym (pre .1))))
 

@@ -19,9 +19,7 @@ is-live-requires : tie.Need-is-live-requires
 is-live-requires c κs = search needs
 
 returns-2 : tie.Need-returns-2
-returns-2 c =
-    let args = c .before .before .before .before .args in
-    rw (dead-held (now (args .t)) (args .time) (c .before .if1 .left)) (ap not (c .is-live .ensures))
+returns-2 c = rw (dead-held (now (c .before .before .before .before .args .t)) (c .before .before .before .before .args .time) (c .before .if1 .left)) (ap not (c .is-live .ensures))
 
 pub is-dead-spec : {M : Type 1} → statement M
 is-dead-spec = tie.close (tie.spec shared-slice-read-if1 returns is-live-requires returns-2)

@@ -33,20 +33,12 @@ enum-known-expires c = search needs
 -- src/slot.rt:93:1
 returns-2 : tie.Need-returns-2
 unfolding before
-returns-2 c =
-    let back2 = c .before .before in
-    let back3 = back2 .before in
-    let args = back3 .before .before .before .args in
-    rw (live-held (now (args .t)) (args .time) (back3 .if1 .left), ← (back2 .expiry .ensures)) (rw (c .enum-told .given .1))
+returns-2 c = let back2 = c .before .before in let back3 = back2 .before in let args = back3 .before .before .before .args in rw (live-held (now (args .t)) (args .time) (back3 .if1 .left), ← (back2 .expiry .ensures)) (rw (c .enum-told .given .1))
 
 -- src/slot.rt:93:1
 returns-3 : tie.Need-returns-3
 unfolding before
-returns-3 c =
-    let back3 = c .before .before .before in
-    let back4 = back3 .before in
-    let args = back4 .before .before .before .args in
-    rw (live-held (now (args .t)) (args .time) (back4 .if1 .left), ← (back3 .expiry .ensures)) (rw (c .before .expires .given .1))
+returns-3 c = let back3 = c .before .before .before in let back4 = back3 .before in let args = back4 .before .before .before .args in rw (live-held (now (args .t)) (args .time) (back4 .if1 .left), ← (back3 .expiry .ensures)) (rw (c .before .expires .given .1))
 
 pub is-live-spec : {M : Type 1} → statement M
 is-live-spec =

@@ -36,9 +36,7 @@ part-result-end c = key-inside (now (c .before .args .t)) (c .before .pre)
 -- src/slot.rt:107:1
 returns : tie.Need-returns
 unfolding decodeEntry
-returns c =
-    let args = c .before .before .args in
-    part-of 16 (getD (now (args .t)) 1 0) (now (args .t))
+returns c = part-of 16 (getD (now (c .before .before .args .t)) 1 0) (now (c .before .before .args .t))
 
 pub key-spec : {M : Type 1} → statement M
 key-spec =

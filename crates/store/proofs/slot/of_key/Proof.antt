@@ -29,10 +29,7 @@ equal-requires c κs = search needs
 
 -- src/slot.rt:132:1
 returns-2 : tie.Need-returns-2
-returns-2 c =
-    let back2 = c .before .before in
-    let args = back2 .before .before .before .before .args in
-    rw (key-held (now (args .t)) (now (args .k)) (back2 .if1 .left), ← (c .before .key .ensures)) (c .equal .ensures)
+returns-2 c = let back2 = c .before .before in let args = back2 .before .before .before .before .args in rw (key-held (now (args .t)) (now (args .k)) (back2 .if1 .left), ← (c .before .key .ensures)) (c .equal .ensures)
 
 pub of-key-spec : {M : Type 1} → statement M
 of-key-spec =

@@ -36,9 +36,7 @@ part-result-end c = value-inside (now (c .before .args .t)) (c .before .pre)
 -- src/slot.rt:123:1
 returns : tie.Need-returns
 unfolding decodeEntry
-returns c =
-    let args = c .before .before .args in
-    part-of 64 (getD (now (args .t)) 3 0) (now (args .t))
+returns c = part-of 64 (getD (now (c .before .before .args .t)) 3 0) (now (c .before .before .args .t))
 
 pub value-spec : {M : Type 1} → statement M
 value-spec =

@@ -23,9 +23,7 @@ read-le-requires : tie.Need-read-le-requires
 read-le-requires c κs = search needs
 
 returns : tie.Need-returns
-returns c =
-    let args = c .before .before .before .args in
-    c .read-le .ensures ∙ ap fromLE (part-of (args .at) 8 (now (args .s)))
+returns c = c .read-le .ensures ∙ ap fromLE (part-of (c .before .before .before .args .at) 8 (now (c .before .before .before .args .s)))
 
 pub word-spec : {M : Type 1} → statement M
 word-spec =

@@ -7,9 +7,7 @@ use Rattle.store.proofs.slot.word_padded.Statement.{statement}
 use Rattle.store.proofs.slot.word_padded.Tie as tie
 
 returns : tie.Need-returns
-returns c =
-    let args = c .before .before .args in
-    word-past (args .at) (now (args .s)) (c .if1 .taken)
+returns c = word-past (c .before .before .args .at) (now (c .before .before .args .s)) (c .if1 .taken)
 
 sub-if2 : tie.Need-sub-if2
 sub-if2 c = search needs
@@ -27,10 +25,7 @@ read-le-requires : tie.Need-read-le-requires
 read-le-requires c κs = search needs
 
 returns-2 : tie.Need-returns-2
-returns-2 c =
-    let back2 = c .before .before in
-    let args = back2 .before .before .before .args in
-    c .read-le .ensures ∙ ap fromLE (word-short (args .at) (now (args .s)) (back2 .if2 .taken))
+returns-2 c = c .read-le .ensures ∙ ap fromLE (word-short (c .before .before .before .before .before .args .at) (now (c .before .before .before .before .before .args .s)) (c .before .before .if2 .taken))
 
 word-requires : tie.Need-word-requires
 word-requires c κs = search needs

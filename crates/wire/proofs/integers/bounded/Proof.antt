@@ -15,9 +15,7 @@ returns-2 c = rw (c .before .if2 .taken) (answer-below (c .before .before .befor
 
 returns-3 : tie.Need-returns-3
 unfolding integerOf
-returns-3 c =
-    let back2 = c .before .before in
-    rw (c .before .if2 .taken) (answer-minus (back2 .before .args .magnitude) (back2 .if1 .left) (c .if3 .left))
+returns-3 c = rw (c .before .if2 .taken) (answer-minus (c .before .before .before .args .magnitude) (c .before .before .if1 .left) (c .if3 .left))
 
 sub-if4 : tie.Need-sub-if4
 sub-if4 c = search needs

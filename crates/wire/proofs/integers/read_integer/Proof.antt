@@ -24,16 +24,10 @@ enum-told : tie.Need-enum-told
 enum-told c = search needs
 
 returns-2 : tie.Need-returns-2
-returns-2 c =
-    let back3 = c .before .before .before in
-    let back4 = back3 .before in
-    plain-value (back4 .before .before .before .before .args .s .now) (back3 .read-natural .ensures) (back4 .if2 .taken) (c .before .read .given .0 .0) (c .before .read .given .1)
+returns-2 c = plain-value (c .before .before .before .before .before .before .before .before .args .s .now) (c .before .before .before .read-natural .ensures) (c .before .before .before .before .if2 .taken) (c .before .read .given .0 .0) (c .before .read .given .1)
 
 returns-3 : tie.Need-returns-3
-returns-3 c =
-    let back2 = c .before .before in
-    let back3 = back2 .before in
-    plain-refused (back3 .before .before .before .before .args .s .now) (back2 .read-natural .ensures) (back3 .if2 .taken) (c .enum-told .given .1)
+returns-3 c = plain-refused (c .before .before .before .before .before .before .before .args .s .now) (c .before .before .read-natural .ensures) (c .before .before .before .if2 .taken) (c .enum-told .given .1)
 
 sub-read-natural-2 : tie.Need-sub-read-natural-2
 sub-read-natural-2 c = search needs
@@ -54,26 +48,13 @@ enum-told-2 : tie.Need-enum-told-2
 enum-told-2 c = search needs
 
 returns-4 : tie.Need-returns-4
-returns-4 c =
-    let back2 = c .before .before in
-    let read2 = back2 .read2 in
-    let back4 = back2 .before .before in
-    let back6 = back4 .before .before in
-    minus-zero (back6 .before .before .before .before .args .s .now) (back4 .read-natural2 .ensures) (omega arith) (back6 .if2 .left) (read2 .given .0 .0) (read2 .given .1) (c .if3 .taken)
+returns-4 c = minus-zero (c .before .before .before .before .before .before .before .before .before .before .args .s .now) (c .before .before .before .before .read-natural2 .ensures) (omega arith) (c .before .before .before .before .before .before .if2 .left) (c .before .before .read2 .given .0 .0) (c .before .before .read2 .given .1) (c .if3 .taken)
 
 returns-5 : tie.Need-returns-5
-returns-5 c =
-    let back2 = c .before .before in
-    let read2 = back2 .read2 in
-    let back4 = back2 .before .before in
-    let back6 = back4 .before .before in
-    minus-value (back6 .before .before .before .before .args .s .now) (back4 .read-natural2 .ensures) (omega arith) (back6 .if2 .left) (read2 .given .0 .0) (read2 .given .1) (c .if3 .left)
+returns-5 c = minus-value (c .before .before .before .before .before .before .before .before .before .before .args .s .now) (c .before .before .before .before .read-natural2 .ensures) (omega arith) (c .before .before .before .before .before .before .if2 .left) (c .before .before .read2 .given .0 .0) (c .before .before .read2 .given .1) (c .if3 .left)
 
 returns-6 : tie.Need-returns-6
-returns-6 c =
-    let back2 = c .before .before in
-    let back4 = back2 .before .before in
-    minus-refused (back4 .before .before .before .before .args .s .now) (back2 .read-natural2 .ensures) (omega arith) (back4 .if2 .left) (c .enum-told2 .given .1)
+returns-6 c = minus-refused (c .before .before .before .before .before .before .before .before .args .s .now) (c .before .before .read-natural2 .ensures) (omega arith) (c .before .before .before .before .if2 .left) (c .enum-told2 .given .1)
 
 pub read-integer-spec : {M : Type 1} → statement M
 read-integer-spec =

@@ -21,14 +21,11 @@ shared-slice-read-if2 : tie.Need-shared-slice-read-if2 Inv-loop μ-loop
 shared-slice-read-if2 c = omega arith
 
 returns-2 : tie.Need-returns-2 Inv-loop μ-loop
-returns-2 c =
-    let args = c .before .before .before .before .args in
-    read-zero (args .most) (args .s .now) (c .before .if2 .taken) (ltb-true 1 (length (args .s .now)) (c .if3 .taken))
+returns-2 c = let args = c .before .before .before .before .args in read-zero (args .most) (args .s .now) (c .before .if2 .taken) (ltb-true 1 (length (args .s .now)) (c .if3 .taken))
 
 loop-holds : tie.Need-loop-holds Inv-loop μ-loop
 loop-holds c =
-    let args = c .before .before .before .args in
-    reading-begins (args .most) (args .s .now) (omega arith)
+    reading-begins (c .before .before .before .args .most) (c .before .before .before .args .s .now) (omega arith)
     (⊎-elim (λ w e l. omega (arith, ltb-false)) (λ w e l. w .left e) (c .if2 .came))
 
 shared-slice-read-c : tie.Need-shared-slice-read-c Inv-loop μ-loop
@@ -36,22 +33,16 @@ shared-slice-read-c c = c .before .loop-test .taken
 
 returns-3 : tie.Need-returns-3 Inv-loop μ-loop
 returns-3 c =
-    let back2 = c .before .before in
-    let back3 = back2 .before in
-    let loop = back3 .loop in
-    let args = back3 .before .before .before .before .args in
+    let back2 = c .before .before in let back3 = back2 .before in let loop = back3 .loop in let args = back3 .before .before .before .before .args in
     reading-other (loop .inv) (back2 .loop-test .taken)
     (⊎-elim (λ w. digit-below (getD (args .s .now) (loop .i) 0) (w .taken)) (λ w. digit-over (getD (args .s .now) (loop .i) 0) (omega (arith, ltb-true))) (c .if4 .came))
 
 cast-d : tie.Need-cast-d Inv-loop μ-loop
-cast-d c =
-    let back2 = c .before .before in
-    omega (arith, back2 .shared-slice-known2 .given (back2 .before .before .loop .i))
+cast-d c = omega (arith, c .before .before .shared-slice-known2 .given (c .before .before .before .before .loop .i))
 
 returns-4 : tie.Need-returns-4 Inv-loop μ-loop
 returns-4 c =
-    let back4 = c .before .before .before .before in
-    reading-above (back4 .before .loop .inv) (back4 .loop-test .taken)
+    reading-above (c .before .before .before .before .before .loop .inv) (c .before .before .before .before .loop-test .taken)
     (⊎-elim (λ w. omega arith) (λ w. omega (arith, ltb-true)) (c .if6 .came))
 
 mul-n : tie.Need-mul-n Inv-loop μ-loop
@@ -68,9 +59,7 @@ loop-less c = omega arith
 
 loop-again : tie.Need-loop-again Inv-loop μ-loop
 loop-again c =
-    let back5 = c .before .before .before .before .before in
-    let back6 = back5 .before in
-    let loop = back6 .loop in
+    let back5 = c .before .before .before .before .before in let back6 = back5 .before in let loop = back6 .loop in
     reading-digit (loop .inv) (back5 .loop-test .taken)
     (digit-between (getD (back6 .before .before .before .before .args .s .now) (loop .i) 0) (omega (arith, ltb-false)) (omega (arith, ltb-false)))
     (omega (arith, ltb-false))

@@ -18,9 +18,7 @@ use Rattle.wire.proofs.integers.write_integer.Tie as tie
 
 -- what is written
 is-minus : (c : tie.Then2) → integerText (integerOf (c .before .before .before .before .args .z)) ≡ 45 ∷ naturalText (c .before .before .before .before .args .z .magnitude)
-is-minus c =
-    let back2 = c .before .before in
-    text-minus (back2 .before .before .args .z) (back2 .if1 .taken) (omega (arith, ltb-true))
+is-minus c = text-minus (c .before .before .before .before .args .z) (c .before .before .if1 .taken) (omega (arith, ltb-true))
 
 is-plain : (c : tie.Joined1) → integerText (integerOf (c .before .before .args .z)) ≡ naturalText (c .before .before .args .z .magnitude)
 is-plain c = text-plain (c .before .before .args .z) (⊎-elim (λ w n. omega (arith, ltb-false)) (λ w n. both-ways n (w .left)) (c .if1 .came))
@@ -41,24 +39,16 @@ write-natural-requires : tie.Need-write-natural-requires
 write-natural-requires c κs = omega (arith, ap length (is-minus (c .before)), length-tail 45 (c .before .before .before .before .before .args .out .now) (omega (arith, ap length (is-minus (c .before)))))
 
 add-result : tie.Need-add-result
-add-result c =
-    let back2 = c .before .before in
-    let back4 = back2 .before .before in
-    omega (arith, back2 .write-natural .ensures .size, ap length (is-minus (back4)), back4 .before .before .before .before .good .1 .0)
+add-result c = omega (arith, c .before .before .write-natural .ensures .size, ap length (is-minus (c .before .before .before .before)), c .before .before .before .before .before .before .before .before .good .1 .0)
 
 same-length : tie.Need-same-length
 same-length c =
-    let back2 = c .before .before in
-    let write-natural = back2 .write-natural in
-    let args = back2 .before .before .before .before .before .before .args in
+    let back2 = c .before .before in let write-natural = back2 .write-natural in let args = back2 .before .before .before .before .before .before .args in
     same-len-mid 1 (length (set (args .out .now) 0 45) - 1) (set (args .out .now) 0 45) (write-natural .last .1 .0) (write-natural .kept .1 .0)
     ∙ length-set (args .out .now) 0 45
 
 returns : tie.Need-returns
-returns c =
-    let back2 = c .before .before in
-    let back4 = back2 .before .before in
-    rw (is-minus (back4)) (laid-first 45 (omega (arith, ap length (is-minus (back4)))) (back2 .write-natural .ensures))
+returns c = rw (is-minus (c .before .before .before .before)) (laid-first 45 (omega (arith, ap length (is-minus (c .before .before .before .before)))) (c .before .before .write-natural .ensures))
 
 write-natural-requires-2 : tie.Need-write-natural-requires-2
 write-natural-requires-2 c κs = rw (is-plain (c .before)) at (c .before .before .before .pre)
@@ -67,9 +57,7 @@ same-length-2 : tie.Need-same-length-2
 same-length-2 c = search needs
 
 returns-2 : tie.Need-returns-2
-returns-2 c =
-    let back2 = c .before .before in
-    rw (is-plain (back2 .before .before)) (back2 .write-natural2 .ensures)
+returns-2 c = rw (is-plain (c .before .before .before .before)) (c .before .before .write-natural2 .ensures)
 
 pub write-integer-spec : {M : Type 1} → statement M
 write-integer-spec =

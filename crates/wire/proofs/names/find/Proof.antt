@@ -30,14 +30,10 @@ shared-slice-read-end : tie.Need-shared-slice-read-end Inv-loop μ-loop
 shared-slice-read-end c = omega arith
 
 cast-end : tie.Need-cast-end Inv-loop μ-loop
-cast-end c =
-    let back2 = c .before .before in
-    omega (arith, back2 .before .before .before .pre .short (back2 .loop .i))
+cast-end c = omega (arith, c .before .before .before .before .before .pre .short (c .before .before .loop .i))
 
 add-end : tie.Need-add-end Inv-loop μ-loop
-add-end c =
-    let back2 = c .before .before in
-    omega (arith, back2 .before .before .before .pre .short (back2 .loop .i))
+add-end c = omega (arith, c .before .before .before .before .before .pre .short (c .before .before .loop .i))
 
 sub-spells : tie.Need-sub-spells Inv-loop μ-loop
 sub-spells c = omega arith
@@ -46,18 +42,14 @@ part-spells-start : tie.Need-part-spells-start Inv-loop μ-loop
 part-spells-start c = search needs
 
 part-spells-end : tie.Need-part-spells-end Inv-loop μ-loop
-part-spells-end c =
-    let back2 = c .before .before in
-    omega (arith, back2 .before .before .before .pre .short (back2 .loop .i))
+part-spells-end c = omega (arith, c .before .before .before .before .before .pre .short (c .before .before .loop .i))
 
 spells-requires : tie.Need-spells-requires Inv-loop μ-loop
 spells-requires c κs = search needs
 
 returns : tie.Need-returns Inv-loop μ-loop
 unfolding rowFor
-returns c =
-    let back4 = c .before .before .before .before in
-    ap rowFor (sym (row-hit _ _ _ _ (back4 .loop-test .taken) _ (c .before .spells .ensures) (c .if1 .taken)) ∙ back4 .before .loop .inv .1)
+returns c = ap rowFor (sym (row-hit _ _ _ _ (c .before .before .before .before .loop-test .taken) _ (c .before .spells .ensures) (c .if1 .taken)) ∙ c .before .before .before .before .before .loop .inv .1)
 
 add-i : tie.Need-add-i Inv-loop μ-loop
 add-i c = omega arith
@@ -66,9 +58,7 @@ loop-less : tie.Need-loop-less Inv-loop μ-loop
 loop-less c = search needs
 
 loop-again : tie.Need-loop-again Inv-loop μ-loop
-loop-again c =
-    let back4 = c .before .before .before .before in
-    (omega arith, sym (row-skip _ _ _ _ (back4 .loop-test .taken) _ (c .before .spells .ensures) (c .if1 .left)) ∙ back4 .before .loop .inv .1)
+loop-again c = (omega arith, sym (row-skip _ _ _ _ (c .before .before .before .before .loop-test .taken) _ (c .before .spells .ensures) (c .if1 .left)) ∙ c .before .before .before .before .before .loop .inv .1)
 
 returns-2 : tie.Need-returns-2 Inv-loop μ-loop
 unfolding rowFor

@@ -33,10 +33,8 @@ shared-slice-read-if2 c = search needs
 
 returns-2 : tie.Need-returns-2 Inv-loop μ-loop
 returns-2 c =
-    let back2 = c .before .before in
-    let back5 = back2 .before .before .before in
-    let i = back5 .loop .i in
-    sym (not-same _ _ (λ e. c .if2 .taken (back2 .capital .ensures ∙ sym (upper-at (back5 .before .before .before .before .args .word .now) i) ∙ ap (λ (l : List ℕ). getD l i 0) e)))
+    let i = c .before .before .before .before .before .loop .i in
+    sym (not-same _ _ (λ e. c .if2 .taken (c .before .before .capital .ensures ∙ sym (upper-at (c .before .before .before .before .before .before .before .before .before .args .word .now) i) ∙ ap (λ (l : List ℕ). getD l i 0) e)))
 
 add-i : tie.Need-add-i Inv-loop μ-loop
 add-i c = search needs
@@ -45,13 +43,7 @@ loop-less : tie.Need-loop-less Inv-loop μ-loop
 loop-less c = search needs
 
 loop-again : tie.Need-loop-again Inv-loop μ-loop
-loop-again c =
-    let back2 = c .before .before in
-    let back4 = back2 .before .before in
-    let back5 = back4 .before in
-    let loop = back5 .loop in
-    let args = back5 .before .before .before .before .args in
-    compare-goes-on _ _ _ (loop .inv) (rw (length-upper (args .word .now)) (back4 .loop-test .taken)) (upper-at (args .word .now) (loop .i) ∙ sym (back2 .capital .ensures) ∙ c .if2 .left)
+loop-again c = let back2 = c .before .before in let back4 = back2 .before .before in let back5 = back4 .before in let loop = back5 .loop in let args = back5 .before .before .before .before .args in compare-goes-on _ _ _ (loop .inv) (rw (length-upper (args .word .now)) (back4 .loop-test .taken)) (upper-at (args .word .now) (loop .i) ∙ sym (back2 .capital .ensures) ∙ c .if2 .left)
 
 returns-3 : tie.Need-returns-3 Inv-loop μ-loop
 returns-3 c = sym (compare-ends _ _ _ (c .before .loop .inv) (rw (length-upper (c .before .before .before .before .before .args .word .now)) (c .loop-test .left)))

@@ -27,10 +27,7 @@ shl-x : tie.Need-shl-x Inv-loop μ-loop
 shl-x c = omega arith
 
 add-x : tie.Need-add-x Inv-loop μ-loop
-add-x c =
-    let back2 = c .before .before in
-    let loop = back2 .loop in
-    record { fits = read-fits _ _ _ (loop .inv) (back2 .before .pre) (c .before .loop-test .taken) (c .shared-slice-known .given (loop .i) .fits) }
+add-x c = record { fits = read-fits _ _ _ (c .before .before .loop .inv) (c .before .before .before .pre) (c .before .loop-test .taken) (c .shared-slice-known .given (c .before .before .loop .i) .fits) }
 
 add-i : tie.Need-add-i Inv-loop μ-loop
 add-i c = omega arith
@@ -39,10 +36,7 @@ loop-less : tie.Need-loop-less Inv-loop μ-loop
 loop-less c = omega arith
 
 loop-again : tie.Need-loop-again Inv-loop μ-loop
-loop-again c =
-    let back2 = c .before .before in
-    let loop = back2 .loop in
-    read-goes-on _ _ _ (loop .inv) (back2 .before .pre) (c .before .loop-test .taken) (c .shared-slice-known .given (loop .i) .fits)
+loop-again c = read-goes-on _ _ _ (c .before .before .loop .inv) (c .before .before .before .pre) (c .before .loop-test .taken) (c .shared-slice-known .given (c .before .before .loop .i) .fits)
 
 returns : tie.Need-returns Inv-loop μ-loop
 returns c = read-ends _ _ _ (c .before .loop .inv) (c .loop-test .left)

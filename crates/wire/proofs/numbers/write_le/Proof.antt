@@ -30,11 +30,10 @@ loop-less : tie.Need-loop-less Inv-loop μ-loop
 loop-less c = omega arith
 
 loop-again : tie.Need-loop-again Inv-loop μ-loop
-loop-again c =
-    let args = c .before .before .args in (
-      fill-goes-on _ _ _ _ _ (c .before .loop .inv .0) (omega (arith, length-toLE (length (args .s .now)) (args .x))) (write-byte _ _ _ _ (c .before .loop .inv .1) (omega arith)),
-      write-goes-on _ _ _ _ (c .before .loop .inv .1) (omega arith),
-    )
+loop-again c = (
+  fill-goes-on _ _ _ _ _ (c .before .loop .inv .0) (omega (arith, length-toLE (length (c .before .before .args .s .now)) (c .before .before .args .x))) (write-byte _ _ _ _ (c .before .loop .inv .1) (omega arith)),
+  write-goes-on _ _ _ _ (c .before .loop .inv .1) (omega arith),
+)
 
 same-length : tie.Need-same-length Inv-loop μ-loop
 same-length c = c .before .loop .inv .0 .size

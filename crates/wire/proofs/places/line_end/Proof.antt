@@ -21,9 +21,7 @@ shared-slice-read-if1 : tie.Need-shared-slice-read-if1 Inv-loop μ-loop
 shared-slice-read-if1 c = search needs
 
 returns : tie.Need-returns Inv-loop μ-loop
-returns c =
-    let back2 = c .before .before in
-    line-here _ _ (back2 .loop-test .taken) (c .if1 .taken) ∙ back2 .before .loop .inv
+returns c = line-here _ _ (c .before .before .loop-test .taken) (c .if1 .taken) ∙ c .before .before .before .loop .inv
 
 add-i : tie.Need-add-i Inv-loop μ-loop
 add-i c = search needs
@@ -32,9 +30,7 @@ loop-less : tie.Need-loop-less Inv-loop μ-loop
 loop-less c = search needs
 
 loop-again : tie.Need-loop-again Inv-loop μ-loop
-loop-again c =
-    let back2 = c .before .before in
-    sym (line-on _ _ (back2 .loop-test .taken) (c .if1 .left)) ∙ back2 .before .loop .inv
+loop-again c = sym (line-on _ _ (c .before .before .loop-test .taken) (c .if1 .left)) ∙ c .before .before .before .loop .inv
 
 returns-2 : tie.Need-returns-2 Inv-loop μ-loop
 returns-2 c = line-past _ _ (c .loop-test .left) ∙ c .before .loop .inv

@@ -43,10 +43,7 @@ same-length c = c .before .before .before .before .loop .inv .1
 
 returns-2 : tie.Need-returns-2 Inv-loop μ-loop
 returns-2 c =
-    let back2 = c .before .before in
-    let back3 = back2 .before in
-    let back4 = back3 .before in
-    let back6 = back4 .before .before in
+    let back2 = c .before .before in let back3 = back2 .before in let back4 = back3 .before in let back6 = back4 .before .before in
     places-none (sym (back6 .head .given .1) ∙ back6 .before .before .read-count .ensures)
     (progress-damaged (back4 .loop .inv .0) (back3 .loop-test .taken) (sym (c .enum-told2 .given .1) ∙ back2 .read-word .ensures))
 
@@ -64,29 +61,20 @@ loop-less c = omega arith
 
 loop-again : tie.Need-loop-again Inv-loop μ-loop
 loop-again c =
-    let back3 = c .before .before .before in
-    let back4 = back3 .before in
-    let inv = back4 .before .loop .inv in
-    (progress-goes-on (inv .0) (back4 .loop-test .taken) (omega arith) (sym (c .before .word .given .1) ∙ back3 .read-word .ensures), rw length-set (inv .1))
+    let inv = c .before .before .before .before .before .loop .inv in
+    (progress-goes-on (inv .0) (c .before .before .before .before .loop-test .taken) (omega arith) (sym (c .before .word .given .1) ∙ c .before .before .before .read-word .ensures), rw length-set (inv .1))
 
 same-length-2 : tie.Need-same-length-2 Inv-loop μ-loop
 same-length-2 c = c .before .before .loop .inv .1
 
 returns-3 : tie.Need-returns-3 Inv-loop μ-loop
-returns-3 c =
-    let back2 = c .before .before in
-    let back4 = back2 .before .before in
-    places-none (sym (back4 .head .given .1) ∙ back4 .before .before .read-count .ensures) (progress-after (back2 .loop .inv .0) (c .before .loop-test .left) (c .if1 .taken))
+returns-3 c = places-none (sym (c .before .before .before .before .head .given .1) ∙ c .before .before .before .before .before .before .read-count .ensures) (progress-after (c .before .before .loop .inv .0) (c .before .loop-test .left) (c .if1 .taken))
 
 same-length-3 : tie.Need-same-length-3 Inv-loop μ-loop
 same-length-3 c = c .before .before .loop .inv .1
 
 returns-4 : tie.Need-returns-4 Inv-loop μ-loop
-returns-4 c =
-    let back2 = c .before .before in
-    let loop = back2 .loop in
-    let back4 = back2 .before .before in
-    places-all (sym (back4 .head .given .1) ∙ back4 .before .before .read-count .ensures) (loop .inv .0) (omega (arith, loop .inv .1)) (c .before .loop-test .left) (c .if1 .left)
+returns-4 c = places-all (sym (c .before .before .before .before .head .given .1) ∙ c .before .before .before .before .before .before .read-count .ensures) (c .before .before .loop .inv .0) (omega (arith, c .before .before .loop .inv .1)) (c .before .loop-test .left) (c .if1 .left)
 
 pub split-spec : {M : Type 1} → statement M
 split-spec =

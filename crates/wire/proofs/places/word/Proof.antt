@@ -37,10 +37,7 @@ index-2-end : tie.Need-index-2-end
 index-2-end c = search needs
 
 add-end : tie.Need-add-end
-add-end c =
-    let back2 = c .before .before in
-    let back3 = back2 .before in
-    omega (arith, back3 .pre .inside (back3 .args .i) (back2 .if1 .left))
+add-end c = omega (arith, c .before .before .before .pre .inside (c .before .before .before .args .i) (c .before .before .if1 .left))
 
 sub-result-2 : tie.Need-sub-result-2
 sub-result-2 c = search needs
@@ -49,10 +46,7 @@ part-result-start-2 : tie.Need-part-result-start-2
 part-result-start-2 c = search needs
 
 part-result-end-2 : tie.Need-part-result-end-2
-part-result-end-2 c =
-    let back2 = c .before .before in
-    let back3 = back2 .before in
-    omega (arith, back3 .pre .inside (back3 .args .i) (back2 .if1 .left))
+part-result-end-2 c = omega (arith, c .before .before .before .pre .inside (c .before .before .before .args .i) (c .before .before .if1 .left))
 
 returns-2 : tie.Need-returns-2
 returns-2 c = let args = c .before .before .before .before .args in word-part (now (args .s)) (now (args .places)) (args .i)

@@ -10,22 +10,16 @@ copy-requires : tie.Need-copy-requires
 copy-requires c κs = omega (arith, length-append (c .before .before .before .args .text .now) crlf)
 
 sub-put-end : tie.Need-sub-put-end
-sub-put-end c =
-    let back2 = c .before .before in
-    tail-inside crlf (laid-copied (back2 .copy .ensures)) (back2 .before .before .before .before .pre)
+sub-put-end c = tail-inside crlf (laid-copied (c .before .before .copy .ensures)) (c .before .before .before .before .before .before .pre)
 
 part-put-end-start : tie.Need-part-put-end-start
-part-put-end-start c =
-    let back2 = c .before .before in
-    tail-inside crlf (laid-copied (back2 .copy .ensures)) (back2 .before .before .before .before .pre)
+part-put-end-start c = tail-inside crlf (laid-copied (c .before .before .copy .ensures)) (c .before .before .before .before .before .before .pre)
 
 part-put-end-end : tie.Need-part-put-end-end
 part-put-end-end c = search needs
 
 put-end-requires : tie.Need-put-end-requires
-put-end-requires c κs =
-    let back3 = c .before .before .before in
-    tail-room crlf (laid-copied (back3 .copy .ensures)) (back3 .before .before .before .before .pre)
+put-end-requires c κs = tail-room crlf (laid-copied (c .before .before .before .copy .ensures)) (c .before .before .before .before .before .before .before .pre)
 
 add-result : tie.Need-add-result
 add-result c = search needs
@@ -34,9 +28,7 @@ same-length : tie.Need-same-length
 same-length c = search needs
 
 returns : tie.Need-returns
-returns c =
-    let back2 = c .before .before in
-    laid-tail (laid-copied (back2 .before .before .before .before .copy .ensures)) (back2 .put-end .ensures)
+returns c = laid-tail (laid-copied (c .before .before .before .before .before .before .copy .ensures)) (c .before .before .put-end .ensures)
 
 pub put-line-spec : {M : Type 1} → statement M
 put-line-spec =

@@ -25,9 +25,7 @@ loop-less : tie.Need-loop-less Inv-loop μ-loop
 loop-less c = omega arith
 
 loop-again : tie.Need-loop-again Inv-loop μ-loop
-loop-again c =
-    let args = c .before .before .args in
-    fill-goes-on _ _ _ _ _ (c .before .loop .inv) (omega (arith, length-replicate {A = ℕ} (length (args .s .now)) 0)) (sym (getD-replicate {A = ℕ} (length (args .s .now)) (c .before .loop .i) 0 0 (omega arith)))
+loop-again c = fill-goes-on _ _ _ _ _ (c .before .loop .inv) (omega (arith, length-replicate {A = ℕ} (length (c .before .before .args .s .now)) 0)) (sym (getD-replicate {A = ℕ} (length (c .before .before .args .s .now)) (c .before .loop .i) 0 0 (omega arith)))
 
 same-length : tie.Need-same-length Inv-loop μ-loop
 same-length c = c .before .loop .inv .size

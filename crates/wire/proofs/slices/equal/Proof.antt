@@ -35,9 +35,7 @@ loop-less : tie.Need-loop-less Inv-loop μ-loop
 loop-less c = omega arith
 
 loop-again : tie.Need-loop-again Inv-loop μ-loop
-loop-again c =
-    let back3 = c .before .before .before in
-    match-goes-on _ _ _ (back3 .before .loop .inv) (back3 .loop-test .taken) (c .if2 .left)
+loop-again c = match-goes-on _ _ _ (c .before .before .before .before .loop .inv) (c .before .before .before .loop-test .taken) (c .if2 .left)
 
 returns-3 : tie.Need-returns-3 Inv-loop μ-loop
 returns-3 c = sym (match-ends _ _ _ (c .before .loop .inv) (c .loop-test .left))
