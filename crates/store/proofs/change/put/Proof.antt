@@ -15,20 +15,8 @@ add-start c = let back4 = c .before .before .before .before in let args = back4 
 add-end : tie.Need-add-end
 add-end c = let back4 = c .before .before .before .before in let args = back4 .args in let pre = back4 .pre in omega (arith, slot-inside (now (args .store)) (args .i) (pre .well) (pre .inside))
 
-sub-write-entry : tie.Need-sub-write-entry
-sub-write-entry c = search needs
-
-part-write-entry-start : tie.Need-part-write-entry-start
-part-write-entry-start c = search needs
-
 part-write-entry-end : tie.Need-part-write-entry-end
 part-write-entry-end c = let back4 = c .before .before .before .before in let args = back4 .args in let pre = back4 .pre in omega (arith, slot-inside (now (args .store)) (args .i) (pre .well) (pre .inside))
-
-write-entry-requires : tie.Need-write-entry-requires
-write-entry-requires c κs = search needs
-
-same-length : tie.Need-same-length
-same-length c = search needs
 
 returns : tie.Need-returns
 returns c = let back2 = c .before .before in let write-entry = back2 .write-entry in let back8 = back2 .before .before .before .before .before .before in let args = back8 .args in slot-placed (now (args .store)) (args .i) _ (write-entry .last .0) (back8 .pre) (write-entry .ensures)
@@ -40,9 +28,9 @@ put-spec =
     mul-start
     add-start
     add-end
-    sub-write-entry
-    part-write-entry-start
+    (λ c. search needs)
+    (λ c. search needs)
     part-write-entry-end
-    write-entry-requires
-    same-length
+    (λ c κs. search needs)
+    (λ c. search needs)
     returns)

@@ -5,20 +5,11 @@ use borrow.Author.Needs.{needs}
 use Rattle.store.proofs.check.places_well.Statement.{statement}
 use Rattle.store.proofs.check.places_well.Tie as tie
 
-shared-slice-read-key-length : tie.Need-shared-slice-read-key-length
-shared-slice-read-key-length c = search needs
-
 cast-key-length : tie.Need-cast-key-length
 cast-key-length c = omega (arith, c .shared-slice-known2 .given 1)
 
-shared-slice-read-field-length : tie.Need-shared-slice-read-field-length
-shared-slice-read-field-length c = search needs
-
 cast-field-length : tie.Need-cast-field-length
 cast-field-length c = omega (arith, c .shared-slice-known3 .given 2)
-
-shared-slice-read-value-length : tie.Need-shared-slice-read-value-length
-shared-slice-read-value-length c = search needs
 
 cast-value-length : tie.Need-cast-value-length
 cast-value-length c = omega (arith, c .shared-slice-known4 .given 3)
@@ -39,11 +30,11 @@ pub places-well-spec : {M : Type 1} → statement M
 places-well-spec =
     tie.close
     (tie.spec
-    shared-slice-read-key-length
+    (λ c. search needs)
     cast-key-length
-    shared-slice-read-field-length
+    (λ c. search needs)
     cast-field-length
-    shared-slice-read-value-length
+    (λ c. search needs)
     cast-value-length
     padding-of-16-requires
     padding-of-32-requires

@@ -7,9 +7,6 @@ use borrow.Author.Needs.{needs}
 use Rattle.store.proofs.check.well_formed.Statement.{statement}
 use Rattle.store.proofs.check.well_formed.Tie as tie
 
-slot-count-requires : tie.Need-slot-count-requires
-slot-count-requires c κs = search needs
-
 returns : tie.Need-returns
 returns c = sym (size-wrong (now (c .before .before .before .args .store)) (c .before .slot-count .result) (c .before .slot-count .ensures) (c .if1 .taken))
 
@@ -35,7 +32,7 @@ pub well-formed-spec : {M : Type 1} → statement M
 well-formed-spec =
     tie.close
     (tie.spec
-    slot-count-requires
+    (λ c κs. search needs)
     returns
     header-well-requires
     returns-2

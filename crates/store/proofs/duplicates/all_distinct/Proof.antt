@@ -15,9 +15,6 @@ abbrev μ-loop : tie.MeasureT-loop
 loop-holds : tie.Need-loop-holds Inv-loop μ-loop
 loop-holds c = sift-begins _ _ _ (length-replicate {A = ℕ} 512 0)
 
-sub-i : tie.Need-sub-i Inv-loop μ-loop
-sub-i c = omega arith
-
 slice-aggregate-repeats : tie.Need-slice-aggregate-repeats Inv-loop μ-loop
 slice-aggregate-repeats c = sym (c .before .before .loop .inv .covered .size)
 
@@ -26,9 +23,6 @@ repeats-requires c κs = sift-turn _ _ _ _ (c .before .before .before .before .p
 
 returns : tie.Need-returns Inv-loop μ-loop
 returns c = sym (sift-fails _ _ _ _ (c .before .before .before .before .before .before .before .pre) (c .before .before .before .before .before .loop .inv) (c .before .before .before .before .loop-test .taken) _ _ (c .before .before .repeats .ensures) (c .if1 .taken))
-
-loop-less : tie.Need-loop-less Inv-loop μ-loop
-loop-less c = omega arith
 
 loop-again : tie.Need-loop-again Inv-loop μ-loop
 loop-again c = sift-goes-on _ _ _ _ (c .before .before .before .before .before .before .before .pre) (c .before .before .before .before .before .loop .inv) (c .before .before .before .before .loop-test .taken) _ _ (c .before .before .repeats .ensures) (c .if1 .left)
@@ -43,10 +37,10 @@ all-distinct-spec =
     Inv-loop
     μ-loop
     loop-holds
-    sub-i
+    (λ c. omega arith)
     slice-aggregate-repeats
     repeats-requires
     returns
-    loop-less
+    (λ c. omega arith)
     loop-again
     returns-2)

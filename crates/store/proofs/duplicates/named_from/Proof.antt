@@ -24,12 +24,6 @@ holds-requires c κs = let back2 = c .before .before in let back6 = back2 .befor
 returns : tie.Need-returns Inv-loop μ-loop
 returns c = sym (seek-finds _ _ _ _ _ _ (c .before .before .before .before .loop .inv) (c .before .before .before .loop-test .taken) (sym (rw (c .before .before .bytes .ensures) at (c .before .holds .ensures)) ∙ c .if1 .taken))
 
-add-i : tie.Need-add-i Inv-loop μ-loop
-add-i c = omega arith
-
-loop-less : tie.Need-loop-less Inv-loop μ-loop
-loop-less c = omega arith
-
 loop-again : tie.Need-loop-again Inv-loop μ-loop
 loop-again c = seek-goes-on _ _ _ _ _ _ (c .before .before .before .before .loop .inv) (c .before .before .before .loop-test .taken) (sym (rw (c .before .before .bytes .ensures) at (c .before .holds .ensures)) ∙ c .if1 .left)
 
@@ -46,7 +40,7 @@ named-from-spec =
     bytes-requires
     holds-requires
     returns
-    add-i
-    loop-less
+    (λ c. omega arith)
+    (λ c. omega arith)
     loop-again
     returns-2)

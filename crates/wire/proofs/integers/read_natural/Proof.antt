@@ -17,9 +17,6 @@ abbrev μ-loop : tie.MeasureT-loop
 returns : tie.Need-returns Inv-loop μ-loop
 returns c = read-empty (c .before .args .most) (c .before .args .s .now) (c .if1 .taken)
 
-shared-slice-read-if2 : tie.Need-shared-slice-read-if2 Inv-loop μ-loop
-shared-slice-read-if2 c = omega arith
-
 returns-2 : tie.Need-returns-2 Inv-loop μ-loop
 returns-2 c = let args = c .before .before .before .before .args in read-zero (args .most) (args .s .now) (c .before .if2 .taken) (ltb-true 1 (length (args .s .now)) (c .if3 .taken))
 
@@ -51,12 +48,6 @@ mul-n c = omega (arith, ltb-false)
 add-n : tie.Need-add-n Inv-loop μ-loop
 add-n c = omega (arith, ltb-false)
 
-add-i : tie.Need-add-i Inv-loop μ-loop
-add-i c = omega arith
-
-loop-less : tie.Need-loop-less Inv-loop μ-loop
-loop-less c = omega arith
-
 loop-again : tie.Need-loop-again Inv-loop μ-loop
 loop-again c =
     let back5 = c .before .before .before .before .before in let back6 = back5 .before in let loop = back6 .loop in
@@ -74,7 +65,7 @@ read-natural-spec =
     Inv-loop
     μ-loop
     returns
-    shared-slice-read-if2
+    (λ c. omega arith)
     returns-2
     loop-holds
     shared-slice-read-c
@@ -83,7 +74,7 @@ read-natural-spec =
     returns-4
     mul-n
     add-n
-    add-i
-    loop-less
+    (λ c. omega arith)
+    (λ c. omega arith)
     loop-again
     returns-5)

@@ -7,18 +7,6 @@ use Rattle.wire.proofs.Cursor.{ends-room, placed-damaged, start-inside,
 use Rattle.wire.proofs.places.read_word.Statement.{statement}
 use Rattle.wire.proofs.places.read_word.Tie as tie
 
-sub-left : tie.Need-sub-left
-sub-left c = search needs
-
-read-count-requires : tie.Need-read-count-requires
-read-count-requires c κs = search needs
-
-enum-known-count : tie.Need-enum-known-count
-enum-known-count c = search needs
-
-enum-told : tie.Need-enum-told
-enum-told c = search needs
-
 returns : tie.Need-returns
 returns c = placed-damaged (c .before .before .before .before .args .s .now) (c .before .before .before .before .args .at) (sym (c .enum-told .given .1) ∙ c .before .before .read-count .ensures)
 
@@ -27,9 +15,6 @@ sub-if1 c = start-inside (c .before .before .before .before .before .args .s .no
 
 returns-2 : tie.Need-returns-2
 returns-2 c = let back2 = c .before .before in let back4 = back2 .before .before in let back6 = back4 .before .before in placed-short (back6 .args .s .now) _ (back6 .pre) _ _ (sym (back2 .count .given .1) ∙ back4 .read-count .ensures) (c .if1 .taken)
-
-add-end : tie.Need-add-end
-add-end c = search needs
 
 ends-line-requires : tie.Need-ends-line-requires
 ends-line-requires c κs = let back2 = c .before .before in let back4 = back2 .before .before in let back6 = back4 .before .before in let args = back6 .args in omega (arith, start-inside (args .s .now) (args .at) (back6 .pre) _ _ (sym (back2 .count .given .1) ∙ back4 .read-count .ensures))
@@ -47,14 +32,14 @@ pub read-word-spec : {M : Type 1} → statement M
 read-word-spec =
     tie.close
     (tie.spec
-    sub-left
-    read-count-requires
-    enum-known-count
-    enum-told
+    (λ c. search needs)
+    (λ c κs. search needs)
+    (λ c. search needs)
+    (λ c. search needs)
     returns
     sub-if1
     returns-2
-    add-end
+    (λ c. search needs)
     ends-line-requires
     returns-3
     add-t8

@@ -7,17 +7,11 @@ use borrow.Author.Needs.{needs}
 use Rattle.wire.proofs.replies.put_count.Statement.{statement}
 use Rattle.wire.proofs.replies.put_count.Tie as tie
 
-slice-write-out : tie.Need-slice-write-out
-slice-write-out c = search needs
-
 sub-write-natural : tie.Need-sub-write-natural
 sub-write-natural c = mark-inside (c .before .args .mark) (naturalText (c .before .args .n)) crlf (c .before .args .out .now) (c .before .pre)
 
 part-write-natural-start : tie.Need-part-write-natural-start
 part-write-natural-start c = mark-inside (c .before .args .mark) (naturalText (c .before .args .n)) crlf (c .before .args .out .now) (c .before .pre)
-
-part-write-natural-end : tie.Need-part-write-natural-end
-part-write-natural-end c = search needs
 
 write-natural-requires : tie.Need-write-natural-requires
 write-natural-requires c κs = mark-room (c .before .before .args .mark) (naturalText (c .before .before .args .n)) crlf (c .before .before .args .out .now) (c .before .before .pre)
@@ -30,9 +24,6 @@ sub-put-end c = let back2 = c .before .before in let back5 = back2 .before .befo
 
 part-put-end-start : tie.Need-part-put-end-start
 part-put-end-start c = let back2 = c .before .before in let back5 = back2 .before .before .before in let args = back5 .args in let pre = back5 .pre in tail-inside crlf (marked (args .mark) (naturalText (args .n)) crlf (args .out .now) (pre) (back2 .write-natural .ensures)) (pre)
-
-part-put-end-end : tie.Need-part-put-end-end
-part-put-end-end c = search needs
 
 put-end-requires : tie.Need-put-end-requires
 put-end-requires c κs = let back3 = c .before .before .before in let back6 = back3 .before .before .before in let args = back6 .args in let pre = back6 .pre in tail-room crlf (marked (args .mark) (naturalText (args .n)) crlf (args .out .now) (pre) (back3 .write-natural .ensures)) (pre)
@@ -50,15 +41,15 @@ pub put-count-spec : {M : Type 1} → statement M
 put-count-spec =
     tie.close
     (tie.spec
-    slice-write-out
+    (λ c. search needs)
     sub-write-natural
     part-write-natural-start
-    part-write-natural-end
+    (λ c. search needs)
     write-natural-requires
     add-at
     sub-put-end
     part-put-end-start
-    part-put-end-end
+    (λ c. search needs)
     put-end-requires
     add-result
     same-length

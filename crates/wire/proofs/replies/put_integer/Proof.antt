@@ -22,9 +22,6 @@ part-write-integer-start : tie.Need-part-write-integer-start
 unfolding integer text
 part-write-integer-start c = mark-inside _ (integerText (integerOf (c .before .args .z))) crlf (c .before .args .out .now) (c .before .pre)
 
-part-write-integer-end : tie.Need-part-write-integer-end
-part-write-integer-end c = search needs
-
 write-integer-requires : tie.Need-write-integer-requires
 unfolding integer text
 write-integer-requires c κs = mark-room _ (integerText (integerOf (c .before .before .args .z))) crlf (c .before .before .args .out .now) (c .before .before .pre)
@@ -40,9 +37,6 @@ sub-put-end c = let back2 = c .before .before in let back5 = back2 .before .befo
 part-put-end-start : tie.Need-part-put-end-start
 unfolding integer text
 part-put-end-start c = let back2 = c .before .before in let back5 = back2 .before .before .before in let args = back5 .args in let pre = back5 .pre in tail-inside crlf (marked _ (integerText (integerOf (args .z))) crlf (args .out .now) (pre) (back2 .write-integer .ensures)) (pre)
-
-part-put-end-end : tie.Need-part-put-end-end
-part-put-end-end c = search needs
 
 put-end-requires : tie.Need-put-end-requires
 unfolding integer text
@@ -67,12 +61,12 @@ put-integer-spec =
     slice-write-out
     sub-write-integer
     part-write-integer-start
-    part-write-integer-end
+    (λ c. search needs)
     write-integer-requires
     add-at
     sub-put-end
     part-put-end-start
-    part-put-end-end
+    (λ c. search needs)
     put-end-requires
     add-result
     same-length
