@@ -1,14 +1,14 @@
 -- What the functions of the store ask and answer, in the terms of the other definitions.
 use mathlib.Core.Path.{_≡_}
-use mathlib.Core.Bool.{Bool, true, false, cond, _&&_, _||_}
+use mathlib.Core.Bool.{Bool, true, false, cond, _&&_}
 use mathlib.Core.List.{List, [], _∷_, map, _++_}
 use mathlib.Core.Option.{Option, none, some, Option·map}
 use Prim.Native.Nat.{ℕ, _+_, _-_, _*_, _/_, _%_, _^_, _≤_, _<_}
 use lib.Bits.{bitOr, bitXor}
-use lib.Dec.{leb, ltb, eqb}
+use lib.Dec.{eqb}
 use lib.ListN.{length, drop, getD, set}
 use Rattle.wire.specs.Lists.{every, all, any, orElse}
-use Rattle.wire.specs.Bytes.{Bytes, fromLE, part, allZero, toLE}
+use Rattle.wire.specs.Bytes.{Bytes, fromLE, part, toLE}
 use Rattle.store.specs.declared.Expiry.{Expiry}
 use Rattle.store.specs.declared.Expiry.the-variants.{Never, At}
 use Rattle.store.specs.declared.Found.{Found}

@@ -6,7 +6,6 @@ use Rattle.store.proofs.SlotParts.{state-expiring, state-lasting}
 use borrow.Author.Needs.{needs}
 use Rattle.store.proofs.slot.expiry.Statement.{statement}
 use Rattle.store.proofs.slot.expiry.Tie as tie
-use Rattle.wire.proofs.numbers.read_le.Reads as read-le-reads
 
 returns : tie.Need-returns
 unfolding part

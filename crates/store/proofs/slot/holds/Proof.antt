@@ -8,9 +8,6 @@ use Rattle.store.proofs.SlotParts.{state-empty, holds-held}
 use borrow.Author.Needs.{needs}
 use Rattle.store.proofs.slot.holds.Statement.{statement}
 use Rattle.store.proofs.slot.holds.Tie as tie
-use Rattle.store.proofs.slot.field.Reads as field-reads
-use Rattle.store.proofs.slot.key.Reads as key-reads
-use Rattle.wire.proofs.slices.equal.Reads as equal-reads
 
 returns : tie.Need-returns
 unfolding holds orElse

@@ -5,7 +5,6 @@ use Rattle.store.proofs.SlotParts.{state-empty, live-held}
 use borrow.Author.Needs.{needs}
 use Rattle.store.proofs.slot.is_live.Statement.{statement}
 use Rattle.store.proofs.slot.is_live.Tie as tie
-use Rattle.store.proofs.slot.expiry.Reads as expiry-reads
 
 returns : tie.Need-returns
 unfolding liveSlot orElse

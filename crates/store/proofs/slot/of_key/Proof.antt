@@ -5,8 +5,6 @@ use Rattle.store.proofs.SlotParts.{state-empty, key-held}
 use borrow.Author.Needs.{needs}
 use Rattle.store.proofs.slot.of_key.Statement.{statement}
 use Rattle.store.proofs.slot.of_key.Tie as tie
-use Rattle.store.proofs.slot.key.Reads as key-reads
-use Rattle.wire.proofs.slices.equal.Reads as equal-reads
 
 returns : tie.Need-returns
 unfolding ofKey orElse

@@ -3,7 +3,6 @@ use Rattle.store.specs.Store.{decodeEntry}
 use borrow.Author.Needs.{needs}
 use Rattle.store.proofs.slot.version.Statement.{statement}
 use Rattle.store.proofs.slot.version.Tie as tie
-use Rattle.wire.proofs.numbers.read_le.Reads as read-le-reads
 
 returns : tie.Need-returns
 unfolding decodeEntry part
