@@ -39,9 +39,13 @@ use Rattle.commands.proofs.Full.{full-exactly, full-accepted, done-exactly}
 use Rattle.commands.proofs.Keeps.{execBytes-well, execBytes-means, execBytes-length}
 use Rattle.feeder.specs.declared.Feeder.{Feeder}
 use Rattle.feeder.specs.Feed.{bufferLeast, feed}
-use Rattle.feeder.specs.Calls.{Call, AllBytes, Total, Ran, begin, callAll, answerTo, uncut, Untouched, Answered, offeringAll}
+use Rattle.feeder.specs.Stream.{doAll}
+use Rattle.feeder.specs.State.{fresh}
+use Rattle.feeder.specs.Pieces.{untaken, absorbAll}
+use Rattle.feeder.specs.Calls.{Call, AllBytes, Total, Ran, begin, callAll, answerTo, acceptedPieces, doneFor, uncut, Untouched, Answered, offeringAll}
 use Rattle.feeder.proofs.Refusals as refusals
-use Rattle.feeder.proofs.Calls as calls
+use Rattle.feeder.proofs.ListOfPieces as pieces
+use Rattle.feeder.proofs.ListOfCalls as calls
 
 -- ════ Demand 1: refusals
 
@@ -146,7 +150,7 @@ pub dead-for-good : (r : Step) (rs : List Step) (next : Step) (s : Store) (c : C
 dead-for-good = dead-stays-dead
 
 -- No reply on a well-formed store is longer than 56,000 bytes, so a call's reply lies in its buffer.
-pub reply-fits : (clock : ℕ) (command b : List ℕ) → wellFormed b ≡ true → length (execBytes clock command b .reply) ≤ 56000
+pub reply-fits : (clock : ℕ) (command b : List ℕ) → wellFormed b ≡ true → length (execBytes clock command b .reply) ≤ bufferLeast
 reply-fits = refusals.reply-short
 
 pub buffer-stays : (f : Feeder) (piece b buffer : List ℕ) → length (feed f piece b buffer .buffer) ≡ length buffer
@@ -162,7 +166,9 @@ module _ (b : List ℕ) (well : wellFormed b ≡ true) where
   -- From any well-formed store and a fresh feeder, after any list of calls with any pieces and any buffers, refused calls included: the joined
   -- replies, the total skipped, the bytes left waiting and the whole store are those of the definition for the bytes used, joined.
   pub demand-3 : (cs : List Call) → AllBytes cs → callAll (begin b) cs ≡ uncut (callAll (begin b) cs .used) b
-  demand-3 cs bytes = calls.agrees-uncut (calls.all-reached b well (begin b) cs bytes (calls.begin-reached b well) .agrees)
+  demand-3 cs bytes =
+      rw (calls.calls-done b well cs bytes)
+      (unfold doneFor in calls.halves-uncut b well (absorbAll untaken (acceptedPieces cs)) (pieces.pieces-divide (acceptedPieces cs)))
 
   -- "For every list of feeding calls from there, refused ones included, whatever piece and whatever reply buffer each brings, this holds after
   -- it." The same of the code: whatever calls of `Feeder::feed` a program makes, each with the state that the last one handed back and the store
@@ -176,15 +182,16 @@ module _ (b : List ℕ) (well : wellFormed b ≡ true) where
   -- Else it uses as many bytes as the paper says, and at least one if its piece isn't empty.
   pub demand-3-each : (cs : List Call) → AllBytes cs → (c : Call) → Answered (callAll (begin b) cs) c (answerTo (callAll (begin b) cs) c)
   demand-3-each cs bytes c =
-      calls.call-answered b well (callAll (begin b) cs) c (calls.all-reached b well (begin b) cs bytes (calls.begin-reached b well))
+      rw (calls.calls-done b well cs bytes)
+      (calls.call-answered b well (absorbAll untaken (acceptedPieces cs)) (calls.end-reached b well cs bytes) c)
 
   -- Cutting a stream anywhere and offering each piece until it is used up uses the whole stream, so it gives the uncut answer.
   pub demand-3-cut : (buffer : List ℕ) → bufferLeast ≤ length buffer → (pieces : List (List ℕ)) → ((i : ℕ) → Bytes (getD pieces i []))
       → callAll (begin b) (offeringAll buffer pieces (begin b)) ≡ uncut (flatten pieces) b
-  unfolding begin
+  unfolding begin fresh doneFor doAll untaken
   demand-3-cut buffer large pieces bytes =
       demand-3 (offeringAll buffer pieces (begin b)) (calls.offeringAll-bytes b well buffer large pieces (begin b) bytes)
-      ∙ ap (λ (s : List ℕ). uncut s b) (calls.offeringAll-used b well buffer large pieces (begin b) bytes (calls.begin-reached b well))
+      ∙ ap (λ (s : List ℕ). uncut s b) (calls.offeringAll-used b well buffer large pieces untaken bytes (calls.untaken-reached b well))
 
 -- ════ Round trips
 

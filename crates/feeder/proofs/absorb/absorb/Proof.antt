@@ -1,6 +1,6 @@
 use mathlib.Core.Path.{sym, _∙_}
 use native.Mathlib.Omega.{arith}
-use Rattle.feeder.proofs.Waiting.{left-state}
+use Rattle.feeder.proofs.StateLeft.{left-state}
 use Rattle.feeder.proofs.Absorbing.{completes, end-small, end-beyond, rest-inside, rest-waits, absorbed-record, absorbed-none}
 use borrow.Author.Needs.{needs}
 use Rattle.feeder.proofs.absorb.absorb.Statement.{statement}

@@ -1,6 +1,6 @@
 use mathlib.Core.Path.{sym}
 use native.Mathlib.Omega.{arith}
-use Rattle.feeder.proofs.Waiting.{left-state}
+use Rattle.feeder.proofs.StateLeft.{left-state}
 use Rattle.feeder.proofs.Absorbing.{forgotten}
 use borrow.Author.Needs.{needs}
 use Rattle.feeder.proofs.absorb.forget.Statement.{statement}

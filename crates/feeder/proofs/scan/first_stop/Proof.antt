@@ -4,7 +4,7 @@ use Prim.Native.Nat.{_+_, _-_}
 use native.Mathlib.Omega.{arith}
 use borrow.Author.Needs.{needs}
 use lib.ListN.{length}
-use Rattle.feeder.proofs.Stops.{Scanning, scan-begins, scan-whole, scan-waits, scan-goes-on, scan-ends}
+use Rattle.feeder.proofs.ScanStops.{Scanning, scan-begins, scan-whole, scan-waits, scan-goes-on, scan-ends}
 use Rattle.feeder.proofs.scan.first_stop.Statement.{statement}
 use Rattle.feeder.proofs.scan.first_stop.Tie as tie
 

@@ -4,7 +4,7 @@ use Prim.Native.Nat.{_-_}
 use native.Mathlib.Omega.{arith}
 use lib.ListN.{length}
 use borrow.Author.Needs.{needs}
-use Rattle.feeder.proofs.Stops.{Counting, count-begins, count-mark, count-other, count-ends}
+use Rattle.feeder.proofs.ScanStops.{Counting, count-begins, count-mark, count-other, count-ends}
 use Rattle.feeder.proofs.scan.is_unmarked.Statement.{statement}
 use Rattle.feeder.proofs.scan.is_unmarked.Tie as tie
 

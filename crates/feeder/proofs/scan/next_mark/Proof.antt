@@ -3,13 +3,13 @@ use Prim.Native.Nat.{_-_}
 use native.Mathlib.Omega.{arith}
 use lib.ListN.{length}
 use borrow.Author.Needs.{needs}
-use Rattle.feeder.specs.Promises.{Passed}
-use Rattle.feeder.proofs.Stops.{pass-goes-on}
+use Rattle.feeder.specs.Promises.{UnmarkedUpTo}
+use Rattle.feeder.proofs.ScanStops.{pass-goes-on}
 use Rattle.feeder.proofs.scan.next_mark.Statement.{statement}
 use Rattle.feeder.proofs.scan.next_mark.Tie as tie
 
 abbrev Inv-loop : tie.InvT-loop
-Inv-loop piece from i₀ i = Passed piece from i
+Inv-loop piece from i₀ i = UnmarkedUpTo piece from i
 
 abbrev μ-loop : tie.MeasureT-loop
 μ-loop piece from i₀ i = length piece - i

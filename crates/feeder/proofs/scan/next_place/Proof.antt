@@ -1,7 +1,7 @@
 use mathlib.Core.List.{_++_}
 use borrow.Author.Needs.{needs}
 use lib.ListN.{length-append}
-use Rattle.feeder.proofs.Stops.{next-waiting, next-marked}
+use Rattle.feeder.proofs.ScanStops.{next-waiting, next-marked}
 use Rattle.feeder.proofs.scan.next_place.Statement.{statement}
 use Rattle.feeder.proofs.scan.next_place.Tie as tie
 

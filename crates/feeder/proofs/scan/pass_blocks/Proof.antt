@@ -4,13 +4,13 @@ use native.Mathlib.Omega.{arith}
 use lib.ListN.{length}
 use borrow.Author.Needs.{needs}
 use borrow.Author.Tests.{not-false}
-use Rattle.feeder.specs.Promises.{Passed}
-use Rattle.feeder.proofs.Stops.{pass-begins, pass-block}
+use Rattle.feeder.specs.Promises.{UnmarkedUpTo}
+use Rattle.feeder.proofs.ScanStops.{pass-begins, pass-block}
 use Rattle.feeder.proofs.scan.pass_blocks.Statement.{statement}
 use Rattle.feeder.proofs.scan.pass_blocks.Tie as tie
 
 abbrev Inv-loop : tie.InvT-loop
-Inv-loop piece from i₀ i = Passed piece from i
+Inv-loop piece from i₀ i = UnmarkedUpTo piece from i
 
 abbrev μ-loop : tie.MeasureT-loop
 μ-loop piece from i₀ i = length piece - i

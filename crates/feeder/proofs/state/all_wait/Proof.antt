@@ -1,6 +1,6 @@
 use mathlib.Core.Path.{sym, _∙_}
 use borrow.Author.Needs.{needs}
-use Rattle.feeder.proofs.Waiting.{none-waits, head-waits, head-skips, head-whole}
+use Rattle.feeder.proofs.StateLeft.{none-waits, head-waits, head-skips, head-whole}
 use Rattle.feeder.proofs.state.all_wait.Statement.{statement}
 use Rattle.feeder.proofs.state.all_wait.Tie as tie
 

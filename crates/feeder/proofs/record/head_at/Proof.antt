@@ -1,7 +1,7 @@
 use borrow.Author.Needs.{needs}
-use Rattle.feeder.proofs.Telling.{no-first, alone, no-second, no-length, too-short, too-long, cut-short, all-there}
-use Rattle.feeder.proofs.heads.head_at.Statement.{statement}
-use Rattle.feeder.proofs.heads.head_at.Tie as tie
+use Rattle.feeder.proofs.RecordTests.{no-first, alone, no-second, no-length, too-short, too-long, cut-short, all-there}
+use Rattle.feeder.proofs.record.head_at.Statement.{statement}
+use Rattle.feeder.proofs.record.head_at.Tie as tie
 
 byte-at-requires : tie.Need-byte-at-requires
 byte-at-requires c κs = search needs

@@ -2,21 +2,17 @@
 use mathlib.Core.Path.{_≡_, refl, ap, _∙_}
 use mathlib.Core.List.{List, [], _∷_, _++_, cons-ne-nil}
 use mathlib.Core.Option.{Option, none, some}
-use Prim.Native.Nat.{ℕ, suc, _+_, _≤_}
+use Prim.Native.Nat.{ℕ, suc, _+_, _-_, _≤_}
 use native.Mathlib.Omega.{arith}
 use lib.ListN.{length, drop}
 use Rattle.feeder.specs.Record.{Head, headOf, recordOf, commandAt, commandMost}
 use Rattle.feeder.specs.Record.Head.{skip, whole, wait}
 use Rattle.feeder.specs.Stream.{ended, skipping, dividedAt, divideAfter, divide}
-use Rattle.feeder.specs.Feed.{Place, later, placedAt, firstRecord}
-use Rattle.feeder.proofs.Head.{told, head-more, whole-fits, whole-most, skip-fewer, whole-fewer}
+use Rattle.feeder.specs.Absorb.{Place, later, placedAt, firstRecord, endOf}
+use Rattle.feeder.proofs.RecordHead.{told, head-more, whole-fits, whole-most, skip-fewer, whole-fewer}
 
 pub zero≢one : _≡_ {A = ℕ} 0 1 → ⊥
 zero≢one z = omega arith
-
--- just past a record
-abbrev pub endOf : Place → ℕ
-endOf p = p .at + (commandAt + p .size)
 
 -- the first record of a stream stands after bytes to skip
 pub data First : List ℕ → Place → Type 0 where
@@ -118,7 +114,7 @@ pub first-divides : {s : List ℕ} {p : Place} → First s p → endOf p ≡ len
     → divide s ≡ record { records = recordOf (p .size) (drop (p .at) s) ∷ []; skipped = p .at; rest = [] }
 unfolding divide divideAfter dividedAt
 first-divides (here {b = b} {s = s} {n = n} h) l =
-    let k : 11 + n ≡ length s = omega arith in
+    let k : commandAt - 1 + n ≡ length s = omega arith in
     rw h (rw k (rw (passed-over s)))
 first-divides (there {b = b} {s = s} {p = p} h f) l = rw h (ap skipping (first-divides f (omega arith)))
 
@@ -126,6 +122,6 @@ first-divides (there {b = b} {s = s} {p = p} h f) l = rw h (ap skipping (first-d
 pub first-not-waiting : {s : List ℕ} {p : Place} → First s p → divide s .records ≡ [] → ⊥
 unfolding divide divideAfter dividedAt
 first-not-waiting (here {b = b} {s = s} {n = n} h) e =
-    let g : recordOf n (b ∷ s) ∷ divideAfter (11 + n) s .records ≡ [] = rw h at e in
-    cons-ne-nil (recordOf n (b ∷ s)) (divideAfter (11 + n) s .records) g
+    let g : recordOf n (b ∷ s) ∷ divideAfter (commandAt - 1 + n) s .records ≡ [] = rw h at e in
+    cons-ne-nil (recordOf n (b ∷ s)) (divideAfter (commandAt - 1 + n) s .records) g
 first-not-waiting (there h f) e = first-not-waiting f (rw h at e)

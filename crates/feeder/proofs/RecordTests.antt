@@ -8,8 +8,8 @@ use lib.ListN.{length, drop, getD, length-append, length-drop, List·getD-append
 use lib.Seq.{drop-cons, getD-drop, getD-append-add}
 use borrow.Author.Tests.{eq-eqb, ne-eqb, lt-ltb, le-ltb}
 use Rattle.wire.specs.Bytes.{fromLE, part}
-use Rattle.feeder.specs.declared.heads.Head.the-variants as heads
-use Rattle.feeder.specs.Record.{headOf, commandLength, firstMark, secondMark, commandAt, commandMost}
+use Rattle.feeder.specs.declared.record.Head.the-variants as heads
+use Rattle.feeder.specs.Record.{headOf, commandLength, firstMark, secondMark, lengthAt, commandAt, commandMost}
 use Rattle.feeder.specs.Promises.{headFor}
 
 -- ---- one byte of the two lists
@@ -24,12 +24,12 @@ byte-after w p i l =
 
 -- ---- the length of a command, of its two bytes
 
-pub length-spelled : (s : List ℕ) → commandAt ≤ length s → commandLength s ≡ getD s 10 0 + 256 * getD s 11 0
+pub length-spelled : (s : List ℕ) → commandAt ≤ length s → commandLength s ≡ getD s lengthAt 0 + 256 * getD s (lengthAt + 1) 0
 unfolding commandLength fromLE part
 length-spelled s l =
-    let low : 10 < length s = omega arith in
-    let high : 11 < length s = omega arith in
-    rw (drop-cons s 10 0 low) (rw (drop-cons s 11 0 high) (omega arith))
+    let low : lengthAt < length s = omega arith in
+    let high : lengthAt + 1 < length s = omega arith in
+    rw (drop-cons s lengthAt 0 low) (rw (drop-cons s (lengthAt + 1) 0 high) (omega arith))
 
 -- ---- the tests, in their order
 
@@ -74,11 +74,11 @@ module _ (w p : List ℕ) (at : ℕ) {a : ℕ} (ea : a ≡ getD (w ++ p) at 0) w
           )
 
       module _ (twelve : commandAt ≤ length w + length p - at) {low high : ℕ}
-          (el : low ≡ getD (w ++ p) (at + 10) 0) (eh : high ≡ getD (w ++ p) (at + 11) 0) where
+          (el : low ≡ getD (w ++ p) (at + lengthAt) 0) (eh : high ≡ getD (w ++ p) (at + (lengthAt + 1)) 0) where
         size : commandLength (drop at (w ++ p)) ≡ low + 256 * high
         size =
             length-spelled (drop at (w ++ p)) (rw left-is twelve)
-            ∙ rw (getD-drop at (w ++ p) 10 0, getD-drop at (w ++ p) 11 0, ← el, ← eh)
+            ∙ rw (getD-drop at (w ++ p) lengthAt 0, getD-drop at (w ++ p) (lengthAt + 1) 0, ← el, ← eh)
 
         pub too-short : low + 256 * high < 1 → heads.Skip ≡ headFor (headOf (drop at (w ++ p)))
         unfolding headFor headOf

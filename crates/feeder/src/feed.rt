@@ -3,21 +3,22 @@ use crate::Fed;
 use crate::Feeder;
 use crate::absorb::Completed;
 use crate::absorb::absorb;
-use crate::heads::COMMAND;
-use crate::heads::MOST;
+use crate::record::RECORD_MOST;
 use crate::state::feeding_leaves;
 use commands::execute::execute;
 use store::check::well_formed;
 ghost use mathlib.Core.Path.{_≡_};
 ghost use mathlib.Core.Bool.{true};
-ghost use Prim.Native.Nat.{_≤_};
+ghost use Prim.Native.Nat.{_+_, _≤_};
 ghost use lib.ListN.{length};
 ghost use Rattle.store.specs.Store.{wellFormed};
-ghost use Rattle.feeder.specs.Feed.{bufferLeast, feed};
-ghost use Rattle.feeder.specs.Promises.{CommandInside, doneFor, Replied};
+ghost use Rattle.wire.specs.Bytes.{part};
+ghost use Rattle.commands.specs.Execute.{execBytes};
+ghost use Rattle.feeder.specs.Feed.{bufferLeast, doing, feed};
+ghost use Rattle.feeder.specs.Promises.{recordIn, CommandInside, Replied};
 
 // The least size of a reply buffer.
-const REPLY: usize = 56000;
+const BUFFER_LEAST: usize = 56000;
 
 // A refused call hands its state back as it came.
 fn refused(number: u32, feeder: Feeder) -> Fed
@@ -32,7 +33,26 @@ fn refused(number: u32, feeder: Feeder) -> Fed
     }
 }
 
-// Does the record completed, if any: writes its reply, and answers the reply's length.
+// Does a record whose command is so many bytes from a place on: writes its reply, and answers the reply's length.
+fn do_record(
+    clock: u64,
+    bytes: &[u8],
+    start: usize,
+    size: usize,
+    store: &mut [u8],
+    reply: &mut [u8],
+) -> usize
+    requires { ⌜ start + size ≤ length (now bytes) ⌝ }
+    requires { ⌜ (wellFormed (now store) ≡ true) × (bufferLeast ≤ length (now reply)) ⌝ }
+    ensures { λ r.
+        let done = execBytes clock (part start size (now (bytes .entry))) (now (store .entry)) in
+        ⌜ Replied done (now (store .exit)) (now (reply .entry)) (now (reply .exit)) r ⌝ }
+{
+    let end = start + size;
+    execute(clock, &bytes[start..end], store, reply)
+}
+
+// Does the record completed, if any.
 fn reply_to(
     completed: Completed,
     piece: &[u8],
@@ -42,17 +62,17 @@ fn reply_to(
 ) -> usize
     requires { ⌜ CommandInside completed (now piece) (now joined) ⌝ }
     requires { ⌜ (wellFormed (now store) ≡ true) × (bufferLeast ≤ length (now reply)) ⌝ }
-    ensures { λ r. ⌜ Replied (doneFor completed (now (piece .entry)) (now (joined .entry)) (now (store .entry))) (now (store .exit)) (now (reply .entry)) (now (reply .exit)) r ⌝ }
+    ensures { λ r.
+        let done = doing (recordIn completed (now (piece .entry)) (now (joined .entry))) (now (store .entry)) in
+        ⌜ Replied done (now (store .exit)) (now (reply .entry)) (now (reply .exit)) r ⌝ }
 {
     match completed {
         Completed::Nothing => 0,
         Completed::InPiece { clock, start, size } => {
-            let end = start + size;
-            execute(clock, &piece[start..end], store, reply)
+            do_record(clock, piece, start, size, store, reply)
         }
         Completed::Joined { clock, start, size } => {
-            let end = start + size;
-            execute(clock, &joined[start..end], store, reply)
+            do_record(clock, joined, start, size, store, reply)
         }
     }
 }
@@ -60,7 +80,9 @@ fn reply_to(
 impl Feeder {
     // One call: takes bytes of a piece, and does the record that they complete.
     pub fn feed(mut self, piece: &[u8], store: &mut [u8], reply: &mut [u8]) -> Fed
-        ensures { λ r. ⌜ record { fed = r; store = now (store .exit); buffer = now (reply .exit) } ≡ feed self (now (piece .entry)) (now (store .entry)) (now (reply .entry)) ⌝ }
+        ensures { λ r.
+            ⌜ record { fed = r; store = now (store .exit); buffer = now (reply .exit) }
+            ≡ feed self (now (piece .entry)) (now (store .entry)) (now (reply .entry)) ⌝ }
     {
         let count = self.count;
         if !feeding_leaves(&self.waiting, count) {
@@ -69,10 +91,10 @@ impl Feeder {
         if !well_formed(store) {
             return refused(2, self);
         }
-        if reply.len() < REPLY {
+        if reply.len() < BUFFER_LEAST {
             return refused(3, self);
         }
-        let mut joined = [0u8; COMMAND + MOST];
+        let mut joined = [0u8; RECORD_MOST];
         let absorbed = absorb(&mut self.waiting, count, piece, &mut joined);
         let completed = absorbed.completed;
         let replied = reply_to(completed, piece, &joined, store, reply);

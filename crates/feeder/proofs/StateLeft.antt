@@ -10,19 +10,43 @@ use lib.ListN.{length, take, drop, length-drop}
 use lib.Seq.{take-all, length-take-le}
 use borrow.Author.Tests.{eqb-true, leb-true, eq-eqb, le-leb, lt-leb}
 use Rattle.wire.specs.Lists.{every}
-use Rattle.wire.specs.Bytes.{Bytes, allZero, same}
-use Rattle.wire.proofs.Bytes.{same-refl, same-true}
+use Rattle.wire.specs.Bytes.{Bytes, allZero, padded, same}
+use Rattle.wire.proofs.Bytes.{bytes-padded, length-padded, take-padded, drop-padded, same-refl, same-true, zero-replicate}
 use Rattle.wire.proofs.Lists.{every-at}
 use Rattle.wire.proofs.Passing.{not-same}
 use Rattle.feeder.specs.declared.Feeder.{Feeder}
-use Rattle.feeder.specs.declared.heads.Head.the-variants as heads
-use Rattle.feeder.specs.Record.{Head, headOf}
+use Rattle.feeder.specs.declared.record.Head.the-variants as heads
+use Rattle.feeder.specs.Record.{Head, headOf, commandAt}
 use Rattle.feeder.specs.Record.Head.{skip, whole, wait}
 use Rattle.feeder.specs.Stream.{ended, dividedAt, divideAfter, divide}
-use Rattle.feeder.specs.Feed.{waitingMost, waitingIn, isLeft}
+use Rattle.feeder.specs.State.{waitingMost, stateOf, waitingIn, isLeft}
 use Rattle.feeder.specs.Promises.{headFor}
-use Rattle.feeder.proofs.Head.{told}
-use Rattle.feeder.proofs.Divide.{rest-is, all-wait, rest-waits}
+use Rattle.feeder.proofs.RecordHead.{told}
+use Rattle.feeder.proofs.StreamDivide.{rest-is, all-wait, rest-waits, rest-short, rest-bytes}
+
+-- ---- a state made of bytes
+
+-- the waiting bytes of a state are those that it was made of
+pub waiting-back : (s : List ℕ) → waitingIn (stateOf s) ≡ s
+unfolding waitingIn stateOf
+waiting-back s = take-padded waitingMost s
+
+-- what waits after a stream is a state that feeding leaves
+pub rest-left : (s : List ℕ) → Bytes s → isLeft (stateOf (divide s .rest)) ≡ true
+unfolding isLeft every stateOf
+rest-left s bs =
+    let r : List ℕ = divide s .rest in
+    let short : length r ≤ waitingMost = rest-short s in
+    rw (
+      bytes-padded waitingMost r (rest-bytes s bs),
+      eq-eqb (length (padded waitingMost r)) waitingMost (length-padded waitingMost r short),
+      le-leb (length r) waitingMost short,
+      waiting-back r,
+      rest-waits s,
+      same-refl r,
+      drop-padded waitingMost r,
+      zero-replicate (waitingMost - length r),
+    )
 
 -- ---- whether bytes all wait
 
@@ -45,7 +69,7 @@ tells (b ∷ s) some e = go (headOf (b ∷ s)) e
   where
     go : (h : Head) → told h ≡ true → false ≡ same (dividedAt h (b ∷ s) (λ k. divideAfter k s) .rest) (b ∷ s)
     go skip e = sym (told-not-all b s 0)
-    go (whole n) e = sym (told-not-all b s (11 + n))
+    go (whole n) e = sym (told-not-all b s (commandAt - 1 + n))
     go wait e = absurd (false≢true e)
 
 module _ (s : List ℕ) (some : length s ≡ 0 → ⊥) where

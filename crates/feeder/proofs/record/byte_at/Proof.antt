@@ -1,7 +1,7 @@
 use borrow.Author.Needs.{needs}
-use Rattle.feeder.proofs.Telling.{byte-before, byte-after}
-use Rattle.feeder.proofs.heads.byte_at.Statement.{statement}
-use Rattle.feeder.proofs.heads.byte_at.Tie as tie
+use Rattle.feeder.proofs.RecordTests.{byte-before, byte-after}
+use Rattle.feeder.proofs.record.byte_at.Statement.{statement}
+use Rattle.feeder.proofs.record.byte_at.Tie as tie
 
 shared-slice-read-result : tie.Need-shared-slice-read-result
 shared-slice-read-result c = search needs

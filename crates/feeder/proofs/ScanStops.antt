@@ -13,16 +13,16 @@ use lib.Seq.{drop-cons, getD-take, getD-drop}
 use borrow.Author.Count.{below-more}
 use borrow.Author.Tests.{eqb-true, ltb-true, ltb-false, ne-eqb}
 use Rattle.wire.specs.Lists.{orElse}
-use Rattle.feeder.specs.declared.heads.Head.the-variants as heads
+use Rattle.feeder.specs.declared.record.Head.the-variants as heads
 use Rattle.feeder.specs.declared.scan.Stop.{Stop}
 use Rattle.feeder.specs.declared.scan.Stop.the-variants as stops
 use Rattle.feeder.specs.Record.{Head, headOf, firstMark}
 use Rattle.feeder.specs.Record.Head.{skip, whole, wait}
 use Rattle.feeder.specs.Stream.{dividedAt, divideAfter, divide}
-use Rattle.feeder.specs.Feed.{Place, placedAt, firstRecord}
-use Rattle.feeder.proofs.First.{zero≢one}
-use Rattle.feeder.proofs.Telling.{byte-after}
-use Rattle.feeder.specs.Promises.{headFor, stopOf, laterBy, stopFrom, Unmarked, Passed, NextPlace}
+use Rattle.feeder.specs.Absorb.{Place, placedAt, firstRecord}
+use Rattle.feeder.proofs.FirstRecord.{zero≢one}
+use Rattle.feeder.proofs.RecordTests.{byte-after}
+use Rattle.feeder.specs.Promises.{headFor, blockSize, stopOf, laterBy, stopFrom, Unmarked, UnmarkedUpTo, NextPlace}
 
 -- ---- one byte at a time
 
@@ -151,10 +151,10 @@ pass-over s k (suc n) l h =
     ∙ ap (λ (i : ℕ). stopFrom i s) (omega arith)
 
 -- bytes passed one by one
-pub pass-begins : (s : List ℕ) (from : ℕ) → from ≤ length s → Passed s from from
+pub pass-begins : (s : List ℕ) (from : ℕ) → from ≤ length s → UnmarkedUpTo s from from
 pass-begins s from l = record { ahead = omega arith; inside = l; unmarked = λ i a b h. omega arith }
 
-pub pass-goes-on : (s : List ℕ) (from i : ℕ) → Passed s from i → i < length s → (getD s i 0 ≡ firstMark → ⊥) → Passed s from (i + 1)
+pub pass-goes-on : (s : List ℕ) (from i : ℕ) → UnmarkedUpTo s from i → i < length s → (getD s i 0 ≡ firstMark → ⊥) → UnmarkedUpTo s from (i + 1)
 pass-goes-on s from i f l h =
     record {
       ahead = omega (arith, f .ahead);
@@ -163,17 +163,17 @@ pass-goes-on s from i f l h =
     }
 
 -- bytes passed in blocks
-pub pass-block : (s : List ℕ) (from i : ℕ) → Passed s from i → 64 ≤ length s - i → Unmarked (take (i + 64 - i) (drop i s)) → Passed s from (i + 64)
+pub pass-block : (s : List ℕ) (from i : ℕ) → UnmarkedUpTo s from i → blockSize ≤ length s - i → Unmarked (take (i + blockSize - i) (drop i s)) → UnmarkedUpTo s from (i + blockSize)
 pass-block s from i f l h =
     record { ahead = omega (arith, f .ahead); inside = omega (arith, f .inside); unmarked = λ j a b. go j a b (ltb j i) refl }
   where
-    go : (j : ℕ) → from ≤ j → j < i + 64 → (t : Bool) → ltb j i ≡ t → getD s j 0 ≡ firstMark → ⊥
+    go : (j : ℕ) → from ≤ j → j < i + blockSize → (t : Bool) → ltb j i ≡ t → getD s j 0 ≡ firstMark → ⊥
     go j a b true q e = f .unmarked j a (ltb-true j i q) e
     go j a b false q e =
         let low : i ≤ j = ltb-false j i q in
-        let near : j - i < i + 64 - i = omega arith in
+        let near : j - i < i + blockSize - i = omega arith in
         let back : i + (j - i) ≡ j = omega arith in
-        h (j - i) (getD-take (i + 64 - i) (drop i s) (j - i) 0 near ∙ getD-drop i s (j - i) 0 ∙ ap (λ (n : ℕ). getD s n 0) back ∙ e)
+        h (j - i) (getD-take (i + blockSize - i) (drop i s) (j - i) 0 near ∙ getD-drop i s (j - i) 0 ∙ ap (λ (n : ℕ). getD s n 0) back ∙ e)
 
 -- marks counted: where there is none yet, none stands before i
 pub record Counting (s : List ℕ) (marks i : ℕ) : Type 0 where
@@ -210,7 +210,7 @@ pub next-waiting : (s : List ℕ) (at : ℕ) → at < length s → NextPlace s a
 next-waiting s at l = record { ahead = omega arith; inside = omega arith; stops-there = refl }
 
 -- the next place in the piece is its next mark
-pub next-marked : (w p : List ℕ) (at r : ℕ) → length w ≤ at + 1 → Passed p (at + 1 - length w) r → NextPlace (w ++ p) at (length w + r)
+pub next-marked : (w p : List ℕ) (at r : ℕ) → length w ≤ at + 1 → UnmarkedUpTo p (at + 1 - length w) r → NextPlace (w ++ p) at (length w + r)
 next-marked w p at r l f =
     record { ahead = omega (arith, f .ahead); inside = rw length-append (omega (arith, f .inside)); stops-there = passes }
   where

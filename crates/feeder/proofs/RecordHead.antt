@@ -10,7 +10,7 @@ use lib.Seq.{take-append-le, drop-append-le}
 use borrow.Author.Tests.{ltb-true, ltb-false, le-ltb}
 use Rattle.wire.specs.Bytes.{fromLE, part}
 use Rattle.wire.proofs.Lists.{or-right}
-use Rattle.feeder.specs.Record.{Head, headOf, commandLength, recordOf, firstMark, secondMark, lengthAt, commandAt, commandMost}
+use Rattle.feeder.specs.Record.{Head, headOf, commandLength, recordOf, firstMark, secondMark, clockAt, lengthAt, commandAt, commandMost}
 use Rattle.feeder.specs.Record.Head.{skip, whole, wait}
 
 -- a part of s is the same part of s ++ u
@@ -28,7 +28,7 @@ length-more s u h = ap fromLE (part-more lengthAt 2 s u (omega arith))
 -- the record at the start of s is that at the start of s ++ u
 pub record-more : (n : ℕ) (s u : List ℕ) → commandAt + n ≤ length s → recordOf n (s ++ u) ≡ recordOf n s
 unfolding recordOf
-record-more n s u h = rw (part-more 2 8 s u (omega arith), part-more commandAt n s u h)
+record-more n s u h = rw (part-more clockAt 8 s u (omega arith), part-more commandAt n s u h)
 
 -- a head that can be told
 unfoldable pub told : Head → Bool

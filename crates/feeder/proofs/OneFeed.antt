@@ -1,0 +1,94 @@
+-- One feeding call of the code: refused, or its bytes absorbed and then its record done, as the definition says.
+use mathlib.Core.Path.{_≡_, refl, ap, _∙_}
+use mathlib.Core.Bool.{true, false}
+use mathlib.Core.List.{List}
+use Prim.Native.Nat.{ℕ, _+_, _-_, _≤_, _<_}
+use native.Mathlib.Omega.{arith}
+use lib.ListN.{length, take, drop}
+use borrow.Author.Tests.{lt-ltb, le-ltb}
+use Rattle.wire.specs.Lists.{orElse}
+use Rattle.wire.specs.Bytes.{part}
+use Rattle.wire.specs.Reply.{laidOver}
+use Rattle.store.specs.Store.{wellFormed}
+use Rattle.commands.specs.Refusal.{lowest}
+use Rattle.commands.specs.Execute.{execBytes}
+use Rattle.feeder.specs.declared.Feeder.{Feeder}
+use Rattle.feeder.specs.declared.Fed.{Fed}
+use Rattle.feeder.specs.declared.absorb.Completed.{Completed}
+use Rattle.feeder.specs.declared.absorb.Completed.the-variants as completions
+use Rattle.feeder.specs.declared.absorb.Absorbed.{Absorbed}
+use Rattle.feeder.specs.State.{waitingIn, isLeft}
+use Rattle.feeder.specs.Absorb.{Absorbing, absorb}
+use Rattle.feeder.specs.Feed.{bufferLeast, checks, refusing, doing, answering, feed}
+use Rattle.feeder.specs.Promises.{recordIn, CommandInside, meant, Absorbs, Replied}
+
+-- ---- the record done
+
+-- what `execute` answers for a part of bytes
+pub executed : (clock start size : ℕ) (s b : List ℕ) {after buffer over : List ℕ} {r : ℕ}
+    → let d = execBytes clock (take (start + size - start) (drop start s)) b in
+    (r ≡ length (d .reply)) × (after ≡ d .store) × (over ≡ laidOver (d .reply) buffer)
+    → Replied (execBytes clock (part start size s) b) after buffer over r
+unfolding part
+executed clock start size s b h =
+    let n : start + size - start ≡ size = omega arith in
+    let g = rw n at h in
+    record { size = g .0; stored = g .1; bytes = g .2 }
+
+module _ (c : Completed) (piece joined : List ℕ) where
+  module _ (clock start size : ℕ) where
+    pub piece-inside : c ≡ completions.InPiece clock start size → CommandInside c piece joined → start + size ≤ length piece
+    unfolding CommandInside
+    piece-inside e h = rw e at h
+
+    pub joined-inside : c ≡ completions.Joined clock start size → CommandInside c piece joined → start + size ≤ length joined
+    unfolding CommandInside
+    joined-inside e h = rw e at h
+
+  module _ (b : List ℕ) where
+    pub nothing-done : (buffer : List ℕ) → c ≡ completions.Nothing → Replied (doing (recordIn c piece joined) b) b buffer buffer 0
+    unfolding doing orElse recordIn laidOver
+    nothing-done buffer e = rw e (record { size = refl; stored = refl; bytes = refl })
+
+    module _ (clock start size : ℕ) {after buffer over : List ℕ} {r : ℕ} where
+      pub piece-done : c ≡ completions.InPiece clock start size
+          → Replied (execBytes clock (part start size piece) b) after buffer over r → Replied (doing (recordIn c piece joined) b) after buffer over r
+      unfolding doing orElse recordIn
+      piece-done e h = rw e h
+
+      pub joined-done : c ≡ completions.Joined clock start size
+          → Replied (execBytes clock (part start size joined) b) after buffer over r → Replied (doing (recordIn c piece joined) b) after buffer over r
+      unfolding doing orElse recordIn
+      joined-done e h = rw e h
+
+-- ---- the whole call
+
+module _ (f : Feeder) (piece b buffer : List ℕ) where
+  pub fed-whole : {j v t : List ℕ} {a : Absorbed} → isLeft f ≡ true → Absorbs f piece j a v t
+      → wellFormed b ≡ true → bufferLeast ≤ length buffer
+      → {after over : List ℕ} {r : ℕ} → Replied (doing (recordIn (a .completed) piece t) b) after buffer over r
+      → record { fed = record { refusal = 0; used = a .used; skipped = a .skipped; replied = r; feeder = record { waiting = v; count = a .count } }; store = after; buffer = over }
+      ≡ feed f piece b buffer
+  unfolding feed checks lowest orElse answering meant
+  fed-whole left h well large d =
+      rw (left, well, le-ltb (length buffer) bufferLeast large)
+      (rw (d .size, d .stored, d .bytes, h .state) (ap (λ (x : Absorbing). answering x b buffer) (h .means)))
+
+  -- ---- refused
+
+  module _ {r : Fed} where
+    pub refused-state : isLeft f ≡ false → r ≡ record { refusal = 1; used = 0; skipped = 0; replied = 0; feeder = f }
+        → record { fed = r; store = b; buffer = buffer } ≡ feed f piece b buffer
+    unfolding feed checks lowest orElse refusing
+    refused-state x e = rw (x, e)
+
+    pub refused-store : isLeft f ≡ true → wellFormed b ≡ false → r ≡ record { refusal = 2; used = 0; skipped = 0; replied = 0; feeder = f }
+        → record { fed = r; store = b; buffer = buffer } ≡ feed f piece b buffer
+    unfolding feed checks lowest orElse refusing
+    refused-store x y e = rw (x, y, e)
+
+    pub refused-buffer : isLeft f ≡ true → wellFormed b ≡ true → length buffer < bufferLeast
+        → r ≡ record { refusal = 3; used = 0; skipped = 0; replied = 0; feeder = f }
+        → record { fed = r; store = b; buffer = buffer } ≡ feed f piece b buffer
+    unfolding feed checks lowest orElse refusing
+    refused-buffer x y l e = rw (x, y, lt-ltb (length buffer) bufferLeast l, e)
