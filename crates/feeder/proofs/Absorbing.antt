@@ -102,6 +102,10 @@ module _ (w p : List ℕ) (at size : ℕ) (j : List ℕ) (r : Completing w p at 
   abbrev asked : Option Record
   asked = some (recordOf size (drop at (w ++ p)))
 
+  -- the bytes of the piece up to its end
+  pub up-to-end : length (take (at + (commandAt + size) - length w) p) ≡ at + (commandAt + size) - length w
+  up-to-end = length-take-le (at + (commandAt + size) - length w) p (omega (arith, r .beyond, r .inside))
+
   -- it stands in the piece
   pub in-piece : {clock : ℕ} → length w ≤ at
       → clock ≡ fromLE (take 8 (drop clockAt (take (length p - (at - length w)) (drop (at - length w) p))))

@@ -112,7 +112,8 @@ unfolding absorbAll acceptedPieces
 accepts t c cs = go (ltb (length (c .buffer)) bufferLeast)
   where
     go : (small : Bool)
-        → absorbAll (cond small t (counted t (c .piece) (next t (c .piece)))) (acceptedPieces cs) ≡ absorbAll t (cond small (acceptedPieces cs) (c .piece ∷ acceptedPieces cs))
+        → absorbAll (cond small t (counted t (c .piece) (next t (c .piece)))) (acceptedPieces cs)
+        ≡ absorbAll t (cond small (acceptedPieces cs) (c .piece ∷ acceptedPieces cs))
     go true = refl
     go false = refl
 
@@ -151,7 +152,9 @@ module _ (b : List ℕ) (well : wellFormed b ≡ true) where
         store-well : wellFormed (doAll (t .divided .records) b .store) ≡ true
         store-well = rw (r .divides) (unfold divide in records-well 0 (t .used) (r .bytes) b well)
 
-        go : (small : Bool) → orElse (cond small (some 3) none) answer (λ n. refusing n (doneFor b t .feeder) (doneFor b t .store) (c .buffer)) ≡ cond small refusal answer
+        go : (small : Bool)
+            → orElse (cond small (some 3) none) answer (λ n. refusing n (doneFor b t .feeder) (doneFor b t .store) (c .buffer))
+            ≡ cond small refusal answer
         go true = refl
         go false = refl
 

@@ -67,7 +67,18 @@ module _ (f : Feeder) (piece b buffer : List ℕ) where
   pub fed-whole : {j v t : List ℕ} {a : Absorbed} → isLeft f ≡ true → Absorbs f piece j a v t
       → wellFormed b ≡ true → bufferLeast ≤ length buffer
       → {after over : List ℕ} {r : ℕ} → Replied (doing (recordIn (a .completed) piece t) b) after buffer over r
-      → record { fed = record { refusal = 0; used = a .used; skipped = a .skipped; replied = r; feeder = record { waiting = v; count = a .count } }; store = after; buffer = over }
+      → record {
+        fed =
+            record {
+              refusal = 0;
+              used = a .used;
+              skipped = a .skipped;
+              replied = r;
+              feeder = record { waiting = v; count = a .count };
+            };
+        store = after;
+        buffer = over;
+      }
       ≡ feed f piece b buffer
   unfolding feed checks lowest orElse answering meant
   fed-whole left h well large d =

@@ -40,13 +40,13 @@ short : (k : ℕ) (s u : List ℕ) → ltb (length s) k ≡ false → ltb (lengt
 short k s u h = le-ltb (length (s ++ u)) k (rw (length-append s u) (omega (arith, ltb-false (length s) k h)))
 
 -- the tests of headOf by their order: where the length of the command is known, after the mark, after the first byte
-lastTests : ℕ → ℕ → Head
+unfoldable pub lastTests : ℕ → ℕ → Head
 lastTests size n = cond (ltb n 1 || ltb commandMost n) skip (cond (ltb size (commandAt + n)) wait (whole n))
 
-afterMark : List ℕ → Head
+unfoldable pub afterMark : List ℕ → Head
 afterMark s = cond (ltb (length s) commandAt) wait (lastTests (length s) (commandLength s))
 
-afterFirst : List ℕ → Head
+unfoldable pub afterFirst : List ℕ → Head
 afterFirst s = cond (not (eqb (getD s 1 0) secondMark)) skip (afterMark s)
 
 -- a head that can be told stays as it is

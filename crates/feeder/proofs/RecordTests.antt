@@ -11,6 +11,7 @@ use Rattle.wire.specs.Bytes.{fromLE, part}
 use Rattle.feeder.specs.declared.record.Head.the-variants as heads
 use Rattle.feeder.specs.Record.{headOf, commandLength, firstMark, secondMark, lengthAt, commandAt, commandMost}
 use Rattle.feeder.specs.Promises.{headFor}
+use Rattle.feeder.proofs.RecordHead.{lastTests, afterMark, afterFirst}
 
 -- ---- one byte of the two lists
 
@@ -34,116 +35,78 @@ length-spelled s l =
 -- ---- the tests, in their order
 
 module _ (w p : List ℕ) (at : ℕ) {a : ℕ} (ea : a ≡ getD (w ++ p) at 0) where
-  left-is : length (drop at (w ++ p)) ≡ length w + length p - at
+  abbrev s : List ℕ
+  s = drop at (w ++ p)
+
+  abbrev left : ℕ
+  left = length w + length p - at
+
+  left-is : length s ≡ left
   left-is = rw (length-drop, length-append)
 
-  zeroth : getD (drop at (w ++ p)) 0 0 ≡ a
+  zeroth : getD s 0 0 ≡ a
   zeroth = getD-drop at (w ++ p) 0 0 ∙ rw add-zero (sym ea)
 
   -- the first byte is no mark
-  pub no-first : (a ≡ firstMark → ⊥) → heads.Skip ≡ headFor (headOf (drop at (w ++ p)))
+  pub no-first : (a ≡ firstMark → ⊥) → heads.Skip ≡ headFor (headOf s)
   unfolding headFor headOf
   no-first h = rw (zeroth, ne-eqb a firstMark h)
 
   -- the first byte is a mark and stands alone
-  pub alone : a ≡ firstMark → length w + length p - at < 2 → heads.Wait ≡ headFor (headOf (drop at (w ++ p)))
+  pub alone : a ≡ firstMark → left < 2 → heads.Wait ≡ headFor (headOf s)
   unfolding headFor headOf
-  alone first l = rw (zeroth, eq-eqb a firstMark first, left-is, lt-ltb (length w + length p - at) 2 l)
+  alone first l = rw (zeroth, eq-eqb a firstMark first, left-is, lt-ltb left 2 l)
 
-  module _ (first : a ≡ firstMark) (two : 2 ≤ length w + length p - at) {b : ℕ} (eb : b ≡ getD (w ++ p) (at + 1) 0) where
-    second : getD (drop at (w ++ p)) 1 0 ≡ b
+  module _ (first : a ≡ firstMark) (two : 2 ≤ left) {b : ℕ} (eb : b ≡ getD (w ++ p) (at + 1) 0) where
+    after-first : headOf s ≡ afterFirst s
+    unfolding headOf afterFirst afterMark lastTests
+    after-first = rw (zeroth, eq-eqb a firstMark first, left-is, le-ltb left 2 two)
+
+    second : getD s 1 0 ≡ b
     second = getD-drop at (w ++ p) 1 0 ∙ sym eb
 
-    pub no-second : (b ≡ secondMark → ⊥) → heads.Skip ≡ headFor (headOf (drop at (w ++ p)))
-    unfolding headFor headOf
-    no-second h = rw (zeroth, eq-eqb a firstMark first, left-is, le-ltb (length w + length p - at) 2 two, second, ne-eqb b secondMark h)
+    pub no-second : (b ≡ secondMark → ⊥) → heads.Skip ≡ headFor (headOf s)
+    unfolding headFor afterFirst
+    no-second h = rw (after-first, second, ne-eqb b secondMark h)
 
     module _ (mark : b ≡ secondMark) where
-      -- the mark stands, and its command's length is not there
-      pub no-length : length w + length p - at < commandAt → heads.Wait ≡ headFor (headOf (drop at (w ++ p)))
-      unfolding headFor headOf
-      no-length l =
-          rw (
-            zeroth,
-            eq-eqb a firstMark first,
-            left-is,
-            le-ltb (length w + length p - at) 2 two,
-            second,
-            eq-eqb b secondMark mark,
-            lt-ltb (length w + length p - at) commandAt l,
-          )
+      after-mark : headOf s ≡ afterMark s
+      unfolding afterFirst
+      after-mark = after-first ∙ rw (second, eq-eqb b secondMark mark)
 
-      module _ (twelve : commandAt ≤ length w + length p - at) {low high : ℕ}
+      -- the mark stands, and its command's length is not there
+      pub no-length : left < commandAt → heads.Wait ≡ headFor (headOf s)
+      unfolding headFor afterMark
+      no-length l = rw (after-mark, left-is, lt-ltb left commandAt l)
+
+      module _ (enough : commandAt ≤ left) {low high : ℕ}
           (el : low ≡ getD (w ++ p) (at + lengthAt) 0) (eh : high ≡ getD (w ++ p) (at + (lengthAt + 1)) 0) where
-        size : commandLength (drop at (w ++ p)) ≡ low + 256 * high
+        abbrev n : ℕ
+        n = low + 256 * high
+
+        size : commandLength s ≡ n
         size =
-            length-spelled (drop at (w ++ p)) (rw left-is twelve)
+            length-spelled s (rw left-is enough)
             ∙ rw (getD-drop at (w ++ p) lengthAt 0, getD-drop at (w ++ p) (lengthAt + 1) 0, ← el, ← eh)
 
-        pub too-short : low + 256 * high < 1 → heads.Skip ≡ headFor (headOf (drop at (w ++ p)))
-        unfolding headFor headOf
-        too-short l =
-            rw (
-              zeroth,
-              eq-eqb a firstMark first,
-              left-is,
-              le-ltb (length w + length p - at) 2 two,
-              second,
-              eq-eqb b secondMark mark,
-              le-ltb (length w + length p - at) commandAt twelve,
-              size,
-              lt-ltb (low + 256 * high) 1 l,
-            )
+        after-length : headOf s ≡ lastTests left n
+        unfolding afterMark
+        after-length = after-mark ∙ rw (left-is, le-ltb left commandAt enough, size)
 
-        module _ (some : 1 ≤ low + 256 * high) where
-          pub too-long : commandMost < low + 256 * high → heads.Skip ≡ headFor (headOf (drop at (w ++ p)))
-          unfolding headFor headOf
-          too-long l =
-              rw (
-                zeroth,
-                eq-eqb a firstMark first,
-                left-is,
-                le-ltb (length w + length p - at) 2 two,
-                second,
-                eq-eqb b secondMark mark,
-                le-ltb (length w + length p - at) commandAt twelve,
-                size,
-                le-ltb (low + 256 * high) 1 some,
-                lt-ltb commandMost (low + 256 * high) l,
-              )
+        pub too-short : n < 1 → heads.Skip ≡ headFor (headOf s)
+        unfolding headFor lastTests
+        too-short l = rw (after-length, lt-ltb n 1 l)
 
-          module _ (few : low + 256 * high ≤ commandMost) where
-            pub cut-short : length w + length p - at < commandAt + (low + 256 * high) → heads.Wait ≡ headFor (headOf (drop at (w ++ p)))
-            unfolding headFor headOf
-            cut-short l =
-                rw (
-                  zeroth,
-                  eq-eqb a firstMark first,
-                  left-is,
-                  le-ltb (length w + length p - at) 2 two,
-                  second,
-                  eq-eqb b secondMark mark,
-                  le-ltb (length w + length p - at) commandAt twelve,
-                  size,
-                  le-ltb (low + 256 * high) 1 some,
-                  le-ltb commandMost (low + 256 * high) few,
-                  lt-ltb (length w + length p - at) (commandAt + (low + 256 * high)) l,
-                )
+        module _ (some : 1 ≤ n) where
+          pub too-long : commandMost < n → heads.Skip ≡ headFor (headOf s)
+          unfolding headFor lastTests
+          too-long l = rw (after-length, le-ltb n 1 some, lt-ltb commandMost n l)
 
-            pub all-there : commandAt + (low + 256 * high) ≤ length w + length p - at
-                → heads.Whole (low + 256 * high) ≡ headFor (headOf (drop at (w ++ p)))
-            unfolding headFor headOf
-            all-there l =
-                rw (
-                  zeroth,
-                  eq-eqb a firstMark first,
-                  left-is,
-                  le-ltb (length w + length p - at) 2 two,
-                  second,
-                  eq-eqb b secondMark mark,
-                  le-ltb (length w + length p - at) commandAt twelve,
-                  size,
-                  le-ltb (low + 256 * high) 1 some,
-                  le-ltb commandMost (low + 256 * high) few,
-                  le-ltb (length w + length p - at) (commandAt + (low + 256 * high)) l,
-                )
+          module _ (few : n ≤ commandMost) where
+            pub cut-short : left < commandAt + n → heads.Wait ≡ headFor (headOf s)
+            unfolding headFor lastTests
+            cut-short l = rw (after-length, le-ltb n 1 some, le-ltb commandMost n few, lt-ltb left (commandAt + n) l)
+
+            pub all-there : commandAt + n ≤ left → heads.Whole n ≡ headFor (headOf s)
+            unfolding headFor lastTests
+            all-there l = rw (after-length, le-ltb n 1 some, le-ltb commandMost n few, le-ltb left (commandAt + n) l)

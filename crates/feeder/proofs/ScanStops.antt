@@ -154,7 +154,8 @@ pass-over s k (suc n) l h =
 pub pass-begins : (s : List ℕ) (from : ℕ) → from ≤ length s → UnmarkedUpTo s from from
 pass-begins s from l = record { ahead = omega arith; inside = l; unmarked = λ i a b h. omega arith }
 
-pub pass-goes-on : (s : List ℕ) (from i : ℕ) → UnmarkedUpTo s from i → i < length s → (getD s i 0 ≡ firstMark → ⊥) → UnmarkedUpTo s from (i + 1)
+pub pass-goes-on : (s : List ℕ) (from i : ℕ) → UnmarkedUpTo s from i → i < length s → (getD s i 0 ≡ firstMark → ⊥)
+    → UnmarkedUpTo s from (i + 1)
 pass-goes-on s from i f l h =
     record {
       ahead = omega (arith, f .ahead);
@@ -163,7 +164,8 @@ pass-goes-on s from i f l h =
     }
 
 -- bytes passed in blocks
-pub pass-block : (s : List ℕ) (from i : ℕ) → UnmarkedUpTo s from i → blockSize ≤ length s - i → Unmarked (take (i + blockSize - i) (drop i s)) → UnmarkedUpTo s from (i + blockSize)
+pub pass-block : (s : List ℕ) (from i : ℕ) → UnmarkedUpTo s from i → blockSize ≤ length s - i
+    → Unmarked (take (i + blockSize - i) (drop i s)) → UnmarkedUpTo s from (i + blockSize)
 pass-block s from i f l h =
     record { ahead = omega (arith, f .ahead); inside = omega (arith, f .inside); unmarked = λ j a b. go j a b (ltb j i) refl }
   where

@@ -32,9 +32,10 @@ same-length c = search needs
 
 returns-2 : tie.Need-returns-2
 returns-2 c =
-    let args = c .before .before .before .before .before .before .before .before .before .before .before .before .args in
+    let back = c .before .before .before .before .before in
+    let args = back .before .before .before .before .before .before .before .args in
     refused-store (args .t1) (args .piece .now) (args .store .now) (args .reply .now)
-    (sym (c .before .before .before .before .before .feeding-leaves .ensures) ∙ not-false _ (c .before .before .before .before .if1 .left))
+    (sym (back .feeding-leaves .ensures) ∙ not-false _ (c .before .before .before .before .if1 .left))
     (sym (c .before .before .well-formed .ensures) ∙ not-true _ (c .before .if2 .taken)) (c .refused2 .ensures)
 
 refused-requires-3 : tie.Need-refused-requires-3
@@ -45,25 +46,29 @@ same-length-2 c = search needs
 
 returns-3 : tie.Need-returns-3
 returns-3 c =
-    let args = c .before .before .before .before .before .before .before .before .before .before .before .before .before .args in
+    let back = c .before .before .before .before .before in
+    let args = back .before .before .before .before .before .before .before .before .args in
     refused-buffer (args .t1) (args .piece .now) (args .store .now) (args .reply .now)
-    (sym (c .before .before .before .before .before .before .feeding-leaves .ensures) ∙ not-false _ (c .before .before .before .before .before .if1 .left))
-    (sym (c .before .before .before .well-formed .ensures) ∙ not-false _ (c .before .before .if2 .left))
-    (c .before .if3 .taken) (c .refused3 .ensures)
+    (sym (back .before .feeding-leaves .ensures) ∙ not-false _ (back .if1 .left))
+    (sym (c .before .before .before .well-formed .ensures) ∙ not-false _ (c .before .before .if2 .left)) (c .before .if3 .taken)
+    (c .refused3 .ensures)
 
 slice-aggregate-absorb : tie.Need-slice-aggregate-absorb
 slice-aggregate-absorb c = search needs
 
 absorb-requires : tie.Need-absorb-requires
 absorb-requires c κs =
-    (sym (c .before .before .before .before .before .before .before .feeding-leaves .ensures) ∙ not-false _ (c .before .before .before .before .before .before .if1 .left), omega (arith, length-replicate {A = ℕ} recordMost 0))
+    let back = c .before .before .before .before .before .before in
+    (sym (back .before .feeding-leaves .ensures) ∙ not-false _ (back .if1 .left), omega (arith, length-replicate {A = ℕ} recordMost 0))
 
 slice-aggregate-reply-to : tie.Need-slice-aggregate-reply-to
 slice-aggregate-reply-to c = search needs
 
 reply-to-requires : tie.Need-reply-to-requires
 reply-to-requires c κs =
-    (c .before .before .before .before .absorb .ensures .inside, (sym (c .before .before .before .before .before .before .before .before .before .well-formed .ensures) ∙ not-false _ (c .before .before .before .before .before .before .before .before .if2 .left), c .before .before .before .before .before .before .before .if3 .left))
+    let back = c .before .before .before .before .before .before .before in
+    let well = sym (back .before .before .well-formed .ensures) ∙ not-false _ (back .before .if2 .left) in
+    (c .before .before .before .before .absorb .ensures .inside, (well, back .if3 .left))
 
 same-length-3 : tie.Need-same-length-3
 same-length-3 c = search needs
@@ -73,12 +78,13 @@ same-length-4 c = search needs
 
 returns-4 : tie.Need-returns-4
 returns-4 c =
-    let args = c .before .before .before .before .before .before .before .before .before .before .before .before .before .before .before .before .before .before .before .before .before .before .before .before .args in
+    let back = c .before .before .before .before .before .before .before .before .before in
+    let back2 = back .before .before .before .before .before in
+    let args = back2 .before .before .before .before .before .before .before .before .before .before .args in
     fed-whole (args .t1) (args .piece .now) (args .store .now) (args .reply .now)
-    (sym (c .before .before .before .before .before .before .before .before .before .before .before .before .before .before .before .before .before .feeding-leaves .ensures) ∙ not-false _ (c .before .before .before .before .before .before .before .before .before .before .before .before .before .before .before .before .if1 .left))
-    (c .before .before .before .before .before .before .before .before .before .absorb .ensures)
-    (sym (c .before .before .before .before .before .before .before .before .before .before .before .before .before .before .well-formed .ensures) ∙ not-false _ (c .before .before .before .before .before .before .before .before .before .before .before .before .before .if2 .left))
-    (c .before .before .before .before .before .before .before .before .before .before .before .before .if3 .left) (c .before .before .before .before .reply-to .ensures)
+    (sym (back2 .before .before .before .feeding-leaves .ensures) ∙ not-false _ (back2 .before .before .if1 .left)) (back .absorb .ensures)
+    (sym (back2 .well-formed .ensures) ∙ not-false _ (back .before .before .before .before .if2 .left)) (back .before .before .before .if3 .left)
+    (c .before .before .before .before .reply-to .ensures)
 
 pub feed-spec : {M : Type 1} → statement M
 feed-spec =

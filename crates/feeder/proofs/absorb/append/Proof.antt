@@ -20,7 +20,10 @@ same-length : tie.Need-same-length
 same-length c = search needs
 
 returns : tie.Need-returns
-returns c = appended (c .before .before .before .before .before .before .args .out .now) (c .before .before .before .before .before .before .args .piece .now) (c .before .before .copy .last .1 .0) (c .before .before .before .before .before .before .args .count) (omega arith) (c .before .before .copy .ensures)
+returns c =
+    let copy = c .before .before .copy in
+    let args = c .before .before .before .before .before .before .args in
+    appended (args .out .now) (args .piece .now) (copy .last .1 .0) (args .count) (omega arith) (copy .ensures)
 
 pub append-spec : {M : Type 1} → statement M
 append-spec =

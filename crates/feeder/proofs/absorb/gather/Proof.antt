@@ -20,7 +20,11 @@ same-length : tie.Need-same-length
 same-length c = search needs
 
 returns : tie.Need-returns
-returns c = gather-late (c .before .before .before .before .before .before .before .before .before .args .waiting .now) (c .before .before .before .before .before .before .before .before .before .args .piece .now) (c .before .before .before .before .before .before .before .before .before .args .at) (c .before .before .before .before .before .before .before .before .before .args .out .now) (c .before .before .copy .last .1 .0) (c .before .before .before .before .before .if1 .taken) (c .before .before .copy .ensures)
+returns c =
+    let back = c .before .before .before .before .before in
+    let copy = c .before .before .copy in
+    let args = back .before .before .before .before .args in
+    gather-late (args .waiting .now) (args .piece .now) (args .at) (args .out .now) (copy .last .1 .0) (back .if1 .taken) (copy .ensures)
 
 sub-copy-2 : tie.Need-sub-copy-2
 sub-copy-2 c = search needs
@@ -53,7 +57,13 @@ same-length-2 : tie.Need-same-length-2
 same-length-2 c = search needs
 
 returns-2 : tie.Need-returns-2
-returns-2 c = gather-early (c .before .before .before .before .before .before .before .before .before .before .before .before .before .args .waiting .now) (c .before .before .before .before .before .before .before .before .before .before .before .before .before .args .piece .now) (c .before .before .before .before .before .before .before .before .before .before .before .before .before .args .at) (c .before .before .before .before .before .before .before .before .before .before .before .before .before .args .out .now) (c .before .before .before .before .before .before .copy2 .last .1 .0) (c .before .before .copy3 .last .1 .0) (omega (arith, c .before .before .before .before .before .before .before .before .before .if1 .left)) (c .before .before .before .before .before .before .copy2 .ensures) (c .before .before .copy3 .ensures)
+returns-2 c =
+    let back = c .before .before .before .before .before .before in
+    let copy3 = c .before .before .copy3 in
+    let copy2 = back .copy2 in
+    let args = back .before .before .before .before .before .before .before .args in
+    gather-early (args .waiting .now) (args .piece .now) (args .at) (args .out .now) (copy2 .last .1 .0) (copy3 .last .1 .0)
+    (omega (arith, back .before .before .before .if1 .left)) (copy2 .ensures) (copy3 .ensures)
 
 pub gather-spec : {M : Type 1} → statement M
 gather-spec =

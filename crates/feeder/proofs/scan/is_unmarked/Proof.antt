@@ -30,7 +30,12 @@ loop-less : tie.Need-loop-less Inv-loop μ-loop
 loop-less c = omega arith
 
 loop-again : tie.Need-loop-again Inv-loop μ-loop
-loop-again c = ⊎-elim (λ w. rw (w .1) (count-mark (c .before .before .before .before .args .block .now) (c .before .before .before .loop .marks) (c .before .before .before .loop .i) (c .before .before .before .loop .inv) (c .before .before .loop-test .taken))) (λ w. rw (w .1) (count-other (c .before .before .before .before .args .block .now) (c .before .before .before .loop .marks) (c .before .before .before .loop .i) (c .before .before .before .loop .inv) (c .before .before .loop-test .taken) (w .0 .left))) (c .if1 .came)
+loop-again c =
+    let loop-test = c .before .before .loop-test in
+    let loop = c .before .before .before .loop in
+    let args = c .before .before .before .before .args in
+    ⊎-elim (λ w. rw (w .1) (count-mark (args .block .now) (loop .marks) (loop .i) (loop .inv) (loop-test .taken)))
+    (λ w. rw (w .1) (count-other (args .block .now) (loop .marks) (loop .i) (loop .inv) (loop-test .taken) (w .0 .left))) (c .if1 .came)
 
 returns : tie.Need-returns Inv-loop μ-loop
 returns c = count-ends (c .before .before .args .block .now) (c .before .loop .marks) (c .before .loop .i) (c .before .loop .inv) (c .loop-test .left)

@@ -9,7 +9,9 @@ add-next : tie.Need-add-next
 add-next c = search needs
 
 returns : tie.Need-returns
-returns c = next-waiting (c .before .before .before .args .waiting .now ++ c .before .before .before .args .piece .now) (c .before .before .before .args .at) (rw length-append (c .before .before .before .pre))
+returns c =
+    let args = c .before .before .before .args in
+    next-waiting (args .waiting .now ++ args .piece .now) (args .at) (rw length-append (c .before .before .before .pre))
 
 sub-from : tie.Need-sub-from
 sub-from c = search needs
@@ -21,7 +23,9 @@ add-result : tie.Need-add-result
 add-result c = search needs
 
 returns-2 : tie.Need-returns-2
-returns-2 c = next-marked (c .before .before .before .before .args .waiting .now) (c .before .before .before .before .args .piece .now) (c .before .before .before .before .args .at) (c .next-mark .result) (c .before .if1 .left) (c .next-mark .ensures)
+returns-2 c =
+    let args = c .before .before .before .before .args in
+    next-marked (args .waiting .now) (args .piece .now) (args .at) (c .next-mark .result) (c .before .if1 .left) (c .next-mark .ensures)
 
 pub next-place-spec : {M : Type 1} → statement M
 next-place-spec =

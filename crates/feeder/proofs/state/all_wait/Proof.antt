@@ -23,13 +23,19 @@ enum-told-3 : tie.Need-enum-told-3
 enum-told-3 c = search needs
 
 returns-2 : tie.Need-returns-2
-returns-2 c = head-waits (c .before .before .before .before .before .before .args .s .now) (c .before .before .before .before .if1 .left) (sym (c .enum-told .given .1) ∙ c .before .before .head-at .ensures)
+returns-2 c =
+    head-waits (c .before .before .before .before .before .before .args .s .now) (c .before .before .before .before .if1 .left)
+    (sym (c .enum-told .given .1) ∙ c .before .before .head-at .ensures)
 
 returns-3 : tie.Need-returns-3
-returns-3 c = head-skips (c .before .before .before .before .before .before .args .s .now) (c .before .before .before .before .if1 .left) (sym (c .enum-told2 .given .1) ∙ c .before .before .head-at .ensures)
+returns-3 c =
+    head-skips (c .before .before .before .before .before .before .args .s .now) (c .before .before .before .before .if1 .left)
+    (sym (c .enum-told2 .given .1) ∙ c .before .before .head-at .ensures)
 
 returns-4 : tie.Need-returns-4
-returns-4 c = head-whole (c .before .before .before .before .before .before .args .s .now) (c .before .before .before .before .if1 .left) _ (sym (c .enum-told3 .given .1) ∙ c .before .before .head-at .ensures)
+returns-4 c =
+    head-whole (c .before .before .before .before .before .before .args .s .now) (c .before .before .before .before .if1 .left) _
+    (sym (c .enum-told3 .given .1) ∙ c .before .before .head-at .ensures)
 
 pub all-wait-spec : {M : Type 1} → statement M
 all-wait-spec =

@@ -24,16 +24,28 @@ all-zero-requires : tie.Need-all-zero-requires
 all-zero-requires c κs = search needs
 
 returns-2 : tie.Need-returns-2
-returns-2 c = left-dirty (c .before .before .before .before .before .args .waiting .now) (c .before .before .before .before .before .args .count) (bytes-intro (c .before .before .before .before .before .args .waiting .now) (λ i. c .before .before .before .before .shared-slice-known .given i .fits)) (c .before .before .before .before .before .pre) (c .before .before .before .if1 .left) (c .before .all-zero .ensures) (not-true _ (c .if2 .taken))
+returns-2 c =
+    let back = c .before .before .before .before .before in
+    let args = back .args in
+    left-dirty (args .waiting .now) (args .count)
+    (bytes-intro (args .waiting .now) (λ i. c .before .before .before .before .shared-slice-known .given i .fits)) (back .pre)
+    (c .before .before .before .if1 .left) (c .before .all-zero .ensures) (not-true _ (c .if2 .taken))
 
 slice-aggregate-all-wait : tie.Need-slice-aggregate-all-wait
-slice-aggregate-all-wait c = sym (length-take-le (c .before .before .before .before .before .before .args .count) (c .before .before .before .before .before .before .args .waiting .now) (omega arith))
+slice-aggregate-all-wait c =
+    let args = c .before .before .before .before .before .before .args in
+    sym (length-take-le (args .count) (args .waiting .now) (omega arith))
 
 all-wait-requires : tie.Need-all-wait-requires
 all-wait-requires c κs = search needs
 
 returns-3 : tie.Need-returns-3
-returns-3 c = left-clean (c .before .before .before .before .before .before .before .args .waiting .now) (c .before .before .before .before .before .before .before .args .count) (bytes-intro (c .before .before .before .before .before .before .before .args .waiting .now) (λ i. c .before .before .before .before .before .before .shared-slice-known .given i .fits)) (c .before .before .before .before .before .before .before .pre) (c .before .before .before .before .before .if1 .left) (c .before .before .before .all-zero .ensures) (not-false _ (c .before .before .if2 .left)) (c .all-wait .ensures)
+returns-3 c =
+    let back = c .before .before .before .before .before in
+    let args = back .before .before .args in
+    left-clean (args .waiting .now) (args .count) (bytes-intro (args .waiting .now) (λ i. back .before .shared-slice-known .given i .fits))
+    (back .before .before .pre) (back .if1 .left) (c .before .before .before .all-zero .ensures) (not-false _ (c .before .before .if2 .left))
+    (c .all-wait .ensures)
 
 pub feeding-leaves-spec : {M : Type 1} → statement M
 feeding-leaves-spec =
