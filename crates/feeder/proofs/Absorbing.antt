@@ -25,9 +25,9 @@ use Rattle.feeder.specs.Absorb.{usedMost, firstRecord, offered, keeping,
 use Rattle.feeder.specs.Promises.{stopOf, recordIn, CommandInside, joinedSize, Completing, Completes, meant, Absorbs}
 use Rattle.feeder.proofs.RecordHead.{part-more}
 use Rattle.feeder.proofs.StreamDivide.{rest-short}
-use Rattle.feeder.proofs.FirstRecord.{First, first-found, first-fits, first-most, none-rest, none-skipped}
+use Rattle.feeder.proofs.FirstRecord.{First, NoFirst, first-found, none-found, first-fits, first-most, none-rest, none-skipped}
 use Rattle.feeder.proofs.OneAbsorbing.{beyond}
-use Rattle.feeder.proofs.ScanStops.{stop-record, stop-none, stop-skipped}
+use Rattle.feeder.proofs.ScanStops.{stop-record, stop-rest}
 use Rattle.feeder.proofs.StateLeft.{tail-part, waiting-back, left-state}
 
 -- ---- the bytes of a piece that a call looks at
@@ -275,19 +275,18 @@ module _ (f : Feeder) (piece : List ℕ) (left : isLeft f ≡ true) {o : List �
 
   -- no record is completed
   module _ (at : ℕ) (e : stops.Rest at ≡ stopOf (take (f .count) (f .waiting) ++ o)) where
-    nothing : firstRecord (waitingIn f ++ offered piece) ≡ none
+    stopped : (firstRecord (waitingIn f ++ offered piece) ≡ none) × (divide (waitingIn f ++ offered piece) .skipped ≡ at)
     unfolding waitingIn
-    nothing = stop-none (take (f .count) (f .waiting) ++ offered piece) at (rw eo at e)
+    stopped = stop-rest (take (f .count) (f .waiting) ++ offered piece) at (rw eo at e)
 
-    skips : divide (waitingIn f ++ offered piece) .skipped ≡ at
-    unfolding waitingIn
-    skips = stop-skipped (take (f .count) (f .waiting) ++ offered piece) at (rw eo at e)
+    nothing : NoFirst (waitingIn f ++ offered piece)
+    nothing = none-found (waitingIn f ++ offered piece) (stopped .0)
 
     leaves : divide (waitingIn f ++ offered piece) .rest ≡ drop at (waitingIn f ++ offered piece)
-    leaves = none-rest (waitingIn f ++ offered piece) nothing ∙ rw skips
+    leaves = none-rest nothing ∙ rw (stopped .1)
 
     pub rest-inside : at ≤ f .count + length o
-    rest-inside = rw eo (omega (arith, skips, none-skipped (waitingIn f ++ offered piece) nothing, total f (offered piece) left))
+    rest-inside = rw eo (omega (arith, stopped .1, none-skipped nothing, total f (offered piece) left))
 
     pub rest-waits : f .count + length o ≤ at + waitingMost
     rest-waits =
@@ -305,7 +304,7 @@ module _ (f : Feeder) (piece : List ℕ) (left : isLeft f ≡ true) {o : List �
     unfolding meant recordIn absorb orElse keeping CommandInside
     absorbed-none {g = g} h =
         record {
-          means = rw (nothing, waits, eo, leaves, skips);
+          means = rw (stopped .0, waits, eo, leaves, stopped .1);
           state = h ∙ ap stateOf (sym waits);
           inside = tt;
           beyond = refl;

@@ -28,6 +28,7 @@ use Rattle.feeder.specs.Pieces.{Taken, untaken, counted, next, absorbAll
 use Rattle.feeder.specs.Feed.{bufferLeast, Answer, checks, refusing, doing, answering, feed}
 use Rattle.feeder.specs.Calls.{Call, AllBytes, Total, Ran, begin, tally, answerTo, callAll, acceptedPieces, doneFor, uncut, Answered, offering, offeringAll}
 use Rattle.feeder.specs.Calls.Ran.{ended, called}
+use Rattle.feeder.proofs.FirstRecord.{never}
 use Rattle.feeder.proofs.StreamDivide.{do-more}
 use Rattle.feeder.proofs.StateLeft.{waiting-back, rest-left}
 use Rattle.feeder.proofs.ListOfPieces.{Divides, next-divides, next-uses, next-some, untaken-divides}
@@ -96,7 +97,7 @@ join-bytes (c ∷ cs) ds p q = (p .0, join-bytes cs ds (p .1) q)
 
 -- a number is not below another and at least it
 clash {ℓ} : {A : Type ℓ} {m n : ℕ} → m < n → n ≤ m → A
-clash l h = absurd (let none : ⊥ = omega arith in none)
+clash l h = never (omega arith)
 
 -- what absorbing calls have come to is the division of the bytes used, and these are bytes
 pub record Reached (t : Taken) : Type 0 where

@@ -15,7 +15,7 @@ use Rattle.feeder.specs.Record.{recordOf, commandAt}
 use Rattle.feeder.specs.Stream.{Division, ended, divide}
 use Rattle.feeder.specs.Absorb.{usedMost, Place, firstRecord, endOf, offered, Absorbing, keeping, completing, absorb}
 use Rattle.feeder.proofs.RecordHead.{record-more}
-use Rattle.feeder.proofs.FirstRecord.{First, first-found, found-first, first-none, first-fits, first-more, first-fewer, first-divides, first-not-waiting}
+use Rattle.feeder.proofs.FirstRecord.{First, first-found, found-first, none-found, none-records, first-fits, first-more, first-fewer, first-divides, first-not-waiting}
 
 -- what one call adds, as a division
 abbrev pub divisionOf : Absorbing → Division
@@ -52,7 +52,7 @@ module _ (w piece : List ℕ) where
       whole-again = rw (append-assoc, used-offered v h, take-append-drop v (offered piece))
 
       go : (m : Option Place) → firstRecord (w ++ take v piece) ≡ m → divide (w ++ take v piece) .records ≡ []
-      go none e = first-none (w ++ take v piece) e
+      go none e = none-records (none-found (w ++ take v piece) e)
       go (some q) e =
           let f : First (w ++ take v piece) q = first-found (w ++ take v piece) q e in
           let g : First all q = rw whole-again at (first-more (drop v (offered piece)) f) in
@@ -70,7 +70,7 @@ module _ (w piece : List ℕ) where
         none-before = λ v l. early v (omega arith) (λ q f. absurd (Option·none-ne-some q (sym e ∙ found-first f)));
         stops = inl refl;
         some-used = λ l. omega (arith, offers l);
-        divides = rw all-offered (sym (λ i. record { records = first-none all e i; skipped = divide all .skipped; rest = divide all .rest }));
+        divides = rw all-offered (sym (λ i. record { records = none-records (none-found all e) i; skipped = divide all .skipped; rest = divide all .rest }));
       }
     where
       offers : 1 ≤ length piece → 1 ≤ length (offered piece)

@@ -20,7 +20,6 @@ use Rattle.feeder.specs.Record.{Head, headOf, firstMark}
 use Rattle.feeder.specs.Record.Head.{skip, whole, wait}
 use Rattle.feeder.specs.Stream.{dividedAt, divideAfter, divide}
 use Rattle.feeder.specs.Absorb.{Place, placedAt, firstRecord}
-use Rattle.feeder.proofs.FirstRecord.{zero≢one}
 use Rattle.feeder.proofs.RecordTests.{byte-after}
 use Rattle.feeder.specs.Promises.{headFor, blockSize, stopOf, laterBy, stopFrom, Unmarked, UnmarkedUpTo, NextPlace}
 
@@ -104,37 +103,29 @@ stop-begins s = go (stopOf s)
     go (stops.Rest at) = rw zero-add
 
 -- what a stop says
+data Stopped (s : List ℕ) : Stop → Type 0 where
+  at-record : {at n : ℕ} → firstRecord s ≡ some (record { at = at; size = n }) → Stopped s (stops.Record at n)
+  at-rest : {k : ℕ} → firstRecord s ≡ none → divide s .skipped ≡ k → Stopped s (stops.Rest k)
+
+stop-says : (s : List ℕ) (m : Stop) → m ≡ stopOf s → Stopped s m
+unfolding stopOf orElse
+stop-says s m e = rw e (go (firstRecord s) refl)
+  where
+    go : (f : Option Place) → firstRecord s ≡ f → Stopped s (orElse f (stops.Rest (divide s .skipped)) (λ p. stops.Record (p .at) (p .size)))
+    go none q = at-rest q refl
+    go (some p) q = at-record q
+
 pub stop-record : (s : List ℕ) (at n : ℕ) → stops.Record at n ≡ stopOf s → firstRecord s ≡ some (record { at = at; size = n })
-unfolding stopOf orElse
-stop-record s at n e = go (firstRecord s) e
+stop-record s at n e = go (stop-says s (stops.Record at n) e)
   where
-    go : (m : Option Place) → stops.Record at n ≡ orElse m (stops.Rest (divide s .skipped)) (λ p. stops.Record (p .at) (p .size))
-        → m ≡ some (record { at = at; size = n })
-    go none e = cc
-    go (some p) e =
-        let a : p .at ≡ at = cc in
-        let b : p .size ≡ n = cc in
-        ap some (λ i. record { at = a i; size = b i })
+    go : Stopped s (stops.Record at n) → firstRecord s ≡ some (record { at = at; size = n })
+    go (at-record q) = q
 
-pub record-stop : (s : List ℕ) (p : Place) → firstRecord s ≡ some p → stops.Record (p .at) (p .size) ≡ stopOf s
-unfolding stopOf orElse
-record-stop s p e = rw e
-
-pub stop-none : (s : List ℕ) (at : ℕ) → stops.Rest at ≡ stopOf s → firstRecord s ≡ none
-unfolding stopOf orElse
-stop-none s at e = go (firstRecord s) e
+pub stop-rest : (s : List ℕ) (at : ℕ) → stops.Rest at ≡ stopOf s → (firstRecord s ≡ none) × (divide s .skipped ≡ at)
+stop-rest s at e = go (stop-says s (stops.Rest at) e)
   where
-    go : (m : Option Place) → stops.Rest at ≡ orElse m (stops.Rest (divide s .skipped)) (λ p. stops.Record (p .at) (p .size)) → m ≡ none
-    go none e = refl
-    go (some p) e = cc
-
-pub stop-skipped : (s : List ℕ) (at : ℕ) → stops.Rest at ≡ stopOf s → divide s .skipped ≡ at
-unfolding stopOf orElse
-stop-skipped s at e = go (firstRecord s) e
-  where
-    go : (m : Option Place) → stops.Rest at ≡ orElse m (stops.Rest (divide s .skipped)) (λ p. stops.Record (p .at) (p .size)) → divide s .skipped ≡ at
-    go none e = cc
-    go (some p) e = absurd (let z : _≡_ {A = ℕ} 0 1 = cc in zero≢one z)
+    go : Stopped s (stops.Rest at) → (firstRecord s ≡ none) × (divide s .skipped ≡ at)
+    go (at-rest q k) = (q, k)
 
 -- ---- many bytes at a time
 
