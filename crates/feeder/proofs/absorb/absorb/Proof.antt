@@ -6,9 +6,6 @@ use borrow.Author.Needs.{needs}
 use Rattle.feeder.proofs.absorb.absorb.Statement.{statement}
 use Rattle.feeder.proofs.absorb.absorb.Tie as tie
 
-offer-requires : tie.Need-offer-requires
-offer-requires c κs = search needs
-
 slice-reshare-prefix-first-stop : tie.Need-slice-reshare-prefix-first-stop
 slice-reshare-prefix-first-stop c =
     let pre = c .before .before .before .before .pre in
@@ -16,12 +13,6 @@ slice-reshare-prefix-first-stop c =
 
 slice-aggregate-first-stop : tie.Need-slice-aggregate-first-stop
 slice-aggregate-first-stop c = sym (left-state _ (c .before .before .before .before .before .pre .0) .count)
-
-first-stop-requires : tie.Need-first-stop-requires
-first-stop-requires c κs = search needs
-
-enum-known-stop : tie.Need-enum-known-stop
-enum-known-stop c = search needs
 
 slice-reshare-prefix-complete : tie.Need-slice-reshare-prefix-complete
 slice-reshare-prefix-complete c =
@@ -52,18 +43,12 @@ add-end-2 c =
     let left = back .before .before .before .before .before .before .before .before .pre .0 in
     omega (arith, end-small _ _ left (back .before .before .before .before .offer .ensures) _ _ stopped)
 
-forget-requires : tie.Need-forget-requires
-forget-requires c κs = search needs
-
 sub-t22 : tie.Need-sub-t22
 sub-t22 c =
     let back = c .before .before .before .before .before .before .before in
     let stopped = sym (back .stop .given .1) ∙ back .before .before .first-stop .ensures in
     let left = back .before .before .before .before .before .before .before .before .pre .0 in
     omega (arith, end-beyond _ _ left (back .before .before .before .before .offer .ensures) _ _ stopped)
-
-enum-known-stop-2 : tie.Need-enum-known-stop-2
-enum-known-stop-2 c = search needs
 
 keep-requires : tie.Need-keep-requires
 keep-requires c κs =
@@ -73,9 +58,6 @@ keep-requires c κs =
     let pre = back .before .before .before .before .pre in
     let stopped = sym (c .before .stop2 .given .1) ∙ first-stop .ensures in
     (pre .0, (rest-inside _ _ (pre .0) (offer .ensures) _ stopped, rest-waits _ _ (pre .0) (offer .ensures) _ stopped))
-
-same-length : tie.Need-same-length
-same-length c = search needs
 
 returns : tie.Need-returns
 returns c =
@@ -94,20 +76,20 @@ pub absorb-spec : {M : Type 1} → statement M
 absorb-spec =
     tie.close
     (tie.spec
-    offer-requires
+    (λ c κs. search needs)
     slice-reshare-prefix-first-stop
     slice-aggregate-first-stop
-    first-stop-requires
-    enum-known-stop
+    (λ c κs. search needs)
+    (λ c. search needs)
     slice-reshare-prefix-complete
     slice-aggregate-complete
     complete-requires
     add-end
     add-end-2
-    forget-requires
+    (λ c κs. search needs)
     sub-t22
-    enum-known-stop-2
+    (λ c. search needs)
     keep-requires
-    same-length
+    (λ c. search needs)
     returns
     returns-2)

@@ -9,12 +9,6 @@ use Rattle.feeder.proofs.absorb.keep.Tie as tie
 append-requires : tie.Need-append-requires
 append-requires c κs = omega (arith, left-state _ (c .before .before .before .before .pre .0) .size, c .before .before .before .before .pre .1)
 
-add-result : tie.Need-add-result
-add-result c = search needs
-
-same-length : tie.Need-same-length
-same-length c = search needs
-
 returns : tie.Need-returns
 returns c =
     kept-all _ _ (c .before .before .before .before .before .before .before .pre .0) _ (c .before .before .before .before .if1 .taken)
@@ -26,16 +20,10 @@ slice-reshare-prefix-gather c = omega (arith, left-state _ (c .before .before .b
 slice-aggregate-gather : tie.Need-slice-aggregate-gather
 slice-aggregate-gather c = sym (left-state _ (c .before .before .before .before .pre .0) .count)
 
-slice-aggregate-gather-2 : tie.Need-slice-aggregate-gather-2
-slice-aggregate-gather-2 c = search needs
-
 gather-requires : tie.Need-gather-requires
 gather-requires c κs =
     let pre = c .before .before .before .before .before .pre in
     omega (arith, left-state _ (pre .0) .count, pre .1)
-
-slice-aggregate-copy : tie.Need-slice-aggregate-copy
-slice-aggregate-copy c = search needs
 
 copy-requires : tie.Need-copy-requires
 copy-requires c κs =
@@ -44,12 +32,6 @@ copy-requires c κs =
 
 add-result-2 : tie.Need-add-result-2
 add-result-2 c = omega (arith, left-state _ (c .before .before .before .before .before .before .before .before .before .before .before .before .pre .0) .few)
-
-sub-result : tie.Need-sub-result
-sub-result c = search needs
-
-same-length-2 : tie.Need-same-length-2
-same-length-2 c = search needs
 
 returns-2 : tie.Need-returns-2
 returns-2 c =
@@ -63,16 +45,16 @@ keep-spec =
     tie.close
     (tie.spec
     append-requires
-    add-result
-    same-length
+    (λ c. search needs)
+    (λ c. search needs)
     returns
     slice-reshare-prefix-gather
     slice-aggregate-gather
-    slice-aggregate-gather-2
+    (λ c. search needs)
     gather-requires
-    slice-aggregate-copy
+    (λ c. search needs)
     copy-requires
     add-result-2
-    sub-result
-    same-length-2
+    (λ c. search needs)
+    (λ c. search needs)
     returns-2)

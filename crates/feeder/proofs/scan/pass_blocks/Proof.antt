@@ -18,24 +18,6 @@ abbrev μ-loop : tie.MeasureT-loop
 loop-holds : tie.Need-loop-holds Inv-loop μ-loop
 loop-holds c = pass-begins _ _ (c .before .pre)
 
-sub-loop : tie.Need-sub-loop Inv-loop μ-loop
-sub-loop c = search needs
-
-add-end : tie.Need-add-end Inv-loop μ-loop
-add-end c = search needs
-
-sub-is-unmarked : tie.Need-sub-is-unmarked Inv-loop μ-loop
-sub-is-unmarked c = search needs
-
-part-is-unmarked-start : tie.Need-part-is-unmarked-start Inv-loop μ-loop
-part-is-unmarked-start c = search needs
-
-part-is-unmarked-end : tie.Need-part-is-unmarked-end Inv-loop μ-loop
-part-is-unmarked-end c = search needs
-
-is-unmarked-requires : tie.Need-is-unmarked-requires Inv-loop μ-loop
-is-unmarked-requires c κs = search needs
-
 returns : tie.Need-returns Inv-loop μ-loop
 returns c = c .before .before .before .before .loop .inv
 
@@ -57,12 +39,12 @@ pass-blocks-spec =
     Inv-loop
     μ-loop
     loop-holds
-    sub-loop
-    add-end
-    sub-is-unmarked
-    part-is-unmarked-start
-    part-is-unmarked-end
-    is-unmarked-requires
+    (λ c. search needs)
+    (λ c. search needs)
+    (λ c. search needs)
+    (λ c. search needs)
+    (λ c. search needs)
+    (λ c κs. search needs)
     returns
     loop-less
     loop-again

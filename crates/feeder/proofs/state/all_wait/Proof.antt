@@ -7,21 +7,6 @@ use Rattle.feeder.proofs.state.all_wait.Tie as tie
 returns : tie.Need-returns
 returns c = none-waits (c .before .before .args .s .now) (c .if1 .taken)
 
-slice-aggregate-head-at : tie.Need-slice-aggregate-head-at
-slice-aggregate-head-at c = search needs
-
-head-at-requires : tie.Need-head-at-requires
-head-at-requires c κs = search needs
-
-enum-told : tie.Need-enum-told
-enum-told c = search needs
-
-enum-told-2 : tie.Need-enum-told-2
-enum-told-2 c = search needs
-
-enum-told-3 : tie.Need-enum-told-3
-enum-told-3 c = search needs
-
 returns-2 : tie.Need-returns-2
 returns-2 c =
     head-waits (c .before .before .before .before .before .before .args .s .now) (c .before .before .before .before .if1 .left)
@@ -42,11 +27,11 @@ all-wait-spec =
     tie.close
     (tie.spec
     returns
-    slice-aggregate-head-at
-    head-at-requires
-    enum-told
-    enum-told-2
-    enum-told-3
+    (λ c. search needs)
+    (λ c κs. search needs)
+    (λ c. search needs)
+    (λ c. search needs)
+    (λ c. search needs)
     returns-2
     returns-3
     returns-4)

@@ -11,18 +11,6 @@ use Rattle.feeder.proofs.state.feeding_leaves.Tie as tie
 returns : tie.Need-returns
 returns c = left-many (c .before .before .args .waiting .now) (c .before .before .args .count) (c .if1 .taken)
 
-sub-all-zero : tie.Need-sub-all-zero
-sub-all-zero c = search needs
-
-part-all-zero-start : tie.Need-part-all-zero-start
-part-all-zero-start c = search needs
-
-part-all-zero-end : tie.Need-part-all-zero-end
-part-all-zero-end c = search needs
-
-all-zero-requires : tie.Need-all-zero-requires
-all-zero-requires c κs = search needs
-
 returns-2 : tie.Need-returns-2
 returns-2 c =
     let back = c .before .before .before .before .before in
@@ -35,9 +23,6 @@ slice-aggregate-all-wait : tie.Need-slice-aggregate-all-wait
 slice-aggregate-all-wait c =
     let args = c .before .before .before .before .before .before .args in
     sym (length-take-le (args .count) (args .waiting .now) (omega arith))
-
-all-wait-requires : tie.Need-all-wait-requires
-all-wait-requires c κs = search needs
 
 returns-3 : tie.Need-returns-3
 returns-3 c =
@@ -52,11 +37,11 @@ feeding-leaves-spec =
     tie.close
     (tie.spec
     returns
-    sub-all-zero
-    part-all-zero-start
-    part-all-zero-end
-    all-zero-requires
+    (λ c. search needs)
+    (λ c. search needs)
+    (λ c. search needs)
+    (λ c κs. search needs)
     returns-2
     slice-aggregate-all-wait
-    all-wait-requires
+    (λ c κs. search needs)
     returns-3)
