@@ -1,15 +1,15 @@
 -- The stream's half of demand 3, for any list of absorbing calls from no byte waiting: what they hand out is the division of the bytes used,
 -- joined, and each uses the paper's number of bytes. It knows no store, no reply and no buffer.
-use mathlib.Core.Path.{_≡_, refl, ap, _∙_}
+use mathlib.Core.Path.{_≡_, refl}
 use mathlib.Core.Logic.{_⊎_, inl, inr}
 use mathlib.Core.List.{List, [], _∷_, _++_, append-nil}
 use Prim.Native.Nat.{ℕ, suc, _≤_}
 use native.Mathlib.Numerals.{add-one}
 use lib.ListN.{length, take, length-append}
-use Rattle.feeder.specs.Stream.{Division, ended, divide, divideAfter}
+use Rattle.feeder.specs.Stream.{divide, divideAfter}
 use Rattle.feeder.specs.Absorb.{offered}
 use Rattle.feeder.specs.Pieces.{Taken, untaken, counted, next, absorbAll, Uses}
-use Rattle.feeder.proofs.StreamDivide.{joined, divide-more, rest-waits}
+use Rattle.feeder.proofs.StreamDivide.{divide-more, rest-waits}
 use Rattle.feeder.proofs.OneAbsorbing.{Took, took}
 
 -- what calls have come to is the division of the bytes used

@@ -1,5 +1,5 @@
 -- One feeding call of the code: refused, or its bytes absorbed and then its record done, as the definition says.
-use mathlib.Core.Path.{_≡_, refl, ap, _∙_}
+use mathlib.Core.Path.{_≡_, refl, ap}
 use mathlib.Core.Bool.{true, false}
 use mathlib.Core.List.{List}
 use Prim.Native.Nat.{ℕ, _+_, _-_, _≤_, _<_}
@@ -17,8 +17,8 @@ use Rattle.feeder.specs.declared.Fed.{Fed}
 use Rattle.feeder.specs.declared.absorb.Completed.{Completed}
 use Rattle.feeder.specs.declared.absorb.Completed.the-variants as completions
 use Rattle.feeder.specs.declared.absorb.Absorbed.{Absorbed}
-use Rattle.feeder.specs.State.{waitingIn, isLeft}
-use Rattle.feeder.specs.Absorb.{Absorbing, absorb}
+use Rattle.feeder.specs.State.{isLeft}
+use Rattle.feeder.specs.Absorb.{Absorbing}
 use Rattle.feeder.specs.Feed.{bufferLeast, checks, refusing, doing, answering, feed}
 use Rattle.feeder.specs.Promises.{recordIn, CommandInside, meant, Absorbs, Replied}
 
