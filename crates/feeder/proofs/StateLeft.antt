@@ -15,6 +15,7 @@ use Rattle.wire.proofs.Bytes.{bytes-padded, length-padded, take-padded, drop-pa
 use Rattle.wire.proofs.Lists.{every-at}
 use Rattle.wire.proofs.Passing.{not-same}
 use Rattle.feeder.specs.declared.Feeder.{Feeder}
+use Rattle.feeder.specs.declared.record.Head as codes
 use Rattle.feeder.specs.declared.record.Head.the-variants as heads
 use Rattle.feeder.specs.Record.{Head, headOf, commandAt}
 use Rattle.feeder.specs.Record.Head.{skip, whole, wait}
@@ -22,6 +23,7 @@ use Rattle.feeder.specs.Stream.{ended, dividedAt, divideAfter, divide}
 use Rattle.feeder.specs.State.{waitingMost, stateOf, waitingIn, isLeft}
 use Rattle.feeder.specs.Promises.{headFor}
 use Rattle.feeder.proofs.RecordHead.{told}
+use Rattle.feeder.proofs.FirstRecord.{never}
 use Rattle.feeder.proofs.StreamDivide.{rest-is, all-wait, rest-waits, rest-short, rest-bytes}
 
 -- ---- a state made of bytes
@@ -53,7 +55,7 @@ rest-left s bs =
 pub none-waits : (s : List ℕ) → length s ≡ 0 → true ≡ same (divide s .rest) s
 unfolding divide divideAfter same
 none-waits [] e = refl
-none-waits (b ∷ s) e = absurd (let z : ⊥ = omega arith in z)
+none-waits (b ∷ s) e = never (omega arith)
 
 -- past its first byte a stream has a rest of fewer bytes
 rest-fewer : (k : ℕ) (s : List ℕ) → length (divideAfter k s .rest) ≤ length s
@@ -82,23 +84,21 @@ module _ (s : List ℕ) (some : length s ≡ 0 → ⊥) where
       go (whole n) q e = cc
       go wait q e = rw (all-wait s q) (sym (same-refl s))
 
-  pub head-skips : heads.Skip ≡ headFor (headOf (drop 0 (s ++ []))) → false ≡ same (divide s .rest) s
+  -- any other head
+  head-tells : {k : codes.Head} → (k ≡ heads.Wait → ⊥) → k ≡ headFor (headOf (drop 0 (s ++ []))) → false ≡ same (divide s .rest) s
   unfolding headFor told
-  head-skips e = tells s some (go (headOf s) (rw append-nil at e))
+  head-tells {k} other e = tells s some (go (headOf s) (rw append-nil at e))
     where
-      go : (h : Head) → heads.Skip ≡ headFor h → told h ≡ true
+      go : (h : Head) → k ≡ headFor h → told h ≡ true
       go skip e = refl
       go (whole n) e = refl
-      go wait e = cc
+      go wait e = absurd (other e)
+
+  pub head-skips : heads.Skip ≡ headFor (headOf (drop 0 (s ++ []))) → false ≡ same (divide s .rest) s
+  head-skips = head-tells (λ z. never (cc))
 
   pub head-whole : (n : ℕ) → heads.Whole n ≡ headFor (headOf (drop 0 (s ++ []))) → false ≡ same (divide s .rest) s
-  unfolding headFor told
-  head-whole n e = tells s some (go (headOf s) (rw append-nil at e))
-    where
-      go : (h : Head) → heads.Whole n ≡ headFor h → told h ≡ true
-      go skip e = refl
-      go (whole m) e = refl
-      go wait e = cc
+  head-whole n = head-tells (λ z. never (cc))
 
 -- ---- whether feeding leaves a state
 

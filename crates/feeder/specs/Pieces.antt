@@ -14,7 +14,7 @@ pub record Taken : Type 0 where
   pub used : List ℕ
   pub divided : Division
 
--- nothing was used, and no byte waits
+-- nothing was used yet: "A fresh state has no byte waiting."
 unfoldable pub untaken : Taken
 untaken = record { used = []; divided = ended [] }
 
