@@ -6,14 +6,14 @@ use mathlib.Core.Option.{Option, none, some}
 use Prim.Native.Nat.{ℕ, _+_, _-_, _≤_, _<_}
 use native.Mathlib.Omega.{arith}
 use lib.ListN.{length, take, drop, replicate, length-append, length-drop, length-take, length-replicate, replicate-append-replicate, take-append-drop}
-use lib.Seq.{take-all, length-take-le, drop-append-le, drop-append-add, drop-at, drop-drop, take-append-add}
+use lib.Seq.{take-all, length-take-le, drop-append-le, drop-append-add, drop-drop, take-append-add}
 use borrow.Rule.Slice.PartMut.{putMid}
 use Rattle.wire.specs.Lists.{orElse}
 use Rattle.wire.specs.Bytes.{allZero, fromLE, part, padded}
 use Rattle.wire.specs.Reply.{laidOver}
 use Rattle.wire.specs.Promises.{Laid}
 use Rattle.wire.proofs.Bytes.{zero-is, zero-drop, zero-replicate}
-use Rattle.wire.proofs.Laying.{laid-whole, laid-copied, laid-tail}
+use Rattle.wire.proofs.Laying.{drop-laid, laid-whole, laid-copied, laid-tail}
 use Rattle.feeder.specs.declared.Feeder.{Feeder}
 use Rattle.feeder.specs.declared.absorb.Completed.{Completed}
 use Rattle.feeder.specs.declared.absorb.Completed.the-variants as completions
@@ -155,8 +155,7 @@ module _ (w p : List ℕ) (at size : ℕ) (j : List ℕ) (r : Completing w p at 
         ∙ ap (part a n) (unfold part in take-append-drop (commandAt + size) (drop at (w ++ p)))
 
     laid-beyond : drop (commandAt + size) (laidOver sent j) ≡ drop (commandAt + size) j
-    unfolding laidOver
-    laid-beyond = drop-at sent (drop (length sent) j) (commandAt + size) joins ∙ rw joins
+    laid-beyond = rw joins at (drop-laid sent j)
 
     pub joined-whole : {clock : ℕ} {t : List ℕ} → t ≡ laidOver (drop at (w ++ take (at + (commandAt + size) - length w) p)) j
         → clock ≡ fromLE (take 8 (drop clockAt t)) → Completes asked p j (completions.Joined clock commandAt size) t

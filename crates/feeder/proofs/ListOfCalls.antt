@@ -9,12 +9,12 @@ use native.Mathlib.Nat.{add-zero}
 use native.Mathlib.Omega.{arith}
 use lib.Dec.{ltb}
 use lib.ListN.{length, take, drop, getD, length-drop, take-append-drop}
-use lib.Seq.{take-all, take-append-seam}
+use lib.Seq.{take-all}
 use borrow.Author.Tests.{ltb-true, ltb-false}
 use Rattle.wire.specs.Lists.{orElse}
 use Rattle.wire.specs.Bytes.{Bytes}
-use Rattle.wire.specs.Reply.{laidOver}
 use Rattle.wire.proofs.Bytes.{bytes-append, bytes-take, bytes-drop, bytes-part, bytes-tail}
+use Rattle.wire.proofs.Laying.{take-laid}
 use Rattle.store.specs.Store.{wellFormed}
 use Rattle.commands.specs.Refusal.{lowest}
 use Rattle.commands.specs.Execute.{execBytes}
@@ -59,11 +59,6 @@ unfolding doAll doing orElse Option·toList
 do-one none b = refl
 do-one (some r) b = rw append-nil
 
--- a call's reply is the start of its buffer
-reply-taken : (r buffer : List ℕ) → take (length r) (laidOver r buffer) ≡ r
-unfolding laidOver
-reply-taken r buffer = take-append-seam r (drop (length r) buffer)
-
 -- a call that absorbs and does adds what it absorbs, its record done
 answered-adds : (b : List ℕ) (t : Taken) (c : Call) (a : Absorbing)
     → tally (doneFor b t) c (answering a (doneFor b t .store) (c .buffer)) ≡ doneFor b (counted t (c .piece) a)
@@ -73,7 +68,7 @@ answered-adds b t c a =
     rw (
       do-more (t .divided .records) (Option·toList (a .completed)) b,
       do-one (a .completed) before,
-      reply-taken (doing (a .completed) before .reply) (c .buffer),
+      take-laid (doing (a .completed) before .reply) (c .buffer),
     )
 
 -- a refused call adds nothing

@@ -7,11 +7,11 @@ use mathlib.Core.Option.{Option, none, some, Option·none-ne-some}
 use Prim.Native.Nat.{ℕ, zero, suc, _+_, _*_, _≤_, _<_}
 use native.Mathlib.Omega.{arith}
 use lib.Dec.{ltb}
-use lib.ListN.{length, getD, length-append, length-drop}
+use lib.ListN.{length, getD}
 use borrow.Author.Tests.{ltb-false, not-false}
 use Rattle.wire.specs.Lists.{orElse}
 use Rattle.wire.specs.Bytes.{Bytes, part}
-use Rattle.wire.specs.Reply.{laidOver}
+use Rattle.wire.proofs.Laying.{length-laid}
 use Rattle.store.specs.Layout.{headerSize, slotSize}
 use Rattle.store.specs.Store.{Entry, Slot, Store, encodeSlot, decode, encode, wellFormed, slotCount}
 use Rattle.store.specs.Time.{nowAt, live}
@@ -48,11 +48,6 @@ refused-call f piece b buffer = go (lowest (checks f b buffer))
     go none h = absurd (h refl)
     go (some n) h = refusing-leaves n f b buffer
 
--- the reply lies in the buffer, and the buffer keeps its length
-over-length : (r buffer : List ℕ) → length r ≤ length buffer → length (laidOver r buffer) ≡ length buffer
-unfolding laidOver
-over-length r buffer h = rw (length-append, length-drop) (omega arith)
-
 -- a reply on a well-formed store fits
 pub reply-short : (clock : ℕ) (command b : List ℕ) → wellFormed b ≡ true → length (execBytes clock command b .reply) ≤ bufferLeast
 unfolding execBytes
@@ -70,7 +65,7 @@ buffer-length f piece b buffer = go (lowest (checks f b buffer)) refl
     go : (m : Option ℕ) → lowest (checks f b buffer) ≡ m → length (answerBy f piece b buffer m .buffer) ≡ length buffer
     go (some n) e = refl
     go none e =
-        over-length (doing m b .reply) buffer (omega (arith, doing-short m b well, ltb-false (length buffer) bufferLeast large))
+        length-laid (doing m b .reply) buffer (omega (arith, doing-short m b well, ltb-false (length buffer) bufferLeast large))
       where
         m : Option Record
         m = absorb (waitingIn f) piece .completed
