@@ -230,14 +230,17 @@ module _ (f : Feeder) (p : List ℕ) (left : isLeft f ≡ true) where
 -- ---- absorbing, whole
 
 module _ (f : Feeder) (piece : List ℕ) (left : isLeft f ≡ true) {o : List ℕ} (eo : o ≡ offered piece) where
+  abbrev all : List ℕ
+  all = waitingIn f ++ offered piece
+
   -- a record is completed
   module _ (at n : ℕ) (e : stops.Record at n ≡ stopOf (take (f .count) (f .waiting) ++ o)) where
-    found : firstRecord (waitingIn f ++ offered piece) ≡ some (record { at = at; size = n })
+    found : firstRecord all ≡ some (record { at = at; size = n })
     unfolding waitingIn
     found = stop-record (take (f .count) (f .waiting) ++ offered piece) at n (rw eo at e)
 
-    first : First (waitingIn f ++ offered piece) (record { at = at; size = n })
-    first = first-found (waitingIn f ++ offered piece) (record { at = at; size = n }) found
+    first : First all (record { at = at; size = n })
+    first = first-found all (record { at = at; size = n }) found
 
     pub end-beyond : f .count < at + (commandAt + n)
     unfolding waitingIn
@@ -274,14 +277,14 @@ module _ (f : Feeder) (piece : List ℕ) (left : isLeft f ≡ true) {o : List �
 
   -- no record is completed
   module _ (at : ℕ) (e : stops.Rest at ≡ stopOf (take (f .count) (f .waiting) ++ o)) where
-    stopped : (firstRecord (waitingIn f ++ offered piece) ≡ none) × (divide (waitingIn f ++ offered piece) .skipped ≡ at)
+    stopped : (firstRecord all ≡ none) × (divide all .skipped ≡ at)
     unfolding waitingIn
     stopped = stop-rest (take (f .count) (f .waiting) ++ offered piece) at (rw eo at e)
 
-    nothing : NoFirst (waitingIn f ++ offered piece)
-    nothing = none-found (waitingIn f ++ offered piece) (stopped .0)
+    nothing : NoFirst all
+    nothing = none-found all (stopped .0)
 
-    leaves : divide (waitingIn f ++ offered piece) .rest ≡ drop at (waitingIn f ++ offered piece)
+    leaves : divide all .rest ≡ drop at all
     leaves = none-rest nothing ∙ rw (stopped .1)
 
     pub rest-inside : at ≤ f .count + length o
@@ -293,8 +296,8 @@ module _ (f : Feeder) (piece : List ℕ) (left : isLeft f ≡ true) {o : List �
         (omega (
           arith,
           ap length leaves,
-          length-drop at (waitingIn f ++ offered piece),
-          rest-short (waitingIn f ++ offered piece),
+          length-drop at all,
+          rest-short all,
           total f (offered piece) left,
         ))
 

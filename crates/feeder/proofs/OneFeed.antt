@@ -2,6 +2,7 @@
 use mathlib.Core.Path.{_≡_, refl, ap}
 use mathlib.Core.Bool.{true, false}
 use mathlib.Core.List.{List}
+use mathlib.Core.Option.{some}
 use Prim.Native.Nat.{ℕ, _+_, _-_, _≤_, _<_}
 use native.Mathlib.Omega.{arith}
 use lib.ListN.{length, take, drop}
@@ -19,7 +20,7 @@ use Rattle.feeder.specs.declared.absorb.Completed.the-variants as comple
 use Rattle.feeder.specs.declared.absorb.Absorbed.{Absorbed}
 use Rattle.feeder.specs.State.{isLeft}
 use Rattle.feeder.specs.Absorb.{Absorbing}
-use Rattle.feeder.specs.Feed.{bufferLeast, checks, refusing, doing, answering, feed}
+use Rattle.feeder.specs.Feed.{bufferLeast, checks, unfed, refusing, doing, answering, feed}
 use Rattle.feeder.specs.Promises.{recordIn, CommandInside, meant, Absorbs, Replied}
 
 -- ---- the record done
@@ -88,18 +89,19 @@ module _ (f : Feeder) (piece b buffer : List ℕ) where
   -- ---- refused
 
   module _ {r : Fed} where
-    pub refused-state : isLeft f ≡ false → r ≡ record { refusal = 1; used = 0; skipped = 0; replied = 0; feeder = f }
-        → record { fed = r; store = b; buffer = buffer } ≡ feed f piece b buffer
-    unfolding feed checks lowest orElse refusing
-    refused-state x e = rw (x, e)
+    refused : (n : ℕ) → lowest (checks f b buffer) ≡ some n → r ≡ unfed n f → record { fed = r; store = b; buffer = buffer } ≡ feed f piece b buffer
+    unfolding feed orElse refusing
+    refused n q e = rw (q, e)
 
-    pub refused-store : isLeft f ≡ true → wellFormed b ≡ false → r ≡ record { refusal = 2; used = 0; skipped = 0; replied = 0; feeder = f }
-        → record { fed = r; store = b; buffer = buffer } ≡ feed f piece b buffer
-    unfolding feed checks lowest orElse refusing
-    refused-store x y e = rw (x, y, e)
+    pub refused-state : isLeft f ≡ false → r ≡ unfed 1 f → record { fed = r; store = b; buffer = buffer } ≡ feed f piece b buffer
+    unfolding checks lowest
+    refused-state x = refused 1 (rw x)
 
-    pub refused-buffer : isLeft f ≡ true → wellFormed b ≡ true → length buffer < bufferLeast
-        → r ≡ record { refusal = 3; used = 0; skipped = 0; replied = 0; feeder = f }
+    pub refused-store : isLeft f ≡ true → wellFormed b ≡ false → r ≡ unfed 2 f → record { fed = r; store = b; buffer = buffer } ≡ feed f piece b buffer
+    unfolding checks lowest
+    refused-store x y = refused 2 (rw (x, y))
+
+    pub refused-buffer : isLeft f ≡ true → wellFormed b ≡ true → length buffer < bufferLeast → r ≡ unfed 3 f
         → record { fed = r; store = b; buffer = buffer } ≡ feed f piece b buffer
-    unfolding feed checks lowest orElse refusing
-    refused-buffer x y l e = rw (x, y, lt-ltb (length buffer) bufferLeast l, e)
+    unfolding checks lowest
+    refused-buffer x y l = refused 3 (rw (x, y, lt-ltb (length buffer) bufferLeast l))

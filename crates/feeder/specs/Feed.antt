@@ -34,14 +34,13 @@ checks f b buffer =
     ∷ 3 when ltb (length buffer) bufferLeast
     ∷ []
 
+-- "A refused call has reply length 0, skips none and hands its state back as it came."
+abbrev pub unfed : ℕ → Feeder → Fed
+unfed n f = record { refusal = n; used = 0; skipped = 0; replied = 0; feeder = f }
+
 -- "1 to 3 use and skip no byte and change nothing."
 unfoldable pub refusing : ℕ → Feeder → List ℕ → List ℕ → Answer
-refusing n f b buffer =
-    record {
-      fed = record { refusal = n; used = 0; skipped = 0; replied = 0; feeder = f };
-      store = b;
-      buffer = buffer;
-    }
+refusing n f b buffer = record { fed = unfed n f; store = b; buffer = buffer }
 
 -- the record completed is done; with none, the store stays and nothing is replied
 unfoldable pub doing : Option Record → List ℕ → Done

@@ -14,7 +14,7 @@ ghost use lib.ListN.{length};
 ghost use Rattle.store.specs.Store.{wellFormed};
 ghost use Rattle.wire.specs.Bytes.{part};
 ghost use Rattle.commands.specs.Execute.{execBytes};
-ghost use Rattle.feeder.specs.Feed.{bufferLeast, doing, feed};
+ghost use Rattle.feeder.specs.Feed.{bufferLeast, unfed, doing, feed};
 ghost use Rattle.feeder.specs.Promises.{recordIn, CommandInside, Replied};
 
 // The least size of a reply buffer.
@@ -22,7 +22,7 @@ const BUFFER_LEAST: usize = 56000;
 
 // A refused call hands its state back as it came.
 fn refused(number: u32, feeder: Feeder) -> Fed
-    ensures { λ r. ⌜ r ≡ record { refusal = number; used = 0; skipped = 0; replied = 0; feeder = feeder } ⌝ }
+    ensures { λ r. ⌜ r ≡ unfed number feeder ⌝ }
 {
     Fed {
         refusal: number,
