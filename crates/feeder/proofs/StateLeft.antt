@@ -10,26 +10,52 @@ use lib.ListN.{length, take, drop, length-drop}
 use lib.Seq.{take-all, length-take-le}
 use borrow.Author.Tests.{eqb-true, leb-true, eq-eqb, le-leb, lt-leb}
 use Rattle.wire.specs.Lists.{every}
-use Rattle.wire.specs.Bytes.{Bytes, allZero, same}
-use Rattle.wire.proofs.Bytes.{same-refl, same-true}
+use Rattle.wire.specs.Bytes.{Bytes, allZero, padded, same}
+use Rattle.wire.proofs.Bytes.{bytes-padded, length-padded, take-padded, drop-padded, same-refl, same-true, zero-replicate}
 use Rattle.wire.proofs.Lists.{every-at}
 use Rattle.wire.proofs.Passing.{not-same}
 use Rattle.feeder.specs.declared.Feeder.{Feeder}
-use Rattle.feeder.specs.declared.heads.Head.the-variants as heads
-use Rattle.feeder.specs.Record.{Head, headOf}
+use Rattle.feeder.specs.declared.record.Head as codes
+use Rattle.feeder.specs.declared.record.Head.the-variants as heads
+use Rattle.feeder.specs.Record.{Head, headOf, commandAt}
 use Rattle.feeder.specs.Record.Head.{skip, whole, wait}
 use Rattle.feeder.specs.Stream.{ended, dividedAt, divideAfter, divide}
-use Rattle.feeder.specs.Feed.{waitingMost, waitingIn, isLeft}
+use Rattle.feeder.specs.State.{waitingMost, stateOf, waitingIn, isLeft}
 use Rattle.feeder.specs.Promises.{headFor}
-use Rattle.feeder.proofs.Head.{told}
-use Rattle.feeder.proofs.Divide.{rest-is, all-wait, rest-waits}
+use Rattle.feeder.proofs.RecordHead.{told}
+use Rattle.feeder.proofs.FirstRecord.{never}
+use Rattle.feeder.proofs.StreamDivide.{rest-is, all-wait, rest-waits, rest-short, rest-bytes}
+
+-- ---- a state made of bytes
+
+-- the waiting bytes of a state are those that it was made of
+pub waiting-back : (s : List ℕ) → waitingIn (stateOf s) ≡ s
+unfolding waitingIn stateOf
+waiting-back s = take-padded waitingMost s
+
+-- what waits after a stream is a state that feeding leaves
+pub rest-left : (s : List ℕ) → Bytes s → isLeft (stateOf (divide s .rest)) ≡ true
+unfolding isLeft every stateOf
+rest-left s bs =
+    let r : List ℕ = divide s .rest in
+    let short : length r ≤ waitingMost = rest-short s in
+    rw (
+      bytes-padded waitingMost r (rest-bytes s bs),
+      eq-eqb (length (padded waitingMost r)) waitingMost (length-padded waitingMost r short),
+      le-leb (length r) waitingMost short,
+      waiting-back r,
+      rest-waits s,
+      same-refl r,
+      drop-padded waitingMost r,
+      zero-replicate (waitingMost - length r),
+    )
 
 -- ---- whether bytes all wait
 
 pub none-waits : (s : List ℕ) → length s ≡ 0 → true ≡ same (divide s .rest) s
 unfolding divide divideAfter same
 none-waits [] e = refl
-none-waits (b ∷ s) e = absurd (let z : ⊥ = omega arith in z)
+none-waits (b ∷ s) e = never (omega arith)
 
 -- past its first byte a stream has a rest of fewer bytes
 rest-fewer : (k : ℕ) (s : List ℕ) → length (divideAfter k s .rest) ≤ length s
@@ -45,7 +71,7 @@ tells (b ∷ s) some e = go (headOf (b ∷ s)) e
   where
     go : (h : Head) → told h ≡ true → false ≡ same (dividedAt h (b ∷ s) (λ k. divideAfter k s) .rest) (b ∷ s)
     go skip e = sym (told-not-all b s 0)
-    go (whole n) e = sym (told-not-all b s (11 + n))
+    go (whole n) e = sym (told-not-all b s (commandAt - 1 + n))
     go wait e = absurd (false≢true e)
 
 module _ (s : List ℕ) (some : length s ≡ 0 → ⊥) where
@@ -58,23 +84,21 @@ module _ (s : List ℕ) (some : length s ≡ 0 → ⊥) where
       go (whole n) q e = cc
       go wait q e = rw (all-wait s q) (sym (same-refl s))
 
-  pub head-skips : heads.Skip ≡ headFor (headOf (drop 0 (s ++ []))) → false ≡ same (divide s .rest) s
+  -- any other head
+  head-tells : {k : codes.Head} → (k ≡ heads.Wait → ⊥) → k ≡ headFor (headOf (drop 0 (s ++ []))) → false ≡ same (divide s .rest) s
   unfolding headFor told
-  head-skips e = tells s some (go (headOf s) (rw append-nil at e))
+  head-tells {k} other e = tells s some (go (headOf s) (rw append-nil at e))
     where
-      go : (h : Head) → heads.Skip ≡ headFor h → told h ≡ true
+      go : (h : Head) → k ≡ headFor h → told h ≡ true
       go skip e = refl
       go (whole n) e = refl
-      go wait e = cc
+      go wait e = absurd (other e)
+
+  pub head-skips : heads.Skip ≡ headFor (headOf (drop 0 (s ++ []))) → false ≡ same (divide s .rest) s
+  head-skips = head-tells (λ z. never (cc))
 
   pub head-whole : (n : ℕ) → heads.Whole n ≡ headFor (headOf (drop 0 (s ++ []))) → false ≡ same (divide s .rest) s
-  unfolding headFor told
-  head-whole n e = tells s some (go (headOf s) (rw append-nil at e))
-    where
-      go : (h : Head) → heads.Whole n ≡ headFor h → told h ≡ true
-      go skip e = refl
-      go (whole m) e = refl
-      go wait e = cc
+  head-whole n = head-tells (λ z. never (cc))
 
 -- ---- whether feeding leaves a state
 

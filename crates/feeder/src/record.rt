@@ -6,19 +6,25 @@ ghost use lib.ListN.{length, drop, getD};
 ghost use Rattle.feeder.specs.Record.{headOf};
 ghost use Rattle.feeder.specs.Promises.{headFor};
 
+// The two bytes of the mark.
 pub const FIRST_MARK: u8 = 0x45;
 
 const SECOND_MARK: u8 = 0x57;
 
-// Where the two bytes of the command's length stand in a record, and where the command starts.
-const LOW: usize = 10;
+// Where a record's clock, its command's length and its command start.
+pub const CLOCK_AT: usize = 2;
 
-const HIGH: usize = 11;
+pub const LENGTH_AT: usize = 10;
 
-pub const COMMAND: usize = 12;
+pub const COMMAND_AT: usize = 12;
 
-// The longest command.
-pub const MOST: usize = 1024;
+// The longest command, and the longest record.
+pub const COMMAND_MOST: usize = 1024;
+
+pub const RECORD_MOST: usize = COMMAND_AT + COMMAND_MOST;
+
+// The command's length is two bytes, the low one first.
+const LENGTH_HIGH_AT: usize = LENGTH_AT + 1;
 
 // A byte to skip, a record with a command of so many bytes, or too few bytes to tell.
 pub enum Head {
@@ -54,19 +60,19 @@ pub fn head_at(waiting: &[u8], piece: &[u8], at: usize) -> Head
     if byte_at(waiting, piece, at + 1) != SECOND_MARK {
         return Head::Skip;
     }
-    if left < COMMAND {
+    if left < COMMAND_AT {
         return Head::Wait;
     }
-    let low = byte_at(waiting, piece, at + LOW) as usize;
-    let high = byte_at(waiting, piece, at + HIGH) as usize;
+    let low = byte_at(waiting, piece, at + LENGTH_AT) as usize;
+    let high = byte_at(waiting, piece, at + LENGTH_HIGH_AT) as usize;
     let size = low + 256 * high;
     if size < 1 {
         return Head::Skip;
     }
-    if MOST < size {
+    if COMMAND_MOST < size {
         return Head::Skip;
     }
-    if left < COMMAND + size {
+    if left < COMMAND_AT + size {
         return Head::Wait;
     }
     Head::Whole(size)

@@ -2,7 +2,7 @@
 use mathlib.Core.Path.{_≡_, refl, sym, ap}
 use mathlib.Core.Bool.{true}
 use mathlib.Core.List.{List, [], _∷_, _++_, append-assoc}
-use Prim.Native.Nat.{ℕ, zero, suc, _+_, _≤_, zero-le}
+use Prim.Native.Nat.{ℕ, zero, suc, _+_, _-_, _≤_, zero-le}
 use native.Mathlib.Nat.{zero-add, suc-add, not-suc-le-zero}
 use native.Mathlib.Omega.{arith}
 use lib.ListN.{length, drop}
@@ -12,7 +12,8 @@ use Rattle.commands.specs.Execute.{execBytes}
 use Rattle.feeder.specs.Record.{Record, Head, headOf, recordOf, commandAt}
 use Rattle.feeder.specs.Record.Head.{skip, whole, wait}
 use Rattle.feeder.specs.Stream.{Division, ended, skipping, recording, dividedAt, divideAfter, divide, doAll}
-use Rattle.feeder.proofs.Head.{told, head-more, record-more, whole-fits, wait-short}
+use Rattle.feeder.specs.State.{waitingMost}
+use Rattle.feeder.proofs.RecordHead.{told, head-more, record-more, whole-fits, wait-short}
 
 -- one division after another
 abbrev pub joined : Division → Division → Division
@@ -45,7 +46,7 @@ divide-after-more zero (b ∷ s) u l = go (headOf (b ∷ s)) refl (λ k. divide-
         rw (stays (rw p)) (rw p (rw (ih 0 zero-le) (sym (join-skipping (divideAfter 0 s) (divide (divideAfter 0 s .rest ++ u))))))
     go (whole n) p ih =
         let fits : commandAt + n ≤ suc (length s) = whole-fits (b ∷ s) n p in
-        rw (stays (rw p)) (rw p (rw (record-more n (b ∷ s) u fits) (ap (recording (recordOf n (b ∷ s))) (ih (11 + n) (omega arith)))))
+        rw (stays (rw p)) (rw p (rw (record-more n (b ∷ s) u fits) (ap (recording (recordOf n (b ∷ s))) (ih (commandAt - 1 + n) (omega arith)))))
     go wait p ih = sym (join-ended (b ∷ s) (divide (b ∷ s ++ u)))
 
 -- the key law: a stream in two pieces
@@ -65,7 +66,7 @@ rest-is P none zero (b ∷ s) waits = go (headOf (b ∷ s)) refl (λ k. rest-is 
   where
     go : (h : Head) → headOf (b ∷ s) ≡ h → ((k : ℕ) → P (divideAfter k s .rest)) → P (dividedAt h (b ∷ s) (λ k. divideAfter k s) .rest)
     go skip p ih = ih 0
-    go (whole n) p ih = ih (11 + n)
+    go (whole n) p ih = ih (commandAt - 1 + n)
     go wait p ih = waits 0 p
 
 -- bytes whose head waits all wait
@@ -80,9 +81,9 @@ unfolding divide divideAfter
 rest-waits s = rest-is (λ r. divide r ≡ ended r) refl 0 s (λ i h. all-wait (drop i s) h)
 
 -- at most 1,035 bytes wait
-pub rest-short : (s : List ℕ) → length (divide s .rest) ≤ 1035
+pub rest-short : (s : List ℕ) → length (divide s .rest) ≤ waitingMost
 unfolding divide
-rest-short s = rest-is (λ r. length r ≤ 1035) (omega arith) 0 s (λ i h. omega (arith, wait-short (drop i s) h))
+rest-short s = rest-is (λ r. length r ≤ waitingMost) (omega arith) 0 s (λ i h. omega (arith, wait-short (drop i s) h))
 
 pub rest-bytes : (s : List ℕ) → Bytes s → Bytes (divide s .rest)
 unfolding divide

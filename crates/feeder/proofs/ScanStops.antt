@@ -13,16 +13,15 @@ use lib.Seq.{drop-cons, getD-take, getD-drop}
 use borrow.Author.Count.{below-more}
 use borrow.Author.Tests.{eqb-true, ltb-true, ltb-false, ne-eqb}
 use Rattle.wire.specs.Lists.{orElse}
-use Rattle.feeder.specs.declared.heads.Head.the-variants as heads
+use Rattle.feeder.specs.declared.record.Head.the-variants as heads
 use Rattle.feeder.specs.declared.scan.Stop.{Stop}
 use Rattle.feeder.specs.declared.scan.Stop.the-variants as stops
 use Rattle.feeder.specs.Record.{Head, headOf, firstMark}
 use Rattle.feeder.specs.Record.Head.{skip, whole, wait}
 use Rattle.feeder.specs.Stream.{dividedAt, divideAfter, divide}
-use Rattle.feeder.specs.Feed.{Place, placedAt, firstRecord}
-use Rattle.feeder.proofs.First.{zero≢one}
-use Rattle.feeder.proofs.Telling.{byte-after}
-use Rattle.feeder.specs.Promises.{headFor, stopOf, laterBy, stopFrom, Unmarked, Passed, NextPlace}
+use Rattle.feeder.specs.Absorb.{Place, placedAt, firstRecord}
+use Rattle.feeder.proofs.RecordTests.{byte-after}
+use Rattle.feeder.specs.Promises.{headFor, blockSize, stopOf, laterBy, stopFrom, Unmarked, UnmarkedUpTo, NextPlace}
 
 -- ---- one byte at a time
 
@@ -104,37 +103,29 @@ stop-begins s = go (stopOf s)
     go (stops.Rest at) = rw zero-add
 
 -- what a stop says
+data Stopped (s : List ℕ) : Stop → Type 0 where
+  at-record : {at n : ℕ} → firstRecord s ≡ some (record { at = at; size = n }) → Stopped s (stops.Record at n)
+  at-rest : {k : ℕ} → firstRecord s ≡ none → divide s .skipped ≡ k → Stopped s (stops.Rest k)
+
+stop-says : (s : List ℕ) (m : Stop) → m ≡ stopOf s → Stopped s m
+unfolding stopOf orElse
+stop-says s m e = rw e (go (firstRecord s) refl)
+  where
+    go : (f : Option Place) → firstRecord s ≡ f → Stopped s (orElse f (stops.Rest (divide s .skipped)) (λ p. stops.Record (p .at) (p .size)))
+    go none q = at-rest q refl
+    go (some p) q = at-record q
+
 pub stop-record : (s : List ℕ) (at n : ℕ) → stops.Record at n ≡ stopOf s → firstRecord s ≡ some (record { at = at; size = n })
-unfolding stopOf orElse
-stop-record s at n e = go (firstRecord s) e
+stop-record s at n e = go (stop-says s (stops.Record at n) e)
   where
-    go : (m : Option Place) → stops.Record at n ≡ orElse m (stops.Rest (divide s .skipped)) (λ p. stops.Record (p .at) (p .size))
-        → m ≡ some (record { at = at; size = n })
-    go none e = cc
-    go (some p) e =
-        let a : p .at ≡ at = cc in
-        let b : p .size ≡ n = cc in
-        ap some (λ i. record { at = a i; size = b i })
+    go : Stopped s (stops.Record at n) → firstRecord s ≡ some (record { at = at; size = n })
+    go (at-record q) = q
 
-pub record-stop : (s : List ℕ) (p : Place) → firstRecord s ≡ some p → stops.Record (p .at) (p .size) ≡ stopOf s
-unfolding stopOf orElse
-record-stop s p e = rw e
-
-pub stop-none : (s : List ℕ) (at : ℕ) → stops.Rest at ≡ stopOf s → firstRecord s ≡ none
-unfolding stopOf orElse
-stop-none s at e = go (firstRecord s) e
+pub stop-rest : (s : List ℕ) (at : ℕ) → stops.Rest at ≡ stopOf s → (firstRecord s ≡ none) × (divide s .skipped ≡ at)
+stop-rest s at e = go (stop-says s (stops.Rest at) e)
   where
-    go : (m : Option Place) → stops.Rest at ≡ orElse m (stops.Rest (divide s .skipped)) (λ p. stops.Record (p .at) (p .size)) → m ≡ none
-    go none e = refl
-    go (some p) e = cc
-
-pub stop-skipped : (s : List ℕ) (at : ℕ) → stops.Rest at ≡ stopOf s → divide s .skipped ≡ at
-unfolding stopOf orElse
-stop-skipped s at e = go (firstRecord s) e
-  where
-    go : (m : Option Place) → stops.Rest at ≡ orElse m (stops.Rest (divide s .skipped)) (λ p. stops.Record (p .at) (p .size)) → divide s .skipped ≡ at
-    go none e = cc
-    go (some p) e = absurd (let z : _≡_ {A = ℕ} 0 1 = cc in zero≢one z)
+    go : Stopped s (stops.Rest at) → (firstRecord s ≡ none) × (divide s .skipped ≡ at)
+    go (at-rest q k) = (q, k)
 
 -- ---- many bytes at a time
 
@@ -151,10 +142,11 @@ pass-over s k (suc n) l h =
     ∙ ap (λ (i : ℕ). stopFrom i s) (omega arith)
 
 -- bytes passed one by one
-pub pass-begins : (s : List ℕ) (from : ℕ) → from ≤ length s → Passed s from from
+pub pass-begins : (s : List ℕ) (from : ℕ) → from ≤ length s → UnmarkedUpTo s from from
 pass-begins s from l = record { ahead = omega arith; inside = l; unmarked = λ i a b h. omega arith }
 
-pub pass-goes-on : (s : List ℕ) (from i : ℕ) → Passed s from i → i < length s → (getD s i 0 ≡ firstMark → ⊥) → Passed s from (i + 1)
+pub pass-goes-on : (s : List ℕ) (from i : ℕ) → UnmarkedUpTo s from i → i < length s → (getD s i 0 ≡ firstMark → ⊥)
+    → UnmarkedUpTo s from (i + 1)
 pass-goes-on s from i f l h =
     record {
       ahead = omega (arith, f .ahead);
@@ -163,17 +155,18 @@ pass-goes-on s from i f l h =
     }
 
 -- bytes passed in blocks
-pub pass-block : (s : List ℕ) (from i : ℕ) → Passed s from i → 64 ≤ length s - i → Unmarked (take (i + 64 - i) (drop i s)) → Passed s from (i + 64)
+pub pass-block : (s : List ℕ) (from i : ℕ) → UnmarkedUpTo s from i → blockSize ≤ length s - i
+    → Unmarked (take (i + blockSize - i) (drop i s)) → UnmarkedUpTo s from (i + blockSize)
 pass-block s from i f l h =
     record { ahead = omega (arith, f .ahead); inside = omega (arith, f .inside); unmarked = λ j a b. go j a b (ltb j i) refl }
   where
-    go : (j : ℕ) → from ≤ j → j < i + 64 → (t : Bool) → ltb j i ≡ t → getD s j 0 ≡ firstMark → ⊥
+    go : (j : ℕ) → from ≤ j → j < i + blockSize → (t : Bool) → ltb j i ≡ t → getD s j 0 ≡ firstMark → ⊥
     go j a b true q e = f .unmarked j a (ltb-true j i q) e
     go j a b false q e =
         let low : i ≤ j = ltb-false j i q in
-        let near : j - i < i + 64 - i = omega arith in
+        let near : j - i < i + blockSize - i = omega arith in
         let back : i + (j - i) ≡ j = omega arith in
-        h (j - i) (getD-take (i + 64 - i) (drop i s) (j - i) 0 near ∙ getD-drop i s (j - i) 0 ∙ ap (λ (n : ℕ). getD s n 0) back ∙ e)
+        h (j - i) (getD-take (i + blockSize - i) (drop i s) (j - i) 0 near ∙ getD-drop i s (j - i) 0 ∙ ap (λ (n : ℕ). getD s n 0) back ∙ e)
 
 -- marks counted: where there is none yet, none stands before i
 pub record Counting (s : List ℕ) (marks i : ℕ) : Type 0 where
@@ -210,7 +203,7 @@ pub next-waiting : (s : List ℕ) (at : ℕ) → at < length s → NextPlace s a
 next-waiting s at l = record { ahead = omega arith; inside = omega arith; stops-there = refl }
 
 -- the next place in the piece is its next mark
-pub next-marked : (w p : List ℕ) (at r : ℕ) → length w ≤ at + 1 → Passed p (at + 1 - length w) r → NextPlace (w ++ p) at (length w + r)
+pub next-marked : (w p : List ℕ) (at r : ℕ) → length w ≤ at + 1 → UnmarkedUpTo p (at + 1 - length w) r → NextPlace (w ++ p) at (length w + r)
 next-marked w p at r l f =
     record { ahead = omega (arith, f .ahead); inside = rw length-append (omega (arith, f .inside)); stops-there = passes }
   where

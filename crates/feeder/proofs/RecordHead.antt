@@ -10,7 +10,7 @@ use lib.Seq.{take-append-le, drop-append-le}
 use borrow.Author.Tests.{ltb-true, ltb-false, le-ltb}
 use Rattle.wire.specs.Bytes.{fromLE, part}
 use Rattle.wire.proofs.Lists.{or-right}
-use Rattle.feeder.specs.Record.{Head, headOf, commandLength, recordOf, firstMark, secondMark, lengthAt, commandAt, commandMost}
+use Rattle.feeder.specs.Record.{Head, headOf, commandLength, recordOf, firstMark, secondMark, clockAt, lengthAt, commandAt, commandMost, recordMost}
 use Rattle.feeder.specs.Record.Head.{skip, whole, wait}
 
 -- a part of s is the same part of s ++ u
@@ -28,7 +28,7 @@ length-more s u h = ap fromLE (part-more lengthAt 2 s u (omega arith))
 -- the record at the start of s is that at the start of s ++ u
 pub record-more : (n : ℕ) (s u : List ℕ) → commandAt + n ≤ length s → recordOf n (s ++ u) ≡ recordOf n s
 unfolding recordOf
-record-more n s u h = rw (part-more 2 8 s u (omega arith), part-more commandAt n s u h)
+record-more n s u h = rw (part-more clockAt 8 s u (omega arith), part-more commandAt n s u h)
 
 -- a head that can be told
 unfoldable pub told : Head → Bool
@@ -40,13 +40,13 @@ short : (k : ℕ) (s u : List ℕ) → ltb (length s) k ≡ false → ltb (lengt
 short k s u h = le-ltb (length (s ++ u)) k (rw (length-append s u) (omega (arith, ltb-false (length s) k h)))
 
 -- the tests of headOf by their order: where the length of the command is known, after the mark, after the first byte
-lastTests : ℕ → ℕ → Head
+unfoldable pub lastTests : ℕ → ℕ → Head
 lastTests size n = cond (ltb n 1 || ltb commandMost n) skip (cond (ltb size (commandAt + n)) wait (whole n))
 
-afterMark : List ℕ → Head
+unfoldable pub afterMark : List ℕ → Head
 afterMark s = cond (ltb (length s) commandAt) wait (lastTests (length s) (commandLength s))
 
-afterFirst : List ℕ → Head
+unfoldable pub afterFirst : List ℕ → Head
 afterFirst s = cond (not (eqb (getD s 1 0) secondMark)) skip (afterMark s)
 
 -- a head that can be told stays as it is
@@ -94,7 +94,7 @@ module _ (s u : List ℕ) where
 
 module _ (P : Head → Type 0) (s : List ℕ)
     (skips : P skip)
-    (waits : length s < commandAt + commandMost → P wait)
+    (waits : length s < recordMost → P wait)
     (wholes : commandAt + commandLength s ≤ length s → commandLength s ≤ commandMost → P (whole (commandLength s))) where
   last-cases : (n : ℕ) → n ≡ commandLength s → P (lastTests (length s) n)
   unfolding lastTests
@@ -126,31 +126,37 @@ module _ (P : Head → Type 0) (s : List ℕ)
       go false false p true = skips
       go false false p false = mark-cases
 
+-- the same as a view of the head
+pub data Told (s : List ℕ) : Head → Type 0 where
+  skips : Told s skip
+  waits : length s < recordMost → Told s wait
+  wholes : {n : ℕ} → commandAt + n ≤ length s → n ≤ commandMost → Told s (whole n)
+
+head-told : (s : List ℕ) (h : Head) → headOf s ≡ h → Told s h
+head-told s h e = rw e at (head-cases (λ k. Told s k) s skips waits wholes)
+
 -- a whole record lies in s
 pub whole-fits : (s : List ℕ) (n : ℕ) → headOf s ≡ whole n → commandAt + n ≤ length s
-whole-fits s n =
-    head-cases (λ h. h ≡ whole n → commandAt + n ≤ length s) s
-    (λ e. let z : _≡_ {A = ℕ} 0 1 = cc in omega arith)
-    (λ l e. let z : _≡_ {A = ℕ} 0 1 = cc in omega arith)
-    (λ l m e. let z : commandLength s ≡ n = cc in omega arith)
+whole-fits s n e = go (head-told s (whole n) e)
+  where
+    go : Told s (whole n) → commandAt + n ≤ length s
+    go (wholes l m) = l
 
 -- its command is short
 pub whole-most : (s : List ℕ) (n : ℕ) → headOf s ≡ whole n → n ≤ commandMost
-whole-most s n =
-    head-cases (λ h. h ≡ whole n → n ≤ commandMost) s
-    (λ e. let z : _≡_ {A = ℕ} 0 1 = cc in omega arith)
-    (λ l e. let z : _≡_ {A = ℕ} 0 1 = cc in omega arith)
-    (λ l m e. let z : commandLength s ≡ n = cc in omega arith)
+whole-most s n e = go (head-told s (whole n) e)
+  where
+    go : Told s (whole n) → n ≤ commandMost
+    go (wholes l m) = m
 
 -- what waits is short
-pub wait-short : (s : List ℕ) → headOf s ≡ wait → length s < commandAt + commandMost
-wait-short s =
-    head-cases (λ h. h ≡ wait → length s < commandAt + commandMost) s
-    (λ e. let z : _≡_ {A = ℕ} 0 1 = cc in omega arith)
-    (λ l e. l)
-    (λ l m e. let z : _≡_ {A = ℕ} 0 1 = cc in omega arith)
+pub wait-short : (s : List ℕ) → headOf s ≡ wait → length s < recordMost
+wait-short s e = go (head-told s wait e)
+  where
+    go : Told s wait → length s < recordMost
+    go (waits l) = l
 
--- ---- what fewer bytes do, where they are at least 12
+-- ---- what fewer bytes do, where a whole head stands in them
 
 -- the head of bytes that start with s, of so many in all
 long : List ℕ → ℕ → Head

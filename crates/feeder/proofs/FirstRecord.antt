@@ -2,43 +2,58 @@
 use mathlib.Core.Path.{_≡_, refl, ap, _∙_}
 use mathlib.Core.List.{List, [], _∷_, _++_, cons-ne-nil}
 use mathlib.Core.Option.{Option, none, some}
-use Prim.Native.Nat.{ℕ, suc, _+_, _≤_}
+use Prim.Native.Nat.{ℕ, _+_, _-_, _≤_}
 use native.Mathlib.Omega.{arith}
 use lib.ListN.{length, drop}
 use Rattle.feeder.specs.Record.{Head, headOf, recordOf, commandAt, commandMost}
 use Rattle.feeder.specs.Record.Head.{skip, whole, wait}
 use Rattle.feeder.specs.Stream.{ended, skipping, dividedAt, divideAfter, divide}
-use Rattle.feeder.specs.Feed.{Place, later, placedAt, firstRecord}
-use Rattle.feeder.proofs.Head.{told, head-more, whole-fits, whole-most, skip-fewer, whole-fewer}
+use Rattle.feeder.specs.Absorb.{Place, later, placedAt, firstRecord, endOf}
+use Rattle.feeder.proofs.RecordHead.{told, head-more, whole-fits, whole-most, skip-fewer, whole-fewer}
 
-pub zero≢one : _≡_ {A = ℕ} 0 1 → ⊥
-zero≢one z = omega arith
-
--- just past a record
-abbrev pub endOf : Place → ℕ
-endOf p = p .at + (commandAt + p .size)
+-- an impossible case
+pub never {ℓ} : {A : Type ℓ} → _≡_ {A = ℕ} 0 1 → A
+never z = absurd (let n : ⊥ = omega arith in n)
 
 -- the first record of a stream stands after bytes to skip
 pub data First : List ℕ → Place → Type 0 where
   here : {b : ℕ} {s : List ℕ} {n : ℕ} → headOf (b ∷ s) ≡ whole n → First (b ∷ s) (record { at = 0; size = n })
   there : {b : ℕ} {s : List ℕ} {p : Place} → headOf (b ∷ s) ≡ skip → First s p → First (b ∷ s) (later p)
 
--- what firstRecord finds is the first record
+-- a stream with no record: bytes to skip, and then a rest that waits
+pub data NoFirst : List ℕ → Type 0 where
+  ends : NoFirst []
+  waits : {b : ℕ} {s : List ℕ} → headOf (b ∷ s) ≡ wait → NoFirst (b ∷ s)
+  skips : {b : ℕ} {s : List ℕ} → headOf (b ∷ s) ≡ skip → NoFirst s → NoFirst (b ∷ s)
+
+-- firstRecord finds the first record
 pub first-found : (s : List ℕ) (p : Place) → firstRecord s ≡ some p → First s p
 unfolding firstRecord placedAt
-first-found [] p e = let z : _≡_ {A = ℕ} 0 1 = cc in absurd (zero≢one z)
+first-found [] p e = never (cc)
 first-found (b ∷ s) p e = go (headOf (b ∷ s)) refl (firstRecord s) e (first-found s)
   where
     go : (h : Head) → headOf (b ∷ s) ≡ h → (m : Option Place) → placedAt h m ≡ some p
         → ((q : Place) → m ≡ some q → First s q) → First (b ∷ s) p
-    go skip x none e ih = let z : _≡_ {A = ℕ} 0 1 = cc in absurd (zero≢one z)
+    go skip x none e ih = never (cc)
     go skip x (some q) e ih =
         let z : later q ≡ p = cc in
         rw z at (there x (ih q refl))
     go (whole n) x m e ih =
         let z : record { at = 0; size = n } ≡ p = cc in
         rw z at (here x)
-    go wait x m e ih = let z : _≡_ {A = ℕ} 0 1 = cc in absurd (zero≢one z)
+    go wait x m e ih = never (cc)
+
+-- or there is none
+pub none-found : (s : List ℕ) → firstRecord s ≡ none → NoFirst s
+unfolding firstRecord placedAt
+none-found [] e = ends
+none-found (b ∷ s) e = go (headOf (b ∷ s)) refl (firstRecord s) e (none-found s)
+  where
+    go : (h : Head) → headOf (b ∷ s) ≡ h → (m : Option Place) → placedAt h m ≡ none → (m ≡ none → NoFirst s) → NoFirst (b ∷ s)
+    go skip x none e ih = skips x (ih refl)
+    go skip x (some q) e ih = never (cc)
+    go (whole n) x m e ih = never (cc)
+    go wait x m e ih = waits x
 
 -- the first record is what firstRecord finds
 pub found-first : {s : List ℕ} {p : Place} → First s p → firstRecord s ≡ some p
@@ -46,43 +61,25 @@ unfolding firstRecord placedAt
 found-first (here h) = rw h
 found-first (there h f) = rw (h, found-first f)
 
--- with no first record, a division has no record
-pub first-none : (s : List ℕ) → firstRecord s ≡ none → divide s .records ≡ []
-unfolding firstRecord divide divideAfter dividedAt placedAt
-first-none [] e = refl
-first-none (b ∷ s) e = go (headOf (b ∷ s)) (firstRecord s) e (first-none s)
-  where
-    go : (h : Head) (m : Option Place) → placedAt h m ≡ none → (m ≡ none → divideAfter 0 s .records ≡ [])
-        → dividedAt h (b ∷ s) (λ k. divideAfter k s) .records ≡ []
-    go skip none p ih = ih refl
-    go skip (some q) p ih = cc
-    go (whole n) m p ih = cc
-    go wait m p ih = refl
+-- with no first record a division has no record
+pub none-records : {s : List ℕ} → NoFirst s → divide s .records ≡ []
+unfolding divide divideAfter dividedAt
+none-records ends = refl
+none-records (waits h) = rw h
+none-records (skips h f) = rw h (none-records f)
 
--- and it skips all up to its rest
-pub none-rest : (s : List ℕ) → firstRecord s ≡ none → divide s .rest ≡ drop (divide s .skipped) s
-unfolding firstRecord divide divideAfter dividedAt placedAt
-none-rest [] e = refl
-none-rest (b ∷ s) e = go (headOf (b ∷ s)) (firstRecord s) e (none-rest s)
-  where
-    go : (h : Head) (m : Option Place) → placedAt h m ≡ none → (m ≡ none → divideAfter 0 s .rest ≡ drop (divideAfter 0 s .skipped) s)
-        → dividedAt h (b ∷ s) (λ k. divideAfter k s) .rest ≡ drop (dividedAt h (b ∷ s) (λ k. divideAfter k s) .skipped) (b ∷ s)
-    go skip none p ih = ih refl
-    go skip (some q) p ih = cc
-    go (whole n) m p ih = cc
-    go wait m p ih = refl
+-- and skips all up to its rest
+pub none-rest : {s : List ℕ} → NoFirst s → divide s .rest ≡ drop (divide s .skipped) s
+unfolding divide divideAfter dividedAt
+none-rest ends = refl
+none-rest (waits h) = rw h
+none-rest (skips h f) = rw h (none-rest f)
 
-pub none-skipped : (s : List ℕ) → firstRecord s ≡ none → divide s .skipped ≤ length s
-unfolding firstRecord divide divideAfter dividedAt placedAt
-none-skipped [] e = omega arith
-none-skipped (b ∷ s) e = go (headOf (b ∷ s)) (firstRecord s) e (none-skipped s)
-  where
-    go : (h : Head) (m : Option Place) → placedAt h m ≡ none → (m ≡ none → divideAfter 0 s .skipped ≤ length s)
-        → dividedAt h (b ∷ s) (λ k. divideAfter k s) .skipped ≤ suc (length s)
-    go skip none p ih = omega (arith, ih refl)
-    go skip (some q) p ih = absurd (let z : _≡_ {A = ℕ} 0 1 = cc in zero≢one z)
-    go (whole n) m p ih = absurd (let z : _≡_ {A = ℕ} 0 1 = cc in zero≢one z)
-    go wait m p ih = omega arith
+pub none-skipped : {s : List ℕ} → NoFirst s → divide s .skipped ≤ length s
+unfolding divide divideAfter dividedAt
+none-skipped ends = omega arith
+none-skipped (waits h) = rw h (omega arith)
+none-skipped (skips h f) = rw h (omega (arith, none-skipped f))
 
 -- the first record lies in s
 pub first-fits : {s : List ℕ} {p : Place} → First s p → endOf p ≤ length s
@@ -102,7 +99,7 @@ first-more u (there {b = b} {s = s} h f) = there (head-more (b ∷ s) u (omega a
 
 -- it is the first of any fewer bytes that reach its end
 pub first-fewer : (s u : List ℕ) (p : Place) → First (s ++ u) p → endOf p ≤ length s → First s p
-first-fewer [] u p f l = absurd (let n : ⊥ = omega arith in n)
+first-fewer [] u p f l = never (omega arith)
 first-fewer (b ∷ s) u p (here {n = n} h) l = here (whole-fewer n (b ∷ s) u (omega arith) h)
 first-fewer (b ∷ s) u p (there {p = q} h f) l =
     there (skip-fewer (b ∷ s) u (omega arith) h) (first-fewer s u q f (omega arith))
@@ -118,7 +115,7 @@ pub first-divides : {s : List ℕ} {p : Place} → First s p → endOf p ≡ len
     → divide s ≡ record { records = recordOf (p .size) (drop (p .at) s) ∷ []; skipped = p .at; rest = [] }
 unfolding divide divideAfter dividedAt
 first-divides (here {b = b} {s = s} {n = n} h) l =
-    let k : 11 + n ≡ length s = omega arith in
+    let k : commandAt - 1 + n ≡ length s = omega arith in
     rw h (rw k (rw (passed-over s)))
 first-divides (there {b = b} {s = s} {p = p} h f) l = rw h (ap skipping (first-divides f (omega arith)))
 
@@ -126,6 +123,6 @@ first-divides (there {b = b} {s = s} {p = p} h f) l = rw h (ap skipping (first-d
 pub first-not-waiting : {s : List ℕ} {p : Place} → First s p → divide s .records ≡ [] → ⊥
 unfolding divide divideAfter dividedAt
 first-not-waiting (here {b = b} {s = s} {n = n} h) e =
-    let g : recordOf n (b ∷ s) ∷ divideAfter (11 + n) s .records ≡ [] = rw h at e in
-    cons-ne-nil (recordOf n (b ∷ s)) (divideAfter (11 + n) s .records) g
+    let g : recordOf n (b ∷ s) ∷ divideAfter (commandAt - 1 + n) s .records ≡ [] = rw h at e in
+    cons-ne-nil (recordOf n (b ∷ s)) (divideAfter (commandAt - 1 + n) s .records) g
 first-not-waiting (there h f) e = first-not-waiting f (rw h at e)
