@@ -2,7 +2,7 @@
 use mathlib.Core.Path.{_≡_, refl, sym, ap, _∙_}
 use mathlib.Core.Bool.{true}
 use mathlib.Core.List.{List, _++_}
-use mathlib.Core.Option.{Option, none, some}
+use mathlib.Core.Option.{none, some}
 use Prim.Native.Nat.{ℕ, _+_, _-_, _≤_, _<_}
 use native.Mathlib.Omega.{arith}
 use lib.ListN.{length, take, drop, replicate, length-append, length-drop, length-take, length-replicate, replicate-append-replicate, take-append-drop}
@@ -13,7 +13,7 @@ use Rattle.wire.specs.Bytes.{allZero, fromLE, part, padded}
 use Rattle.wire.specs.Reply.{laidOver}
 use Rattle.wire.specs.Promises.{Laid}
 use Rattle.wire.proofs.Bytes.{zero-is, zero-drop, zero-replicate}
-use Rattle.wire.proofs.Laying.{drop-laid, laid-whole, laid-copied, laid-tail}
+use Rattle.wire.proofs.Laying.{laid-whole, laid-copied, laid-tail}
 use Rattle.feeder.specs.declared.Feeder.{Feeder}
 use Rattle.feeder.specs.declared.absorb.Completed.{Completed}
 use Rattle.feeder.specs.declared.absorb.Completed.the-variants as completions
@@ -99,8 +99,8 @@ in-offered (completions.InPiece clock start size) piece t h =
         ∙ part-more start size (take usedMost piece) (drop usedMost piece) h
 
 module _ (w p : List ℕ) (at size : ℕ) (j : List ℕ) (r : Completing w p at size j) where
-  abbrev asked : Option Record
-  asked = some (recordOf size (drop at (w ++ p)))
+  abbrev from : List ℕ
+  from = drop at (w ++ p)
 
   -- the bytes of the piece up to its end
   pub up-to-end : length (take (at + (commandAt + size) - length w) p) ≡ at + (commandAt + size) - length w
@@ -109,8 +109,8 @@ module _ (w p : List ℕ) (at size : ℕ) (j : List ℕ) (r : Completing w p at 
   -- it stands in the piece
   pub in-piece : {clock : ℕ} → length w ≤ at
       → clock ≡ fromLE (take 8 (drop clockAt (take (length p - (at - length w)) (drop (at - length w) p))))
-      → Completes asked p j (completions.InPiece clock (at - length w + commandAt) size) j
-  unfolding recordIn CommandInside recordOf part
+      → Completes from size p j (completions.InPiece clock (at - length w + commandAt) size) j
+  unfolding recordIn CommandInside recordOf part joinedSize laidOver
   in-piece l e =
       record {
         means =
@@ -121,7 +121,7 @@ module _ (w p : List ℕ) (at size : ℕ) (j : List ℕ) (r : Completing w p at 
               drop-drop commandAt (at - length w) p,
             );
         inside = omega (arith, r .inside);
-        beyond = refl;
+        bytes = refl;
       }
 
   module _ (l : at < length w) where
@@ -154,18 +154,15 @@ module _ (w p : List ℕ) (at size : ℕ) (j : List ℕ) (r : Completing w p at 
         ∙ sym (part-more a n sent (drop (commandAt + size) (drop at (w ++ p))) fits)
         ∙ ap (part a n) (unfold part in take-append-drop (commandAt + size) (drop at (w ++ p)))
 
-    laid-beyond : drop (commandAt + size) (laidOver sent j) ≡ drop (commandAt + size) j
-    laid-beyond = rw joins at (drop-laid sent j)
-
     pub joined-whole : {clock : ℕ} {t : List ℕ} → t ≡ laidOver (drop at (w ++ take (at + (commandAt + size) - length w) p)) j
-        → clock ≡ fromLE (take 8 (drop clockAt t)) → Completes asked p j (completions.Joined clock commandAt size) t
-    unfolding recordIn CommandInside joinedSize recordOf
+        → clock ≡ fromLE (take 8 (drop clockAt t)) → Completes from size p j (completions.Joined clock commandAt size) t
+    unfolding recordIn CommandInside joinedSize recordOf part
     joined-whole {t = t} e h =
         let laid : t ≡ laidOver sent j = e ∙ rw both in
         record {
           means = rw (h, laid) (unfold part in rw (same-part clockAt 8 (omega arith), same-part commandAt size (omega arith)));
           inside = rw laid (unfold laidOver in rw length-append (omega (arith, joins)));
-          beyond = rw laid laid-beyond;
+          bytes = laid;
         }
 
 -- ---- what waits
@@ -262,7 +259,7 @@ module _ (f : Feeder) (piece : List ℕ) (left : isLeft f ≡ true) {o : List �
         }
 
     pub absorbed-record : (j : List ℕ) {c : Completed} {t v : List ℕ}
-        → Completes (some (recordOf n (drop at (take (f .count) (f .waiting) ++ o)))) o j c t
+        → Completes (drop at (take (f .count) (f .waiting) ++ o)) n o j c t
         → record { waiting = v; count = 0 } ≡ fresh
         → Absorbs f piece j (record { used = at + (commandAt + n) - f .count; skipped = at; completed = c; count = 0 }) v t
     unfolding meant absorb orElse completing waitingIn fresh
@@ -272,7 +269,7 @@ module _ (f : Feeder) (piece : List ℕ) (left : isLeft f ≡ true) {o : List �
           means = rw (there .0, ← eo, h .means) (rw (eo, found, left-state f left .count));
           state = q;
           inside = there .1;
-          beyond = h .beyond;
+          bytes = rw (← eo) (h .bytes);
         }
 
   -- no record is completed
@@ -303,13 +300,13 @@ module _ (f : Feeder) (piece : List ℕ) (left : isLeft f ≡ true) {o : List �
 
     pub absorbed-none : {j : List ℕ} {g : Feeder} → g ≡ stateOf (drop at (waitingIn f ++ o))
         → Absorbs f piece j (record { used = length o; skipped = at; completed = completions.Nothing; count = g .count }) (g .waiting) j
-    unfolding meant recordIn absorb orElse keeping CommandInside
+    unfolding meant recordIn absorb orElse keeping CommandInside joinedSize laidOver
     absorbed-none {g = g} h =
         record {
           means = rw (stopped .0, waits, eo, leaves, stopped .1);
           state = h ∙ ap stateOf (sym waits);
           inside = tt;
-          beyond = refl;
+          bytes = refl;
         }
       where
         waits : take (g .count) (g .waiting) ≡ drop at (waitingIn f ++ o)

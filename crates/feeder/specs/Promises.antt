@@ -1,11 +1,12 @@
 -- What the functions of feeder answer, in the terms of the other definitions.
 use mathlib.Core.Path.{_≡_}
-use mathlib.Core.List.{List}
+use mathlib.Core.List.{List, _++_}
 use mathlib.Core.Option.{Option, none, some}
 use Prim.Native.Nat.{ℕ, _+_, _≤_, _<_}
 use lib.ListN.{length, take, drop, getD}
 use Rattle.wire.specs.Lists.{orElse}
 use Rattle.wire.specs.Bytes.{part}
+use Rattle.wire.specs.Reply.{laidOver}
 use Rattle.feeder.specs.declared.Feeder.{Feeder}
 use Rattle.feeder.specs.declared.absorb.Completed.{Completed}
 use Rattle.feeder.specs.declared.absorb.Completed.the-variants as completions
@@ -15,10 +16,10 @@ use Rattle.feeder.specs.declared.record.Head.the-variants as heads
 use Rattle.feeder.specs.declared.scan.Stop.{Stop}
 use Rattle.feeder.specs.declared.scan.Stop.the-variants as stops
 use Rattle.feeder.specs.Record as paper
-use Rattle.feeder.specs.Record.{Record, firstMark, commandAt}
+use Rattle.feeder.specs.Record.{Record, firstMark, commandAt, recordOf}
 use Rattle.feeder.specs.Stream.{divide}
 use Rattle.feeder.specs.State.{stateOf, waitingIn}
-use Rattle.feeder.specs.Absorb.{firstRecord, Absorbing, absorb}
+use Rattle.feeder.specs.Absorb.{firstRecord, offered, Absorbing, absorb}
 
 -- ---- the record's head
 
@@ -89,11 +90,12 @@ pub record Completing (w piece : List ℕ) (at size : ℕ) (joined : List ℕ) :
   pub inside : at + (commandAt + size) ≤ length w + length piece
   pub room : commandAt + size ≤ length joined
 
--- the answer r is the record asked for; of the bytes lent for joining those beyond it keep theirs
-pub record Completes (asked : Option Record) (piece joined : List ℕ) (r : Completed) (after : List ℕ) : Type 0 where
-  pub means : recordIn r piece after ≡ asked
+-- the answer r is the record at the start of s, with a command of so many bytes; where it is joined it stands at the start of the lent bytes, and
+-- those beyond it keep theirs
+pub record Completes (s : List ℕ) (size : ℕ) (piece joined : List ℕ) (r : Completed) (after : List ℕ) : Type 0 where
+  pub means : recordIn r piece after ≡ some (recordOf size s)
   pub inside : CommandInside r piece after
-  pub beyond : drop (joinedSize r) after ≡ drop (joinedSize r) joined
+  pub bytes : after ≡ laidOver (take (joinedSize r) s) joined
 
 -- what an answer of `absorb` means: the record stands where it says, and the rest is what then waits in the lent bytes
 unfoldable pub meant : Absorbed → List ℕ → List ℕ → List ℕ → Absorbing
@@ -105,9 +107,10 @@ meant a waiting piece joined =
       rest = take (a .count) waiting;
     }
 
--- what `absorb` answers means the definition's absorbing; the lent waiting bytes are a state's, zero after those that wait
+-- what `absorb` answers means the definition's absorbing; the lent waiting bytes are a state's, zero after those that wait; a record that is joined
+-- stands at the start of the bytes lent for it, and those beyond it keep theirs
 pub record Absorbs (f : Feeder) (piece joined : List ℕ) (a : Absorbed) (waiting after : List ℕ) : Type 0 where
   pub means : meant a waiting piece after ≡ absorb (waitingIn f) piece
   pub state : record { waiting = waiting; count = a .count } ≡ stateOf (take (a .count) waiting)
   pub inside : CommandInside (a .completed) piece after
-  pub beyond : drop (joinedSize (a .completed)) after ≡ drop (joinedSize (a .completed)) joined
+  pub bytes : after ≡ laidOver (take (joinedSize (a .completed)) (drop (a .skipped) (waitingIn f ++ offered piece))) joined

@@ -14,8 +14,7 @@ ghost use mathlib.Core.List.{_++_};
 ghost use Prim.Native.Nat.{_+_, _≤_};
 ghost use lib.ListN.{length, take, drop};
 ghost use Rattle.wire.specs.Reply.{laidOver};
-ghost use mathlib.Core.Option.{some};
-ghost use Rattle.feeder.specs.Record.{recordMost, recordOf};
+ghost use Rattle.feeder.specs.Record.{recordMost};
 ghost use Rattle.feeder.specs.State.{waitingMost, stateOf, fresh, waitingIn, isLeft};
 ghost use Rattle.feeder.specs.Absorb.{offered};
 ghost use Rattle.feeder.specs.Promises.{Completing, Completes, Absorbs};
@@ -85,8 +84,8 @@ fn append(out: &mut [u8], count: usize, piece: &[u8])
 fn complete(waiting: &[u8], piece: &[u8], at: usize, size: usize, joined: &mut [u8]) -> Completed
     requires { ⌜ Completing (now waiting) (now piece) at size (now joined) ⌝ }
     ensures { λ r.
-        let asked = recordOf size (drop at (now (waiting .entry) ++ now (piece .entry))) in
-        ⌜ Completes (some asked) (now (piece .entry)) (now (joined .entry)) r (now (joined .exit)) ⌝ }
+        let s = drop at (now (waiting .entry) ++ now (piece .entry)) in
+        ⌜ Completes s size (now (piece .entry)) (now (joined .entry)) r (now (joined .exit)) ⌝ }
 {
     let count = waiting.len();
     if count <= at {
