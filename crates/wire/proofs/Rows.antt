@@ -9,7 +9,7 @@ use native.Mathlib.Omega.{arith}
 use borrow.Author.Tests.{le-leb, lt-leb}
 use lib.ListN.{length, getD, take, drop, length-map, List·getD-map}
 use Rattle.wire.specs.Bytes.{part, same, upper}
-use Rattle.wire.specs.Promises.{nameIn, rowFrom}
+use Rattle.wire.specs.Promises.{rowSize, nameIn, rowFrom}
 
 -- ---- capitals
 
@@ -38,15 +38,15 @@ upper-at word i = List·getD-map upper word i 0
 -- ---- rows
 
 -- the name of a row is the part of the table behind the row's length
-name-part : (table : List ℕ) (i : ℕ) → take (16 * i + 1 + getD table (16 * i) 0 - (16 * i + 1)) (drop (16 * i + 1) table) ≡ nameIn table i
+name-part : (table : List ℕ) (i : ℕ) → take (rowSize * i + 1 + getD table (rowSize * i) 0 - (rowSize * i + 1)) (drop (rowSize * i + 1) table) ≡ nameIn table i
 unfolding nameIn part
 name-part table i =
-    let e : 16 * i + 1 + getD table (16 * i) 0 - (16 * i + 1) ≡ getD table (16 * i) 0 = omega arith in
+    let e : rowSize * i + 1 + getD table (rowSize * i) 0 - (rowSize * i + 1) ≡ getD table (rowSize * i) 0 = omega arith in
     rw e
 
 module _ (table w : List ℕ) (rows i : ℕ) where
   module _ (l : i < rows) (r : Bool)
-      (test : r ≡ same (map upper w) (take (16 * i + 1 + getD table (16 * i) 0 - (16 * i + 1)) (drop (16 * i + 1) table))) where
+      (test : r ≡ same (map upper w) (take (rowSize * i + 1 + getD table (rowSize * i) 0 - (rowSize * i + 1)) (drop (rowSize * i + 1) table))) where
     -- the rows from row i on are that row and the later ones
     row-on : rowFrom (rows - i) i table w ≡ cond r (some i) (rowFrom (rows - (i + 1)) (i + 1) table w)
     unfolding rowFrom
