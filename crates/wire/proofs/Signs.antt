@@ -20,6 +20,7 @@ use Rattle.wire.specs.declared.integers.Integer.{Integer}
 use Rattle.wire.specs.declared.integers.Integer.the-variants as integers
 use Rattle.wire.specs.declared.integers.Signed.{Signed}
 use Rattle.wire.specs.Promises.{naturalFor, integerFor, signedFor, integerOf}
+use Rattle.wire.proofs.Lists.{impossible}
 use Rattle.wire.proofs.Digits.{text-negated, negated-natural, negated-value, text-value}
 use Rattle.wire.proofs.Reading.{and-false, natural-is}
 
@@ -62,19 +63,25 @@ within-minus n = go (leb n 0x7fff_ffff_ffff_ffff) refl
     go true e = rw (e, le-leb (suc n) 0x8000_0000_0000_0000 (omega (arith, leb-true)))
     go false e = rw (e, lt-leb (suc n) 0x8000_0000_0000_0000 (omega (arith, leb-false)))
 
+-- An integer is what its sign and magnitude say.
+pub sign-said : (z : ℤ) → integerOf (signedFor z) ≡ z
+unfolding integerOf signedFor
+sign-said (pos n) = refl
+sign-said (negsuc n) = refl
+
 -- ---- what a number that was read says
 
 -- A number was read.
 pub read-value : (o : Option ℕ) {n : ℕ} → naturals.Value n ≡ naturalFor o → o ≡ some n
 unfolding naturalFor
-read-value none h = let z : _≡_ {A = ℕ} 0 1 = cc in absurd (omega arith)
+read-value none h = impossible (cc)
 read-value (some m) h = cc
 
 -- A text was refused.
 pub read-refused : (o : Option ℕ) → naturals.Refused ≡ naturalFor o → o ≡ none
 unfolding naturalFor
 read-refused none h = refl
-read-refused (some m) h = let z : _≡_ {A = ℕ} 0 1 = cc in absurd (omega arith)
+read-refused (some m) h = impossible (cc)
 
 -- ---- an integer is a number, or one after a minus
 
