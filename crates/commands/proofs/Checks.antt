@@ -30,6 +30,10 @@ pub check-passed : (n : ℕ) (cs : List Check) {t : Bool} → t ≡ false → lo
 unfolding lowest
 check-passed n cs h = rw h
 
+pub checks-end : lowest [] ≡ none
+unfolding lowest
+checks-end = refl
+
 -- A number that is given is the first check's, which applies, or comes from the rest, where the first is passed.
 pub lowest-some : (c : Check) (cs : List Check) (n : ℕ) → lowest (c ∷ cs) ≡ some n
     → ((c .applies ≡ true) × (c .number ≡ n)) ⊎ ((c .applies ≡ false) × (lowest cs ≡ some n))
