@@ -1,4 +1,5 @@
 // The commands and their options: a row of a table for each, its name and the numbers that parsing asks of it.
+use wire::names::ROW;
 use wire::names::RowFound;
 use wire::names::datum;
 use wire::names::find;
@@ -64,7 +65,9 @@ pub const EACH_PAIR: usize = 2;
 pub const ONE_FIELD: usize = 3;
 
 // The commands.
-const COMMANDS: [u8; 483] = *b"\x06EXHSET\0\0\0\0\0\0\0\0\0\x00\x00\x04\x01\x04\
+const COMMAND_COUNT: usize = 23;
+
+const COMMANDS: [u8; ROW * COMMAND_COUNT] = *b"\x06EXHSET\0\0\0\0\0\0\0\0\0\x00\x00\x04\x01\x04\
     \x07EXHMSET\0\0\0\0\0\0\0\0\x01\x00\x04\x02\x02\
     \x09EXHINCRBY\0\0\0\0\0\0\x02\x00\x04\x01\x03\
     \x09EXHEXPIRE\0\0\0\0\0\0\x03\x00\x04\x01\x03\
@@ -120,7 +123,9 @@ pub const IF_MISSING: usize = 0;
 pub const MATCHED: usize = 0;
 
 // The options.
-const OPTIONS: [u8; 252] = *b"\x02EX\0\0\0\0\0\0\0\0\0\0\0\0\0\x00\x00\x02\x00\x00\
+const OPTION_COUNT: usize = 12;
+
+const OPTIONS: [u8; ROW * OPTION_COUNT] = *b"\x02EX\0\0\0\0\0\0\0\0\0\0\0\0\0\x00\x00\x02\x00\x00\
     \x04EXAT\0\0\0\0\0\0\0\0\0\0\0\x00\x01\x02\x00\x00\
     \x02PX\0\0\0\0\0\0\0\0\0\0\0\0\0\x00\x02\x02\x00\x00\
     \x04PXAT\0\0\0\0\0\0\0\0\0\0\0\x00\x03\x02\x00\x00\

@@ -39,68 +39,78 @@ mul-if1 : tie.Need-mul-if1 Inv-loop μ-loop
 mul-if1 c =
     let a = c .before in
     let b = a .before .before in
-    omega (arith, (rw (a .found .given .1) at (b .option-at .ensures)) .grouped)
+    let found = rw (a .found .given .1) at (b .option-at .ensures) in
+    omega (arith, found .grouped)
 
 element-copy-out-if1 : tie.Need-element-copy-out-if1 Inv-loop μ-loop
 element-copy-out-if1 c =
     let a = c .before in
     let b = a .before .before in
     let d = b .before .before in
-    omega (arith, (rw (a .found .given .1) at (b .option-at .ensures)) .grouped, d .loop .inv .saidSize)
+    let found = rw (a .found .given .1) at (b .option-at .ensures) in
+    omega (arith, found .grouped, d .loop .inv .saidSize)
 
 returns-2 : tie.Need-returns-2 Inv-loop μ-loop
 returns-2 c =
     let a = c .before .before .before in
     let b = a .before .before in
     let d = b .before .before in
-    scanning-again (d .loop .inv) (rw (a .found .given .1) at (b .option-at .ensures)) (c .if1 .taken)
+    let found = rw (a .found .given .1) at (b .option-at .ensures) in
+    scanning-again (d .loop .inv) found (c .if1 .taken)
 
 mul-given : tie.Need-mul-given Inv-loop μ-loop
 mul-given c =
     let a = c .before .before .before in
     let b = a .before .before in
-    omega (arith, (rw (a .found .given .1) at (b .option-at .ensures)) .grouped)
+    let found = rw (a .found .given .1) at (b .option-at .ensures) in
+    omega (arith, found .grouped)
 
 element-write-given : tie.Need-element-write-given Inv-loop μ-loop
 element-write-given c =
     let a = c .before .before .before in
     let b = a .before .before in
     let d = b .before .before in
-    omega (arith, (rw (a .found .given .1) at (b .option-at .ensures)) .grouped, d .loop .inv .saidSize)
+    let found = rw (a .found .given .1) at (b .option-at .ensures) in
+    omega (arith, found .grouped, d .loop .inv .saidSize)
 
 mul-given-2 : tie.Need-mul-given-2 Inv-loop μ-loop
 mul-given-2 c =
     let a = c .before .before .before in
     let b = a .before .before in
-    omega (arith, (rw (a .found .given .1) at (b .option-at .ensures)) .grouped)
+    let found = rw (a .found .given .1) at (b .option-at .ensures) in
+    omega (arith, found .grouped)
 
 element-write-given-2 : tie.Need-element-write-given-2 Inv-loop μ-loop
 element-write-given-2 c =
     let a = c .before .before .before in
     let b = a .before .before in
     let d = b .before .before in
-    omega (arith, (rw (a .found .given .1) at (b .option-at .ensures)) .grouped, d .loop .inv .operandsSize)
+    let found = rw (a .found .given .1) at (b .option-at .ensures) in
+    omega (arith, found .grouped, d .loop .inv .operandsSize)
 
 add-i : tie.Need-add-i Inv-loop μ-loop
 add-i c =
     let a = c .before .before .before in
     let b = a .before .before in
     let d = b .before .before .before .before .before in
-    omega (arith, (rw (a .found .given .1) at (b .option-at .ensures)) .inside, length-words (d .args .command .now) (d .args .places .now), d .pre .0 .most)
+    let found = rw (a .found .given .1) at (b .option-at .ensures) in
+    omega (arith, found .inside, length-words (d .args .command .now) (d .args .places .now), d .pre .0 .most)
 
 loop-less : tie.Need-loop-less Inv-loop μ-loop
 loop-less c =
     let a = c .before .before .before in
     let b = a .before .before in
     let d = b .before .before .before .before .before in
-    omega (arith, (rw (a .found .given .1) at (b .option-at .ensures)) .inside, (rw (a .found .given .1) at (b .option-at .ensures)) .after, length-words (d .args .command .now) (d .args .places .now))
+    let found = rw (a .found .given .1) at (b .option-at .ensures) in
+    omega (arith, found .inside, found .after, length-words (d .args .command .now) (d .args .places .now))
 
 loop-again : tie.Need-loop-again Inv-loop μ-loop
 loop-again c =
     let a = c .before .before .before in
     let b = a .before .before in
     let d = b .before .before in
-    scanning-on (d .loop .inv) (rw (a .found .given .1) at (b .option-at .ensures)) (c .if1 .left)
+    let found = rw (a .found .given .1) at (b .option-at .ensures) in
+    scanning-on (d .loop .inv) found (c .if1 .left)
 
 returns-3 : tie.Need-returns-3 Inv-loop μ-loop
 returns-3 c = scanning-ends (c .before .loop .inv) (length-words _ _) (c .loop-test .left)
