@@ -9,15 +9,16 @@ use lib.Dec.{leb}
 use lib.ListN.{length}
 use native.Mathlib.Omega.{arith}
 use borrow.Author.Tests.{leb-true, leb-false}
-use Rattle.wire.specs.Lists.{all, orElse}
+use Rattle.wire.specs.Lists.{all, any, orElse}
 use Rattle.wire.proofs.Lists.{and-left, and-right, impossible}
 use Rattle.wire.specs.Words.{Word, wordsOf, wordAt}
 use Rattle.store.specs.Layout.{timeLimit}
-use Rattle.commands.specs.Refusal.{earlyLeast, earlyMost, Check, _when_, lowest}
+use Rattle.commands.specs.Refusal.{table, earlyLeast, earlyMost, Check, _when_, lowest}
 use Rattle.commands.specs.Command.{Command}
 use Rattle.commands.specs.Options.{Given, scan, conflicting, readable, readableOperand}
 use Rattle.commands.specs.Parse.{Form, Count, CommandRow, Parsed, commands, commandNamed, countFits, allowed, optionWords, numberRange, build, tooLong, isZero, deedVersioning, beyond, deedLifetime, onDeed, laterChecks, checks, parseWords, parse}
 use Rattle.commands.specs.Parse.Parsed.{refused, accepted}
+use Rattle.commands.specs.ParsePromises.{isRefusal}
 
 -- ---- lists of checks
 
@@ -173,6 +174,20 @@ reads-refused n (passed ws r w k m l) e = impossible (cc)
 -- A command that is refused when it is read is refused with one of 10 to 18.
 pub parse-refused : (now clock : ℕ) (s : List ℕ) (n : ℕ) → parse now clock s ≡ refused n → (earlyLeast ≤ n) × (n ≤ earlyMost)
 parse-refused now clock s n e = reads-refused n (reads now clock s) e
+
+reads-known : {now clock : ℕ} {s : List ℕ} {p : Parsed} (n : ℕ) → Reads now clock s p → p ≡ refused n → isRefusal n ≡ true
+unfolding isRefusal any table checks laterChecks all
+reads-known n (damaged w) e = let m : n ≡ 10 = cc in rw m
+reads-known n (clockOut ws w k) e = let m : n ≡ 11 = cc in rw m
+reads-known n (unknown ws w k m) e = let m : n ≡ 12 = cc in rw m
+reads-known {now} n (checked ws r k w c m l) e =
+    let m : k ≡ n = cc in
+    rw m at (lowest-number isRefusal (checksOf now r ws) k refl l)
+reads-known n (passed ws r w k m l) e = impossible (cc)
+
+-- The number has a line.
+pub parse-known : (now clock : ℕ) (s : List ℕ) (n : ℕ) → parse now clock s ≡ refused n → isRefusal n ≡ true
+parse-known now clock s n e = reads-known n (reads now clock s) e
 
 -- what an accepted command has passed
 pub record Accepted (now clock : ℕ) (s : List ℕ) (c : Command) : Type 0 where

@@ -35,13 +35,14 @@ use Rattle.commands.specs.declared.operands.Added.{Added}
 use Rattle.commands.specs.declared.operands.Added.the-variants as addeds
 use Rattle.commands.specs.declared.options.ScannedOptions.{ScannedOptions}
 use Rattle.commands.specs.Command.{Deed, Command}
-use Rattle.commands.specs.Command.Deed.{expire, persist, ask}
+use Rattle.commands.specs.Command.Deed.{persist, ask}
 use Rattle.commands.specs.Command.Command.{onField, setMany, getMany, delete, countLive, countHeld, list}
-use Rattle.commands.specs.Options.{signed64, expiryGroup, conditionGroup, versionGroup, minGroup, maxGroup, noExpGroup, operandRange, scan, conflicting, givenOf, readIn, readable, numberIn, naturalIn, instant, versioning, lifetime, boundIn}
+use Rattle.commands.specs.Options.{signed64, expiryGroup, conditionGroup, versionGroup, minGroup, maxGroup, noExpGroup, operandRange, scan, conflicting, givenOf, readIn, readable, numberIn, naturalIn, instant, boundIn}
 use Rattle.commands.specs.Parse.{Form, allowed, optionWords, numberRange, pairsOf, build, isZero, deedVersioning, beyond, deedLifetime, onDeed}
 use Rattle.commands.specs.Parse.Form.{setForm, setManyForm, incrementForm, expireForm, persistForm, renumberForm, askForm, getManyForm, deleteForm, countForm, listForm}
 use Rattle.commands.specs.Parse.Parsed.{accepted}
-use Rattle.commands.specs.ParsePromises.{listFamily, listingOf, firstForms, formOf, commandData, familyAt, argumentAt, commandOf, kindIn, groupsFrom, notGiven, givenAt, unitOf, instantIn, readOf, versionedFor, termsFor, conditionFor, onInteger, sumFor, lowestSigned, highestSigned, boundGiven, sumOf, parseRest, deedOf, commandFor, meant}
+use Rattle.commands.specs.Tables.{listFamily, listingOf, firstForms, formOf, commandData, familyAt, argumentAt, commandOf, kindIn, unitOf}
+use Rattle.commands.specs.ParsePromises.{groupsFrom, notGiven, givenAt, instantIn, readOf, versionedFor, termsFor, conditionFor, onInteger, sumFor, lowestSigned, highestSigned, boundGiven, sumOf, parseRest, deedOf, commandFor, meant}
 use Rattle.commands.proofs.RowNumbers.{row-form}
 use Rattle.commands.proofs.OptionWords.{instant-read}
 use Rattle.commands.proofs.Scanning.{option-some, option-none}

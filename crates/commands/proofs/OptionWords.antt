@@ -1,5 +1,5 @@
 -- What the options of a command say, by what they say in their groups and the numbers of their operands' words.
-use mathlib.Core.Path.{_≡_, refl, sym, ap, _∙_}
+use mathlib.Core.Path.{_≡_, refl, sym, _∙_}
 use mathlib.Core.List.{List}
 use mathlib.Core.Option.{Option, none, some, Option·map}
 use Prim.Native.Nat.{ℕ, _+_, _*_, _≤_, _<_}
@@ -26,7 +26,8 @@ use Rattle.commands.specs.declared.Lifetime.the-variants as lifetimes
 use Rattle.commands.specs.declared.Versioning.the-variants as versionings
 use Rattle.commands.specs.Options.{_with_, operandRange, readIn, readable, numberIn, naturalIn, instant, readableOperand, lifetimeOf, versioningOf, expiryGroup, versionGroup}
 use Rattle.commands.specs.Options.OptionKind.{expires, versioned}
-use Rattle.commands.specs.ParsePromises.{secondsFromNow, secondsSince, msFromNow, unitOf, kept, ifMissing, matched, expiryKind, conditionBy, versioningBy, kindIn, notGiven, numbered, optionAt, instantIn, lifetimeBy, versionBy, readOf, timedFor, versionedFor, conditionFor, boundFor}
+use Rattle.commands.specs.Tables.{secondsFromNow, secondsSince, msFromNow, unitOf, kept, ifMissing, matched, expiryKind, conditionBy, versioningBy, kindIn}
+use Rattle.commands.specs.ParsePromises.{notGiven, numbered, optionAt, instantIn, lifetimeBy, versionBy, readOf, timedFor, versionedFor, conditionFor, boundFor}
 use Rattle.commands.proofs.Scanning.{option-none, option-some}
 
 -- ---- numbers

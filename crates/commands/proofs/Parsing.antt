@@ -1,7 +1,7 @@
 -- From the words of a command to what it says: checks 15 to 18, and what the options that were given say.
 use mathlib.Core.Path.{_≡_, refl, sym, ap, _∙_}
 use mathlib.Core.Bool.{Bool, true, false, cond, not, _&&_}
-use mathlib.Core.List.{List, [], _∷_}
+use mathlib.Core.List.{List, []}
 use mathlib.Core.Option.{Option, none, some, Option·getD}
 use Prim.Native.Nat.{ℕ, _≤_, _<_}
 use native.Mathlib.Omega.{arith}
@@ -31,11 +31,12 @@ use Rattle.commands.specs.declared.options.ScannedOptions.{ScannedOption
 use Rattle.commands.specs.declared.Parsed.the-variants as parses
 use Rattle.commands.specs.Refusal.{lowest}
 use Rattle.commands.specs.Command.{Command}
-use Rattle.commands.specs.Options.{Range, Given, _with_, signed64, expiryGroup, conditionGroup, versionGroup, groupCount, operandRange, scan, conflicting, givenOf, readIn, readable, numberIn, readableOperand, conditionOf, lifetime, versioning, condition, boundIn}
+use Rattle.commands.specs.Options.{Given, _with_, signed64, expiryGroup, conditionGroup, versionGroup, groupCount, operandRange, scan, conflicting, givenOf, readIn, readable, numberIn, readableOperand, conditionOf, lifetime, versioning, condition, boundIn}
 use Rattle.commands.specs.Options.OptionKind.{bound}
-use Rattle.commands.specs.Parse.{Form, Parsed, allowed, optionWords, numberRange, build, isZero, deedVersioning, beyond, deedLifetime, onDeed, laterChecks}
+use Rattle.commands.specs.Parse.{Form, allowed, optionWords, numberRange, build, isZero, deedVersioning, beyond, deedLifetime, onDeed, laterChecks}
 use Rattle.commands.specs.Parse.Parsed.{refused, accepted}
-use Rattle.commands.specs.ParsePromises.{kindIn, groupsFrom, notGiven, numbered, optionAt, givenAt, Scanned, lifetimeBy, versionBy, readOf, timedFor, versionedFor, termChecks, termsFor, conditionFor, boundFor, boundGiven, parseRest, meant}
+use Rattle.commands.specs.Tables.{kindIn}
+use Rattle.commands.specs.ParsePromises.{groupsFrom, notGiven, numbered, optionAt, givenAt, Scanned, lifetimeBy, versionBy, readOf, timedFor, versionedFor, termChecks, termsFor, conditionFor, boundFor, boundGiven, parseRest, meant}
 use Rattle.commands.proofs.Checks.{check-applies, check-passed, checks-end}
 use Rattle.commands.proofs.Scanning.{option-some, option-none}
 use Rattle.commands.proofs.OneEach.{scan-allowed, all-groups}

@@ -6,7 +6,7 @@ use mathlib.Core.Option.{Option, none, some, Option·map}
 use Prim.Native.Nat.{ℕ, zero, suc, _+_, _≤_, _<_, _-_}
 use native.Mathlib.Omega.{arith}
 use borrow.Author.Tests.{lt-ltb, le-ltb, eq-eqb, ne-eqb, eqb-true, eqb-false}
-use lib.Dec.{ltb, eqb}
+use lib.Dec.{eqb}
 use lib.ListN.{length, getD, drop, set, replicate, length-set, getD-replicate, drop-of-length-le}
 use lib.Seq.{drop-cons, getD-set-same, getD-set-other}
 use Rattle.wire.specs.declared.names.RowFound.{RowFound}
@@ -21,7 +21,8 @@ use Rattle.wire.proofs.Rows.{row-nothing, row-at}
 use Rattle.wire.proofs.Cursor.{next-end, next-at}
 use Rattle.commands.specs.declared.options.ScannedOptions as code
 use Rattle.commands.specs.Options.{OptionKind, Range, Given, _with_, options, optionCount, group, groupCount, operandRange, optionNamed, scan, conflicting, givenOf}
-use Rattle.commands.specs.ParsePromises.{saidOf, kindIn, sizeOf, optionData, groupAt, saidAt, sizeAt, optionTable, optionOf, groupsFrom, notGiven, numbered, optionAt, givenAt, Found, Scanned}
+use Rattle.commands.specs.Tables.{kindIn, sizeOf, optionData, groupAt, saidAt, sizeAt, optionTable, optionOf}
+use Rattle.commands.specs.ParsePromises.{groupsFrom, notGiven, numbered, optionAt, givenAt, Found, Scanned}
 use Rattle.commands.proofs.RowNumbers.{option-row, option-below, row-kind, row-below}
 
 -- ---- the groups that are allowed

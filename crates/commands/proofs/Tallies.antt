@@ -1,17 +1,16 @@
 -- How many words a command takes, and how long they may be.
-use mathlib.Core.Path.{_≡_, refl, sym, ap, _∙_}
+use mathlib.Core.Path.{_≡_, refl, sym, _∙_}
 use mathlib.Core.Bool.{Bool, true, false, cond, _||_, or-false, or-assoc}
 use mathlib.Core.List.{List, [], _∷_, map}
 use Prim.Native.Nat.{ℕ, suc, _+_, _%_, _≤_, _<_}
 use native.Mathlib.Numerals.{add-one}
 use native.Mathlib.Omega.{arith}
 use borrow.Author.Tests.{lt-ltb, le-ltb, lt-leb, le-leb, eq-eqb, ne-eqb}
-use lib.Dec.{leb, ltb, eqb}
+use lib.Dec.{ltb, eqb}
 use lib.ListN.{length, drop, getD, length-drop, drop-of-length-le}
 use lib.Seq.{drop-cons}
 use Rattle.wire.specs.Lists.{any, isSome}
 use Rattle.wire.specs.Words.{Word, wordAt}
-use Rattle.wire.proofs.Lists.{or-late}
 use Rattle.store.specs.Layout.{keyMost, fieldMost, valueMost}
 use Rattle.commands.specs.Command.{Pair, Command, keyOf, fieldsOf, deedValues, valuesOf}
 use Rattle.commands.specs.Command.Command.{countHeld, countLive}
@@ -19,7 +18,8 @@ use Rattle.commands.specs.Options.{Given, noExpGroup, givenOf}
 use Rattle.commands.specs.Parse.{Form, Count, countFits, pairsOf, build, tooLong}
 use Rattle.commands.specs.Parse.Count.{exactly, atLeast, evenFrom}
 use Rattle.commands.specs.Parse.Form.{setForm, setManyForm, incrementForm, expireForm, persistForm, renumberForm, askForm, getManyForm, deleteForm, countForm, listForm}
-use Rattle.commands.specs.ParsePromises.{leastOf, noMore, anyMore, moreOf, noneNamed, eachField, eachPair, oneField, namesOf, commandData, leastAt, moreAt, namesAt, commandOf, anyOver, pairOver}
+use Rattle.commands.specs.Tables.{leastOf, noMore, anyMore, moreOf, noneNamed, eachField, eachPair, oneField, namesOf, commandData, leastAt, moreAt, namesAt, commandOf}
+use Rattle.commands.specs.ParsePromises.{anyOver, pairOver}
 
 -- ---- the numbers of words
 

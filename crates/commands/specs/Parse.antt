@@ -5,7 +5,7 @@ use mathlib.Core.Option.{Option, none, some, Option·getD}
 use Prim.Native.Nat.{ℕ, _%_}
 use Prim.Native.String.{String}
 use lib.Dec.{leb, ltb, eqb}
-use lib.ListN.{length, drop, getD}
+use lib.ListN.{length, drop}
 use Rattle.wire.specs.Lists.{all, any, isSome, orElse}
 use Rattle.wire.specs.Bytes.{spells}
 use Rattle.wire.specs.Integer.{lowest64, highest64}

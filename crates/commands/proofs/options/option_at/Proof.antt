@@ -1,6 +1,6 @@
 use native.Mathlib.Omega.{arith}
 use Rattle.wire.proofs.Cursor.{length-words}
-use Rattle.commands.specs.ParsePromises.{optionData, optionOf}
+use Rattle.commands.specs.Tables.{optionData, optionOf}
 use Rattle.commands.proofs.Scanning.{size-range, option-unknown, option-number, option-group, option-barred, option-short, option-found}
 use borrow.Author.Needs.{needs}
 use Rattle.commands.proofs.options.option_at.Statement.{statement}
