@@ -1,5 +1,6 @@
 -- Laws of lists of checks, and the ways in which a command's bytes are read.
 use mathlib.Core.Path.{_≡_, refl}
+use mathlib.Core.Logic.{_⊎_, inl, inr}
 use mathlib.Core.Bool.{Bool, true, false, cond, not, _&&_}
 use mathlib.Core.List.{List, [], _∷_}
 use mathlib.Core.Option.{Option, none, some, Option·getD}
@@ -8,27 +9,63 @@ use lib.Dec.{leb}
 use lib.ListN.{length}
 use native.Mathlib.Omega.{arith}
 use borrow.Author.Tests.{leb-true, leb-false}
-use Rattle.wire.specs.Lists.{all, orElse}
-use Rattle.wire.proofs.Lists.{and-left, and-right}
+use Rattle.wire.specs.Lists.{all, any, orElse}
+use Rattle.wire.proofs.Lists.{and-left, and-right, impossible}
 use Rattle.wire.specs.Words.{Word, wordsOf, wordAt}
 use Rattle.store.specs.Layout.{timeLimit}
-use Rattle.commands.specs.Refusal.{Check, lowest}
+use Rattle.commands.specs.Refusal.{table, earlyLeast, earlyMost, Check, _when_, lowest}
 use Rattle.commands.specs.Command.{Command}
 use Rattle.commands.specs.Options.{Given, scan, conflicting, readable, readableOperand}
-use Rattle.commands.specs.Parse.{Form, Count, CommandRow, Parsed, commands, commandNamed, countFits, allowed, optionWords, numberRange, build, tooLong, isZero, deedVersioning, beyond, deedLifetime, onDeed, checks, parseWords, parse}
+use Rattle.commands.specs.Parse.{Form, Count, CommandRow, Parsed, commands, commandNamed, countFits, allowed, optionWords, numberRange, build, tooLong, isZero, deedVersioning, beyond, deedLifetime, onDeed, laterChecks, checks, parseWords, parse}
 use Rattle.commands.specs.Parse.Parsed.{refused, accepted}
+use Rattle.commands.specs.ParsePromises.{isRefusal}
+
+-- ---- lists of checks
+
+-- A check that applies gives its number; one that is passed leaves it to the rest.
+pub check-applies : (n : ℕ) (cs : List Check) {t : Bool} → t ≡ true → lowest (n when t ∷ cs) ≡ some n
+unfolding lowest
+check-applies n cs h = rw h
+
+pub check-passed : (n : ℕ) (cs : List Check) {t : Bool} → t ≡ false → lowest (n when t ∷ cs) ≡ lowest cs
+unfolding lowest
+check-passed n cs h = rw h
+
+pub checks-end : lowest [] ≡ none
+unfolding lowest
+checks-end = refl
+
+-- A number that is given is the first check's, which applies, or comes from the rest, where the first is passed.
+pub lowest-some : (c : Check) (cs : List Check) (n : ℕ) → lowest (c ∷ cs) ≡ some n
+    → ((c .applies ≡ true) × (c .number ≡ n)) ⊎ ((c .applies ≡ false) × (lowest cs ≡ some n))
+unfolding lowest
+lowest-some c cs n = go (c .applies)
+  where
+    go : (t : Bool) → cond t (some (c .number)) (lowest cs) ≡ some n → ((t ≡ true) × (c .number ≡ n)) ⊎ ((t ≡ false) × (lowest cs ≡ some n))
+    go true h = inl (refl, cc)
+    go false h = inr (refl, h)
+
+-- Where none is given, the first is passed, and none of the rest is given.
+pub lowest-none : (c : Check) (cs : List Check) → lowest (c ∷ cs) ≡ none → (c .applies ≡ false) × (lowest cs ≡ none)
+unfolding lowest
+lowest-none c cs = go (c .applies)
+  where
+    go : (t : Bool) → cond t (some (c .number)) (lowest cs) ≡ none → (t ≡ false) × (lowest cs ≡ none)
+    go true h = impossible cc
+    go false h = (refl, h)
 
 -- What holds of the number of every check holds of the number that is given.
 pub lowest-number : (p : ℕ → Bool) (cs : List Check) (n : ℕ) → all (λ c. p (c .number)) cs ≡ true → lowest cs ≡ some n → p n ≡ true
 unfolding all lowest
-lowest-number p [] n h e = cc
+lowest-number p [] n h e = impossible cc
 lowest-number p (c ∷ cs) n h e =
-    go (c .applies) e (and-left (p (c .number)) (all (λ d. p (d .number)) cs) h)
-    (lowest-number p cs n (and-right (p (c .number)) (all (λ d. p (d .number)) cs) h))
+    let this : Bool = p (c .number) in
+    let rest : Bool = all (λ d. p (d .number)) cs in
+    go (lowest-some c cs n e) (and-left this rest h) (lowest-number p cs n (and-right this rest h))
   where
-    go : (t : Bool) → cond t (some (c .number)) (lowest cs) ≡ some n → p (c .number) ≡ true → (lowest cs ≡ some n → p n ≡ true) → p n ≡ true
-    go true q a b = let m : c .number ≡ n = cc in rw m at a
-    go false q a b = b q
+    go : ((c .applies ≡ true) × (c .number ≡ n)) ⊎ ((c .applies ≡ false) × (lowest cs ≡ some n)) → p (c .number) ≡ true → (lowest cs ≡ some n → p n ≡ true) → p n ≡ true
+    go (inl q) a b = rw (q .1) at a
+    go (inr q) a b = b (q .1)
 
 -- Checks whose numbers lie between two give a number between them.
 pub lowest-between : (lo hi : ℕ) (cs : List Check) (n : ℕ) → all (λ c. leb lo (c .number) && leb (c .number) hi) cs ≡ true → lowest cs ≡ some n
@@ -37,20 +74,11 @@ lowest-between lo hi cs n h e =
     let b : (leb lo n && leb n hi) ≡ true = lowest-number (λ i. leb lo i && leb i hi) cs n h e in
     (leb-true lo n (and-left (leb lo n) (leb n hi) b), leb-true n hi (and-right (leb lo n) (leb n hi) b))
 
--- Where no check applies, the first does not, and none of the rest.
-pub lowest-none : (c : Check) (cs : List Check) → lowest (c ∷ cs) ≡ none → (c .applies ≡ false) × (lowest cs ≡ none)
-unfolding lowest
-lowest-none c cs = go (c .applies)
-  where
-    go : (t : Bool) → cond t (some (c .number)) (lowest cs) ≡ none → (t ≡ false) × (lowest cs ≡ none)
-    go true h = (cc, cc)
-    go false h = (refl, h)
-
 -- A command that these checks refuse is refused with one of 13 to 18.
 pub checks-number : (form : Form) (count : Count) (ws : List Word) (scanned : Option (List Given)) (c : Command) (n : ℕ)
-    → lowest (checks form count ws scanned c) ≡ some n → (13 ≤ n) × (n ≤ 18)
-unfolding checks all
-checks-number form count ws scanned c n h = lowest-between 13 18 (checks form count ws scanned c) n refl h
+    → lowest (checks form count ws scanned c) ≡ some n → (13 ≤ n) × (n ≤ earlyMost)
+unfolding checks laterChecks all
+checks-number form count ws scanned c n h = lowest-between 13 earlyMost (checks form count ws scanned c) n refl h
 
 -- what is known where none of 13 to 18 applies
 pub record Clear (form : Form) (count : Count) (ws : List Word) (scanned : Option (List Given)) (c : Command) : Type 0 where
@@ -64,7 +92,7 @@ pub record Clear (form : Form) (count : Count) (ws : List Word) (scanned : Optio
 -- Where none of 13 to 18 is given, none applies.
 pub checks-clear : (form : Form) (count : Count) (ws : List Word) (scanned : Option (List Given)) (c : Command)
     → lowest (checks form count ws scanned c) ≡ none → Clear form count ws scanned c
-unfolding checks
+unfolding checks laterChecks
 checks-clear form count ws scanned c h =
     let a = lowest-none _ _ h in
     let b = lowest-none _ _ (a .1) in
@@ -133,19 +161,33 @@ reads now clock s = go (wordsOf s) refl
     go none e = damaged e
     go (some ws) e = at ws (leb timeLimit clock) e refl
 
-reads-refused : {now clock : ℕ} {s : List ℕ} {p : Parsed} (n : ℕ) → Reads now clock s p → p ≡ refused n → (10 ≤ n) × (n ≤ 18)
+reads-refused : {now clock : ℕ} {s : List ℕ} {p : Parsed} (n : ℕ) → Reads now clock s p → p ≡ refused n → (earlyLeast ≤ n) × (n ≤ earlyMost)
 reads-refused n (damaged w) e = let m : n ≡ 10 = cc in omega arith
 reads-refused n (clockOut ws w k) e = let m : n ≡ 11 = cc in omega arith
 reads-refused n (unknown ws w k m) e = let m : n ≡ 12 = cc in omega arith
 reads-refused {now} n (checked ws r k w c m l) e =
-    let b : (13 ≤ k) × (k ≤ 18) = checks-number (r .form) (r .count) ws (givenIn r ws) (builtOf now r ws) k l in
+    let b : (13 ≤ k) × (k ≤ earlyMost) = checks-number (r .form) (r .count) ws (givenIn r ws) (builtOf now r ws) k l in
     let m : k ≡ n = cc in
     omega arith
-reads-refused n (passed ws r w k m l) e = let z : _≡_ {A = ℕ} 0 1 = cc in omega arith
+reads-refused n (passed ws r w k m l) e = impossible cc
 
 -- A command that is refused when it is read is refused with one of 10 to 18.
-pub parse-refused : (now clock : ℕ) (s : List ℕ) (n : ℕ) → parse now clock s ≡ refused n → (10 ≤ n) × (n ≤ 18)
+pub parse-refused : (now clock : ℕ) (s : List ℕ) (n : ℕ) → parse now clock s ≡ refused n → (earlyLeast ≤ n) × (n ≤ earlyMost)
 parse-refused now clock s n e = reads-refused n (reads now clock s) e
+
+reads-known : {now clock : ℕ} {s : List ℕ} {p : Parsed} (n : ℕ) → Reads now clock s p → p ≡ refused n → isRefusal n ≡ true
+unfolding isRefusal any table checks laterChecks all
+reads-known n (damaged w) e = let m : n ≡ 10 = cc in rw m
+reads-known n (clockOut ws w k) e = let m : n ≡ 11 = cc in rw m
+reads-known n (unknown ws w k m) e = let m : n ≡ 12 = cc in rw m
+reads-known {now} n (checked ws r k w c m l) e =
+    let m : k ≡ n = cc in
+    rw m at (lowest-number isRefusal (checksOf now r ws) k refl l)
+reads-known n (passed ws r w k m l) e = impossible cc
+
+-- The number has a line.
+pub parse-known : (now clock : ℕ) (s : List ℕ) (n : ℕ) → parse now clock s ≡ refused n → isRefusal n ≡ true
+parse-known now clock s n e = reads-known n (reads now clock s) e
 
 -- what an accepted command has passed
 pub record Accepted (now clock : ℕ) (s : List ℕ) (c : Command) : Type 0 where
@@ -157,17 +199,14 @@ pub record Accepted (now clock : ℕ) (s : List ℕ) (c : Command) : Type 0 wher
   pub clear : lowest (checksOf now row words) ≡ none
   pub built : builtOf now row words ≡ c
 
-not-both : {A : Type 0} (n : ℕ) (c : Command) → refused n ≡ accepted c → A
-not-both n c e = let z : _≡_ {A = ℕ} 0 1 = cc in absurd (omega arith)
-
 -- An accepted command has passed them.
 pub parse-accepted : (now clock : ℕ) (s : List ℕ) (c : Command) → parse now clock s ≡ accepted c → Accepted now clock s c
 parse-accepted now clock s c = go (reads now clock s)
   where
     go : {p : Parsed} → Reads now clock s p → p ≡ accepted c → Accepted now clock s c
-    go (damaged w) e = not-both 10 c e
-    go (clockOut ws w k) e = not-both 11 c e
-    go (unknown ws w k m) e = not-both 12 c e
-    go (checked ws r n w k m l) e = not-both n c e
+    go (damaged w) e = impossible cc
+    go (clockOut ws w k) e = impossible cc
+    go (unknown ws w k m) e = impossible cc
+    go (checked ws r n w k m l) e = impossible cc
     go (passed ws r w k m l) e =
         record { words = ws; row = r; split = w; early = k; named = m; clear = l; built = cc }

@@ -1,13 +1,13 @@
 -- Each family of commands, from the scan of its options to what it says.
 use mathlib.Core.Path.{_≡_, refl, sym, ap, _∙_}
-use mathlib.Core.Bool.{Bool, true, false, cond, not, _&&_, true≢false}
+use mathlib.Core.Bool.{Bool, true, false, cond, _&&_, and-true, and-false}
 use mathlib.Core.List.{List, [], _∷_}
 use mathlib.Core.Option.{Option, none, some}
-use Prim.Native.Nat.{ℕ, zero, suc, _+_, _≤_, _<_}
+use Prim.Native.Nat.{ℕ, suc, _≤_, _<_}
 use native.Mathlib.Omega.{arith}
 use borrow.Author.Tests.{lt-ltb, le-ltb}
 use lib.IntN.{ℤ, pos}
-use lib.ListN.{getD, drop}
+use lib.ListN.{getD, drop, List·getD-eq-default}
 use Rattle.wire.specs.declared.integers.Signed.{Signed}
 use Rattle.wire.specs.declared.integers.Integer.{Integer}
 use Rattle.wire.specs.declared.integers.Integer.the-variants as integers
@@ -15,6 +15,7 @@ use Rattle.wire.specs.Lists.{all, isSome, orElse}
 use Rattle.wire.specs.Integer.{readInteger, lowest64, highest64}
 use Rattle.wire.specs.Words.{Word, wordAt}
 use Rattle.wire.specs.Promises.{integerFor, integerOf}
+use Rattle.wire.proofs.Lists.{impossible}
 use Rattle.store.specs.Layout.{timeLimit, versionMost}
 use Rattle.commands.specs.declared.Condition.{Condition}
 use Rattle.commands.specs.declared.Lifetime.{Lifetime}
@@ -24,6 +25,7 @@ use Rattle.commands.specs.declared.Listing.{Listing}
 use Rattle.commands.specs.declared.Sum.{Sum}
 use Rattle.commands.specs.declared.FieldDeed.the-variants as fieldDeeds
 use Rattle.commands.specs.declared.KeyDeed.the-variants as keyDeeds
+use Rattle.commands.specs.declared.Parsed.{Parsed}
 use Rattle.commands.specs.declared.Parsed.the-variants as parses
 use Rattle.commands.specs.declared.operands.Terms.{Terms}
 use Rattle.commands.specs.declared.operands.Terms.the-variants as terms
@@ -31,76 +33,53 @@ use Rattle.commands.specs.declared.operands.Versioned.{Versioned}
 use Rattle.commands.specs.declared.operands.Versioned.the-variants as versioneds
 use Rattle.commands.specs.declared.operands.Added.{Added}
 use Rattle.commands.specs.declared.operands.Added.the-variants as addeds
-use Rattle.commands.specs.declared.options.Given as code
+use Rattle.commands.specs.declared.options.ScannedOptions.{ScannedOptions}
 use Rattle.commands.specs.Command.{Deed, Command}
-use Rattle.commands.specs.Command.Deed.{expire, persist, ask}
+use Rattle.commands.specs.Command.Deed.{persist, ask}
 use Rattle.commands.specs.Command.Command.{onField, setMany, getMany, delete, countLive, countHeld, list}
-use Rattle.commands.specs.Options.Meaning.{bound}
-use Rattle.commands.specs.Options.{signed64, minGroup, maxGroup, Given, options, group, operandRange, scan, conflicting, givenOf, readIn, readable, numberIn, naturalIn, instant, readableOperand, versioning, boundIn}
-use Rattle.commands.specs.Parse.{Form, commands, allowed, optionWords, numberRange, pairsOf, build, isZero, deedVersioning, beyond, deedLifetime, onDeed}
-use Rattle.commands.specs.Parse.Form.{setManyForm, expireForm, persistForm, askForm, getManyForm, deleteForm, listForm}
+use Rattle.commands.specs.Options.{signed64, expiryGroup, conditionGroup, versionGroup, minGroup, maxGroup, noExpGroup, operandRange, scan, conflicting, givenOf, readIn, readable, numberIn, naturalIn, instant, boundIn}
+use Rattle.commands.specs.Parse.{Form, allowed, optionWords, numberRange, pairsOf, build, isZero, deedVersioning, beyond, deedLifetime, onDeed}
+use Rattle.commands.specs.Parse.Form.{setForm, setManyForm, incrementForm, expireForm, persistForm, renumberForm, askForm, getManyForm, deleteForm, countForm, listForm}
 use Rattle.commands.specs.Parse.Parsed.{accepted}
-use Rattle.commands.specs.ParsePromises.{groupsFrom, groupOf, meaningOf, takesOperand, optionAt, givenAt, Scanned, unitOf, instantIn, versionedFor, termsFor, conditionFor, boundFor, onInteger, sumFor, lowestSigned, highestSigned, commandOf, parseRest, deedOf, commandFor, meant}
-use Rattle.commands.proofs.Tallies.{allBelow}
-use Rattle.commands.proofs.OptionWords.{option-some, option-none, min-meaning, max-meaning, instant-read}
-use Rattle.commands.proofs.Parsing.{givenIn, unclean, allRead, saidBy, rest-15, rest-16, rest-17, rest-18, rest-said, Ready, scan-unclean, scan-ready, in-group, version-said, version-refused, terms-refused, terms-said, condition-said, bare, bare-read, hasRead, integer-read, integer-value, bound-readable, bound-said}
+use Rattle.commands.specs.Tables.{listFamily, listingOf, firstForms, formOf, commandData, familyAt, argumentAt, commandOf, kindIn, unitOf}
+use Rattle.commands.specs.ParsePromises.{groupsFrom, notGiven, givenAt, instantIn, readOf, versionedFor, termsFor, conditionFor, onInteger, sumFor, lowestSigned, highestSigned, boundGiven, sumOf, parseRest, deedOf, commandFor, meant}
+use Rattle.commands.proofs.RowNumbers.{row-form}
+use Rattle.commands.proofs.OptionWords.{instant-read}
+use Rattle.commands.proofs.Scanning.{option-some, option-none}
+use Rattle.commands.proofs.Parsing.{givenIn, unclean, allRead, saidBy, rest-16, rest-17, rest-18, rest-said, Takes, Ready, version-said, version-refused, terms-refused, terms-said, condition-said, bare-read, hasRead, integer-read, integer-value, bound-readable, bound-said}
 
--- ---- tests
-
-and-none : (a b : Bool) → b ≡ false → a && b ≡ false
-and-none true b e = e
-and-none false b e = refl
-
-and-true : (a : Bool) → a && true ≡ a
-and-true true = refl
-and-true false = refl
+-- the option of a group that a command of a form was given
+abbrev givenOption : Form → ℕ → List Word → Bool
+givenOption f n ws = readOf (givenOf n (givenIn f ws))
 
 -- ---- EXHSET
 
-abbrev pub setGroups : List ℕ
-setGroups = 1 ∷ 1 ∷ 1 ∷ 0 ∷ 0 ∷ 0 ∷ []
+pub set-takes : Takes setForm (1 ∷ 1 ∷ 1 ∷ 0 ∷ 0 ∷ 0 ∷ []) 4
+unfolding allowed optionWords groupsFrom
+set-takes = record { groups = refl; words = λ ws. refl }
 
-module _ (time : ℕ) {ws : List Word} {r : code.Given} (s : Scanned ws setGroups 4 r) where
-  pub set-unclean : not (r .clean) ≡ true → meant ws (parses.Refused 15) ≡ parseRest time 0 ws
-  unfolding commandOf commands allowed optionWords groupsFrom
-  set-unclean h = rest-15 time 0 ws (scan-unclean 0 s refl refl h)
+module _ (time : ℕ) {ws : List Word} {r : ScannedOptions} (y : Ready setForm ws r)
+    {m : Terms} (em : m ≡ termsFor time (givenAt ws r expiryGroup) (givenAt ws r versionGroup)) where
+  set-left : allRead setForm ws ≡ givenOption setForm expiryGroup ws && givenOption setForm versionGroup ws
+  unfolding allowed numberRange orElse all kindIn operandRange
+  set-left = y .read ∙ rw (bare-read y conditionGroup (omega arith) (λ s. refl), and-true (givenOption setForm versionGroup ws))
 
-  module _ (h : not (r .clean) ≡ false) where
-    pub set-ready : Ready 0 ws r
-    unfolding commandOf commands allowed optionWords groupsFrom
-    set-ready = scan-ready 0 s refl refl h
+  pub set-refused : (n : ℕ) → m ≡ terms.Refused n → meant ws (parses.Refused n) ≡ parseRest time setForm ws
+  unfolding build onDeed deedVersioning deedLifetime
+  set-refused n q = terms-refused y time em set-left refl refl n q
 
-    abbrev set-read : ℕ → Bool
-    set-read n = orElse (givenOf n (givenIn 0 ws)) true readableOperand
-
-    set-all : allRead 0 ws ≡ set-read 0 && (set-read 1 && (set-read 2 && true))
-    unfolding commandOf commands allowed numberRange orElse all
-    set-all = set-ready .read
-
-    set-bare : set-read 1 ≡ true
-    unfolding allBelow bare groupOf meaningOf options group takesOperand operandRange isSome
-    set-bare = bare-read set-ready 1 (omega arith) refl
-
-    module _ {m : Terms} (em : m ≡ termsFor time (givenAt ws (r .options) (r .operands) 0) (givenAt ws (r .options) (r .operands) 2)) where
-      set-left : allRead 0 ws ≡ set-read 0 && set-read 2
-      set-left = set-all ∙ rw (set-bare, and-true (set-read 2))
-
-      pub set-refused : (n : ℕ) → m ≡ terms.Refused n → meant ws (parses.Refused n) ≡ parseRest time 0 ws
-      unfolding commandOf commands build onDeed deedVersioning deedLifetime
-      set-refused n q = terms-refused set-ready time em set-left refl refl n q
-
-      pub set-done : {v : Versioning} {l : Lifetime} → m ≡ terms.Value v l → {c : Condition} → c ≡ conditionFor (getD (r .options) 1 0)
-          → meant ws (parses.OnField (fieldDeeds.Assign c v l)) ≡ parseRest time 0 ws
-      unfolding commandOf commands build onDeed deedVersioning deedLifetime meant deedOf
-      set-done q ec =
-          let (said, ev, el) = terms-said set-ready time em set-left refl refl q in
-          rw (ec, ← condition-said set-ready, ← ev, ← el) said
+  pub set-done : {v : Versioning} {l : Lifetime} → m ≡ terms.Value v l → {c : Condition} → c ≡ conditionFor (getD (r .said) conditionGroup 0)
+      → meant ws (parses.OnField (fieldDeeds.Assign c v l)) ≡ parseRest time setForm ws
+  unfolding build onDeed deedVersioning deedLifetime meant deedOf
+  set-done q ec =
+      let (said, ev, el) = terms-said y time em set-left refl refl q in
+      rw (ec, ← condition-said y, ← ev, ← el) said
 
 -- ---- EXHINCRBY
 
 sum-refused : (a l g : Integer) → sumFor a l g ≡ addeds.Refused → hasRead a && (hasRead l && hasRead g) ≡ false
 unfolding sumFor onInteger hasRead
-sum-refused (integers.Value x) (integers.Value y) (integers.Value z) e = let k : _≡_ {A = ℕ} 0 1 = cc in absurd (omega arith)
+sum-refused (integers.Value x) (integers.Value y) (integers.Value z) e = impossible cc
 sum-refused (integers.Value x) (integers.Value y) integers.Refused e = refl
 sum-refused (integers.Value x) integers.Refused g e = refl
 sum-refused integers.Refused l g e = refl
@@ -111,9 +90,9 @@ unfolding sumFor onInteger
 sum-value (integers.Value x) (integers.Value y) (integers.Value z) s e =
     let q : _≡_ {A = Sum} (record { amount = x; least = y; greatest = z }) s = cc in
     (rw (← q), rw (← q), rw (← q))
-sum-value (integers.Value x) (integers.Value y) integers.Refused s e = let k : _≡_ {A = ℕ} 0 1 = cc in absurd (omega arith)
-sum-value (integers.Value x) integers.Refused g s e = let k : _≡_ {A = ℕ} 0 1 = cc in absurd (omega arith)
-sum-value integers.Refused l g s e = let k : _≡_ {A = ℕ} 0 1 = cc in absurd (omega arith)
+sum-value (integers.Value x) (integers.Value y) integers.Refused s e = impossible cc
+sum-value (integers.Value x) integers.Refused g s e = impossible cc
+sum-value integers.Refused l g s e = impossible cc
 
 -- what the code answers at each of the three
 pub sum-0 : (a l g : Integer) → a ≡ integers.Refused → addeds.Refused ≡ sumFor a l g
@@ -136,277 +115,237 @@ sum-3 a l g x y z e f h = rw (e, f, h)
 -- a test that fails among five
 one-fails : (r a b c d : Bool) → r && (c && d) ≡ false → r && (a && (b && (c && (d && true)))) ≡ false
 one-fails false a b c d e = refl
-one-fails true a b false d e = and-none a (b && false) (and-none b false refl)
-one-fails true a b true false e = and-none a (b && false) (and-none b false refl)
-one-fails true a b true true e = absurd (true≢false e)
+one-fails true a b false d e = simp and-false
+one-fails true a b true false e = simp and-false
+one-fails true a b true true e = impossible cc
 
-abbrev pub incrementGroups : List ℕ
-incrementGroups = 1 ∷ 0 ∷ 1 ∷ 1 ∷ 1 ∷ 0 ∷ []
+pub increment-takes : Takes incrementForm (1 ∷ 0 ∷ 1 ∷ 1 ∷ 1 ∷ 0 ∷ []) 4
+unfolding allowed optionWords groupsFrom
+increment-takes = record { groups = refl; words = λ ws. refl }
 
-module _ (time : ℕ) {ws : List Word} {r : code.Given} (s : Scanned ws incrementGroups 4 r) where
-  pub increment-unclean : not (r .clean) ≡ true → meant ws (parses.Refused 15) ≡ parseRest time 2 ws
-  unfolding commandOf commands allowed optionWords groupsFrom
-  increment-unclean h = rest-15 time 2 ws (scan-unclean 2 s refl refl h)
+module _ (time : ℕ) {ws : List Word} {r : ScannedOptions} (y : Ready incrementForm ws r) where
+  abbrev numberRead : ℕ → Bool
+  numberRead n = givenOption incrementForm n ws
 
-  module _ (h : not (r .clean) ≡ false) where
-    pub increment-ready : Ready 2 ws r
-    unfolding commandOf commands allowed optionWords groupsFrom
-    increment-ready = scan-ready 2 s refl refl h
+  abbrev amount : Option ℤ
+  amount = readInteger lowest64 highest64 (wordAt 3 ws)
 
-    abbrev increment-read : ℕ → Bool
-    increment-read n = orElse (givenOf n (givenIn 2 ws)) true readableOperand
+  abbrev low : Integer
+  low = boundGiven lowestSigned minGroup ws r
 
-    abbrev amount : Option ℤ
-    amount = readInteger lowest64 highest64 (wordAt 3 ws)
+  abbrev high : Integer
+  high = boundGiven highestSigned maxGroup ws r
 
-    increment-all : allRead 2 ws ≡ isSome amount && (increment-read 0 && (increment-read 2 && (increment-read 3 && (increment-read 4 && true))))
-    unfolding commandOf commands allowed numberRange orElse all readable readIn
-    increment-all = ap (λ b. isSome amount && b) (increment-ready .read)
+  increment-all : allRead incrementForm ws
+      ≡ isSome amount && (numberRead expiryGroup && (numberRead versionGroup && (numberRead minGroup && (numberRead maxGroup && true))))
+  unfolding allowed numberRange orElse all readable readIn
+  increment-all = ap (λ b. isSome amount && b) (y .read)
 
-    abbrev low : Integer
-    low = boundFor lowestSigned (getD (r .options) 3 0) (wordAt (getD (r .operands) 3 0) ws)
+  low-read : hasRead low ≡ numberRead minGroup
+  unfolding kindIn
+  low-read = bound-readable y minGroup (omega arith) (λ s. refl) lowestSigned
 
-    abbrev high : Integer
-    high = boundFor highestSigned (getD (r .options) 4 0) (wordAt (getD (r .operands) 4 0) ws)
+  high-read : hasRead high ≡ numberRead maxGroup
+  unfolding kindIn
+  high-read = bound-readable y maxGroup (omega arith) (λ s. refl) highestSigned
 
-    min-so : getD (r .options) 3 0 < 12 → meaningOf (getD (r .options) 3 0) ≡ bound minGroup
-    min-so l = min-meaning (getD (r .options) 3 0) l (in-group increment-ready 3 (omega arith) l)
+  module _ {x : Added} (ex : x ≡ sumOf ws r) where
+    pub increment-unread : x ≡ addeds.Refused → meant ws (parses.Refused 16) ≡ parseRest time incrementForm ws
+    unfolding sumOf
+    increment-unread q =
+        let no-sum : hasRead (integerFor amount) && (hasRead low && hasRead high) ≡ false = sum-refused (integerFor amount) low high (sym ex ∙ q) in
+        rest-16 time incrementForm ws (y .clean)
+        (increment-all
+        ∙ one-fails (isSome amount) (numberRead expiryGroup) (numberRead versionGroup) (numberRead minGroup) (numberRead maxGroup)
+        (rw (integer-read amount, low-read, high-read) at no-sum))
 
-    max-so : getD (r .options) 4 0 < 12 → meaningOf (getD (r .options) 4 0) ≡ bound maxGroup
-    max-so l = max-meaning (getD (r .options) 4 0) l (in-group increment-ready 4 (omega arith) l)
+    module _ {sum : Sum} (es : x ≡ addeds.Value sum) {m : Terms} (em : m ≡ termsFor time (givenAt ws r expiryGroup) (givenAt ws r versionGroup)) where
+      parts : (integerFor amount ≡ integers.Value (sum .amount)) × (low ≡ integers.Value (sum .least)) × (high ≡ integers.Value (sum .greatest))
+      unfolding sumOf
+      parts = sum-value (integerFor amount) low high sum (sym ex ∙ es)
 
-    low-read : hasRead low ≡ increment-read 3
-    low-read = bound-readable increment-ready 3 (omega arith) min-so lowestSigned
+      increment-left : allRead incrementForm ws ≡ numberRead expiryGroup && numberRead versionGroup
+      unfolding hasRead
+      increment-left =
+          let a : isSome amount ≡ true = sym (integer-read amount) ∙ rw (parts .0) in
+          let b : numberRead minGroup ≡ true = sym low-read ∙ rw (parts .1) in
+          let c : numberRead maxGroup ≡ true = sym high-read ∙ rw (parts .2) in
+          increment-all ∙ rw (a, b, c, and-true (numberRead versionGroup))
 
-    high-read : hasRead high ≡ increment-read 4
-    high-read = bound-readable increment-ready 4 (omega arith) max-so highestSigned
+      pub increment-refused : (n : ℕ) → m ≡ terms.Refused n → meant ws (parses.Refused n) ≡ parseRest time incrementForm ws
+      unfolding build onDeed deedVersioning deedLifetime
+      increment-refused n q = terms-refused y time em increment-left refl refl n q
 
-    module _ {x : Added} (ex : x ≡ sumFor (integerFor amount) low high) where
-      pub increment-unread : x ≡ addeds.Refused → meant ws (parses.Refused 16) ≡ parseRest time 2 ws
-      increment-unread q =
-          let no : hasRead (integerFor amount) && (hasRead low && hasRead high) ≡ false = sum-refused (integerFor amount) low high (sym ex ∙ q) in
-          rest-16 time 2 ws (increment-ready .clean)
-          (increment-all
-          ∙ one-fails (isSome amount) (increment-read 0) (increment-read 2) (increment-read 3) (increment-read 4) (rw (integer-read amount, low-read, high-read) at no))
+      amount-said : numberIn signed64 (wordAt 3 ws) ≡ integerOf (sum .amount)
+      unfolding numberIn readIn
+      amount-said = integer-value amount (sum .amount) (parts .0)
 
-      module _ {sum : Sum} (es : x ≡ addeds.Value sum) {m : Terms} (em : m ≡ termsFor time (givenAt ws (r .options) (r .operands) 0) (givenAt ws (r .options) (r .operands) 2)) where
-        parts : (integerFor amount ≡ integers.Value (sum .amount)) × (low ≡ integers.Value (sum .least)) × (high ≡ integers.Value (sum .greatest))
-        parts = sum-value (integerFor amount) low high sum (sym ex ∙ es)
+      low-said : boundIn minGroup lowest64 (givenIn incrementForm ws) ≡ integerOf (sum .least)
+      unfolding integerOf kindIn
+      low-said = bound-said y minGroup (omega arith) (λ s. refl) lowestSigned (parts .1)
 
-        increment-left : allRead 2 ws ≡ increment-read 0 && increment-read 2
-        unfolding hasRead
-        increment-left =
-            let a : isSome amount ≡ true = sym (integer-read amount) ∙ rw (parts .0) in
-            let b : increment-read 3 ≡ true = sym low-read ∙ rw (parts .1) in
-            let c : increment-read 4 ≡ true = sym high-read ∙ rw (parts .2) in
-            increment-all ∙ rw (a, b, c, and-true (increment-read 2))
+      high-said : boundIn maxGroup highest64 (givenIn incrementForm ws) ≡ integerOf (sum .greatest)
+      unfolding integerOf kindIn
+      high-said = bound-said y maxGroup (omega arith) (λ s. refl) highestSigned (parts .2)
 
-        pub increment-refused : (n : ℕ) → m ≡ terms.Refused n → meant ws (parses.Refused n) ≡ parseRest time 2 ws
-        unfolding commandOf commands build onDeed deedVersioning deedLifetime
-        increment-refused n q = terms-refused increment-ready time em increment-left refl refl n q
-
-        amount-said : numberIn signed64 (wordAt 3 ws) ≡ integerOf (sum .amount)
-        unfolding numberIn readIn
-        amount-said = integer-value amount (sum .amount) (parts .0)
-
-        low-said : boundIn minGroup lowest64 (givenIn 2 ws) ≡ integerOf (sum .least)
-        unfolding integerOf
-        low-said = bound-said increment-ready 3 (omega arith) min-so lowestSigned refl (parts .1)
-
-        high-said : boundIn maxGroup highest64 (givenIn 2 ws) ≡ integerOf (sum .greatest)
-        unfolding integerOf
-        high-said = bound-said increment-ready 4 (omega arith) max-so highestSigned refl (parts .2)
-
-        pub increment-done : {v : Versioning} {l : Lifetime} → m ≡ terms.Value v l → meant ws (parses.OnField (fieldDeeds.Increment sum v l)) ≡ parseRest time 2 ws
-        unfolding commandOf commands build onDeed deedVersioning deedLifetime meant deedOf
-        increment-done q =
-            let (said, ev, el) = terms-said increment-ready time em increment-left refl refl q in
-            rw (← amount-said, ← low-said, ← high-said, ← ev, ← el) said
+      pub increment-done : {v : Versioning} {l : Lifetime} → m ≡ terms.Value v l → meant ws (parses.OnField (fieldDeeds.Increment sum v l)) ≡ parseRest time incrementForm ws
+      unfolding build onDeed deedVersioning deedLifetime meant deedOf
+      increment-done q =
+          let (said, ev, el) = terms-said y time em increment-left refl refl q in
+          rw (← amount-said, ← low-said, ← high-said, ← ev, ← el) said
 
 -- ---- EXHEXPIRE, EXHEXPIREAT, EXHPEXPIRE, EXHPEXPIREAT
 
-pub expire-form : (unit : ℕ) → unit < 4 → commandOf (3 + unit) .form ≡ expireForm (unitOf unit)
-unfolding commandOf commands unitOf
-expire-form zero l = refl
-expire-form (suc zero) l = refl
-expire-form (suc (suc zero)) l = refl
-expire-form (suc (suc (suc zero))) l = refl
-expire-form (suc (suc (suc (suc k)))) l = absurd (omega arith)
+abbrev expiring : ℕ → Form
+expiring unit = expireForm (unitOf unit)
 
-abbrev pub expireGroups : List ℕ
-expireGroups = 0 ∷ 0 ∷ 1 ∷ 0 ∷ 0 ∷ 0 ∷ []
+pub expire-takes : (unit : ℕ) → Takes (expireForm (unitOf unit)) (0 ∷ 0 ∷ 1 ∷ 0 ∷ 0 ∷ 0 ∷ []) 4
+unfolding allowed optionWords groupsFrom
+expire-takes unit = record { groups = refl; words = λ ws. refl }
 
-module _ (time i unit : ℕ) (ef : commandOf i .form ≡ expireForm (unitOf unit)) {ws : List Word} {r : code.Given} (s : Scanned ws expireGroups 4 r) where
-  expire-allowed : allowed (commandOf i .form) ≡ 2 ∷ []
-  unfolding allowed
-  expire-allowed = rw ef
+module _ (time unit : ℕ) {ws : List Word} {r : ScannedOptions} (y : Ready (expireForm (unitOf unit)) ws r) where
+  abbrev number : Option ℤ
+  number = readInteger (pos 0) (pos timeLimit) (wordAt 3 ws)
 
-  expire-words : optionWords (commandOf i .form) ws ≡ drop 4 ws
-  unfolding optionWords
-  expire-words = rw ef
+  expire-all : allRead (expiring unit) ws ≡ isSome number && (givenOption (expiring unit) versionGroup ws && true)
+  unfolding allowed numberRange orElse all readable readIn
+  expire-all = ap (λ b. isSome number && b) (y .read)
 
-  pub expire-unclean : not (r .clean) ≡ true → meant ws (parses.Refused 15) ≡ parseRest time i ws
-  unfolding groupsFrom
-  expire-unclean h = rest-15 time i ws (scan-unclean i s expire-allowed expire-words h)
+  pub expire-unread : number ≡ none → meant ws (parses.Refused 16) ≡ parseRest time (expiring unit) ws
+  unfolding isSome
+  expire-unread e = rest-16 time (expiring unit) ws (y .clean) (expire-all ∙ rw e)
 
-  module _ (h : not (r .clean) ≡ false) where
-    pub expire-ready : Ready i ws r
-    unfolding groupsFrom
-    expire-ready = scan-ready i s expire-allowed expire-words h
+  module _ {v : Versioned} (ev : v ≡ versionedFor (givenAt ws r versionGroup)) where
+    pub expire-unversioned : v ≡ versioneds.Refused → meant ws (parses.Refused 16) ≡ parseRest time (expiring unit) ws
+    expire-unversioned q = rest-16 time (expiring unit) ws (y .clean) (expire-all ∙ rw (version-refused y ev q, and-false (isSome number)))
 
-    abbrev expire-read : Bool
-    expire-read = orElse (givenOf 2 (givenIn i ws)) true readableOperand
+    module _ {k : ℕ} (ek : number ≡ some (pos k)) {n : Versioning} (en : v ≡ versioneds.Value n) where
+      expire-read : allRead (expiring unit) ws ≡ true
+      unfolding isSome
+      expire-read = expire-all ∙ rw (ek, version-said y ev en .0)
 
-    abbrev number : Option ℤ
-    number = readInteger (pos 0) (pos timeLimit) (wordAt 3 ws)
+      pub expire-zero : {b : Bool} → b ≡ isZero n → b ≡ true → meant ws (parses.Refused 17) ≡ parseRest time (expiring unit) ws
+      unfolding build onDeed deedVersioning
+      expire-zero e q = rest-17 time (expiring unit) ws (y .clean) expire-read (rw (version-said y ev en .1) (sym e ∙ q))
 
-    expire-all : allRead i ws ≡ isSome number && (expire-read && true)
-    unfolding numberRange orElse all readable readIn
-    expire-all =
-        let a : orElse (numberRange (commandOf i .form)) true (λ q. readable q (wordAt 3 ws)) ≡ isSome number = rw ef in
-        let b : all readableOperand (givenIn i ws) ≡ expire-read && true =
-        expire-ready .read ∙ ap (all (λ n. orElse (givenOf n (givenIn i ws)) true readableOperand)) expire-allowed
-        in
-        rw (a, b)
+      module _ {b : Bool} (eb : b ≡ isZero n) (qb : b ≡ false) {t : ℕ} (et : t ≡ instantIn unit k time) where
+        expire-nonzero : onDeed (λ d. isZero (deedVersioning d)) (saidBy time (expiring unit) ws) ≡ false
+        unfolding build onDeed deedVersioning
+        expire-nonzero = rw (version-said y ev en .1) (sym eb ∙ qb)
 
-    expire-built : saidBy time i ws ≡ onField (wordAt 1 ws) (wordAt 2 ws) (expire (instant time (unitOf unit) (wordAt 3 ws)) (versioning (givenIn i ws)))
-    unfolding build
-    expire-built = ap (λ f. build time f ws (givenIn i ws)) ef
+        expire-instant : instant time (unitOf unit) (wordAt 3 ws) ≡ t
+        expire-instant = instant-read time unit (wordAt 3 ws) k ek ∙ sym et
 
-    pub expire-unread : number ≡ none → meant ws (parses.Refused 16) ≡ parseRest time i ws
-    unfolding isSome
-    expire-unread e = rest-16 time i ws (expire-ready .clean) (expire-all ∙ rw e)
+        pub expire-beyond : timeLimit < t → meant ws (parses.Refused 18) ≡ parseRest time (expiring unit) ws
+        unfolding build onDeed deedLifetime beyond
+        expire-beyond l = rest-18 time (expiring unit) ws (y .clean) expire-read expire-nonzero (rw expire-instant (lt-ltb timeLimit t l))
 
-    module _ {v : Versioned} (ev : v ≡ versionedFor (optionAt ws (getD (r .options) 2 0) (getD (r .operands) 2 0))) where
-      pub expire-unversioned : v ≡ versioneds.Refused → meant ws (parses.Refused 16) ≡ parseRest time i ws
-      expire-unversioned q =
-          rest-16 time i ws (expire-ready .clean) (expire-all ∙ and-none (isSome number) (expire-read && true) (rw (version-refused expire-ready ev q)))
-
-      module _ {k : ℕ} (ek : number ≡ some (pos k)) {n : Versioning} (en : v ≡ versioneds.Value n) where
-        expire-allRead : allRead i ws ≡ true
-        unfolding isSome
-        expire-allRead = expire-all ∙ rw (ek, version-said expire-ready ev en .0)
-
-        pub expire-zero : {b : Bool} → b ≡ isZero n → b ≡ true → meant ws (parses.Refused 17) ≡ parseRest time i ws
-        unfolding onDeed deedVersioning
-        expire-zero e q = rest-17 time i ws (expire-ready .clean) expire-allRead (rw (expire-built, version-said expire-ready ev en .1) (sym e ∙ q))
-
-        module _ {b : Bool} (eb : b ≡ isZero n) (qb : b ≡ false) {t : ℕ} (et : t ≡ instantIn unit k time) where
-          expire-nonzero : onDeed (λ d. isZero (deedVersioning d)) (saidBy time i ws) ≡ false
-          unfolding onDeed deedVersioning
-          expire-nonzero = rw (expire-built, version-said expire-ready ev en .1) (sym eb ∙ qb)
-
-          expire-instant : instant time (unitOf unit) (wordAt 3 ws) ≡ t
-          expire-instant = instant-read time unit (wordAt 3 ws) k ek ∙ sym et
-
-          pub expire-beyond : timeLimit < t → meant ws (parses.Refused 18) ≡ parseRest time i ws
-          unfolding onDeed deedLifetime beyond
-          expire-beyond l =
-              rest-18 time i ws (expire-ready .clean) expire-allRead expire-nonzero (rw (expire-built, expire-instant) (lt-ltb timeLimit t l))
-
-          pub expire-done : t ≤ timeLimit → meant ws (parses.OnField (fieldDeeds.Expire t n)) ≡ parseRest time i ws
-          unfolding onDeed deedLifetime beyond meant deedOf
-          expire-done l =
-              rw (← expire-instant, ← version-said expire-ready ev en .1)
-              (ap accepted (sym expire-built)
-              ∙ rest-said time i ws (expire-ready .clean) expire-allRead expire-nonzero (rw (expire-built, expire-instant) (le-ltb timeLimit t l)))
+        pub expire-done : t ≤ timeLimit → meant ws (parses.OnField (fieldDeeds.Expire t n)) ≡ parseRest time (expiring unit) ws
+        unfolding build onDeed deedLifetime beyond meant deedOf
+        expire-done l =
+            rw (← expire-instant, ← version-said y ev en .1)
+            (rest-said time (expiring unit) ws (y .clean) expire-read expire-nonzero (rw expire-instant (le-ltb timeLimit t l)))
 
 -- ---- EXHSETVER
 
 module _ (time : ℕ) (ws : List Word) where
-  renumber-clean : unclean 8 ws ≡ false
-  unfolding commandOf commands allowed optionWords scan orElse conflicting
+  renumber-clean : unclean renumberForm ws ≡ false
+  unfolding allowed optionWords scan orElse conflicting
   renumber-clean = refl
 
-  pub renumber-unread : readInteger (pos 0) (pos versionMost) (wordAt 3 ws) ≡ none → meant ws (parses.Refused 16) ≡ parseRest time 8 ws
-  unfolding commandOf commands numberRange orElse readable readIn isSome
-  renumber-unread e = rest-16 time 8 ws renumber-clean (rw e)
+  pub renumber-unread : readInteger (pos 0) (pos versionMost) (wordAt 3 ws) ≡ none → meant ws (parses.Refused 16) ≡ parseRest time renumberForm ws
+  unfolding numberRange orElse readable readIn isSome
+  renumber-unread e = rest-16 time renumberForm ws renumber-clean (rw e)
 
-  pub renumber-done : (n : ℕ) → readInteger (pos 0) (pos versionMost) (wordAt 3 ws) ≡ some (pos n) → meant ws (parses.OnField (fieldDeeds.Renumber n)) ≡ parseRest time 8 ws
-  unfolding commandOf commands allowed optionWords scan numberRange orElse readable readIn isSome all build meant deedOf naturalIn numberIn onDeed deedVersioning isZero deedLifetime beyond
-  renumber-done n e = rw e at (rest-said time 8 ws renumber-clean (rw e) refl refl)
+  pub renumber-done : (n : ℕ) → readInteger (pos 0) (pos versionMost) (wordAt 3 ws) ≡ some (pos n) → meant ws (parses.OnField (fieldDeeds.Renumber n)) ≡ parseRest time renumberForm ws
+  unfolding allowed optionWords scan numberRange orElse readable readIn isSome all build meant deedOf naturalIn numberIn onDeed deedVersioning isZero deedLifetime beyond
+  renumber-done n e = rw e at (rest-said time renumberForm ws renumber-clean (rw e) refl refl)
 
 -- ---- EXHLEN
 
-abbrev pub countGroups : List ℕ
-countGroups = 0 ∷ 0 ∷ 0 ∷ 0 ∷ 0 ∷ 1 ∷ []
+pub count-takes : Takes countForm (0 ∷ 0 ∷ 0 ∷ 0 ∷ 0 ∷ 1 ∷ []) 2
+unfolding allowed optionWords groupsFrom
+count-takes = record { groups = refl; words = λ ws. refl }
 
-module _ (time : ℕ) {ws : List Word} {r : code.Given} (s : Scanned ws countGroups 2 r) where
-  pub count-unclean : not (r .clean) ≡ true → meant ws (parses.Refused 15) ≡ parseRest time 19 ws
-  unfolding commandOf commands allowed optionWords groupsFrom
-  count-unclean h = rest-15 time 19 ws (scan-unclean 19 s refl refl h)
+module _ (time : ℕ) {ws : List Word} {r : ScannedOptions} (y : Ready countForm ws r) where
+  count-read : allRead countForm ws ≡ true
+  unfolding allowed numberRange orElse all kindIn operandRange
+  count-read = y .read ∙ rw (bare-read y noExpGroup (omega arith) (λ s. refl))
 
-  module _ (h : not (r .clean) ≡ false) where
-    count-ready : Ready 19 ws r
-    unfolding commandOf commands allowed optionWords groupsFrom
-    count-ready = scan-ready 19 s refl refl h
+  abbrev counted : Bool → Command
+  counted t = cond t (countLive (wordAt 1 ws)) (countHeld (wordAt 1 ws))
 
-    count-allRead : allRead 19 ws ≡ true
-    unfolding commandOf commands allowed numberRange orElse all allBelow bare groupOf meaningOf options group takesOperand operandRange isSome
-    count-allRead = count-ready .read ∙ rw (bare-read count-ready 5 (omega arith) refl)
+  count-said : (t : Bool) → isSome (givenOf noExpGroup (givenIn countForm ws)) ≡ t → accepted (counted t) ≡ parseRest time countForm ws
+  unfolding build onDeed
+  count-said t e =
+      rw (← e)
+      (rest-said time countForm ws (y .clean) count-read
+      (no-deed (λ d. isZero (deedVersioning d)) (isSome (givenOf noExpGroup (givenIn countForm ws))))
+      (no-deed (λ d. beyond (deedLifetime d)) (isSome (givenOf noExpGroup (givenIn countForm ws)))))
+    where
+      no-deed : (test : Deed → Bool) (b : Bool) → onDeed test (counted b) ≡ false
+      no-deed test true = refl
+      no-deed test false = refl
 
-    abbrev counted : Bool → Command
-    counted t = cond t (countLive (wordAt 1 ws)) (countHeld (wordAt 1 ws))
+  pub count-live : getD (r .said) noExpGroup 0 < notGiven → meant ws (parses.OnKey keyDeeds.CountLive) ≡ parseRest time countForm ws
+  unfolding meant commandFor isSome
+  count-live l = count-said true (rw (y .given noExpGroup (omega arith), option-some ws noExpGroup _ _ l))
 
-    count-said : (t : Bool) → isSome (givenOf 5 (givenIn 19 ws)) ≡ t → accepted (counted t) ≡ parseRest time 19 ws
-    unfolding commandOf commands build onDeed
-    count-said t e =
-        rw (← e)
-        (rest-said time 19 ws (count-ready .clean) count-allRead
-        (no-deed (λ d. isZero (deedVersioning d)) (isSome (givenOf 5 (givenIn 19 ws))))
-        (no-deed (λ d. beyond (deedLifetime d)) (isSome (givenOf 5 (givenIn 19 ws)))))
-      where
-        no-deed : (test : Deed → Bool) (b : Bool) → onDeed test (counted b) ≡ false
-        no-deed test true = refl
-        no-deed test false = refl
-
-    pub count-live : getD (r .options) 5 0 < 12 → meant ws (parses.OnKey keyDeeds.CountLive) ≡ parseRest time 19 ws
-    unfolding meant commandFor isSome givenAt
-    count-live l =
-        count-said true (rw (count-ready .given 5 (omega arith), option-some ws (getD (r .options) 5 0) (getD (r .operands) 5 0) l))
-
-    pub count-held : 12 ≤ getD (r .options) 5 0 → meant ws (parses.OnKey keyDeeds.CountHeld) ≡ parseRest time 19 ws
-    unfolding meant commandFor isSome givenAt
-    count-held l =
-        count-said false (rw (count-ready .given 5 (omega arith), option-none ws (getD (r .options) 5 0) (getD (r .operands) 5 0) l))
+  pub count-held : notGiven ≤ getD (r .said) noExpGroup 0 → meant ws (parses.OnKey keyDeeds.CountHeld) ≡ parseRest time countForm ws
+  unfolding meant commandFor isSome
+  count-held l = count-said false (rw (y .given noExpGroup (omega arith), option-none ws noExpGroup _ _ l))
 
 -- ---- commands of fixed words with no number among them
 
-module _ (time i : ℕ) (ws : List Word) where
+module _ (time : ℕ) (ws : List Word) where
   -- a form that has no options and no number
-  module _ (f : Form) (ef : commandOf i .form ≡ f) (words : optionWords f ws ≡ []) (number : numberRange f ≡ none) where
-    fixed-scan : scan (allowed (commandOf i .form)) none (optionWords (commandOf i .form) ws) ≡ some []
-    unfolding scan
-    fixed-scan = rw (ef, words)
+  fixed : (f : Form) → optionWords f ws ≡ [] → numberRange f ≡ none → (c : Command) → build time f ws [] ≡ c
+      → onDeed (λ d. isZero (deedVersioning d)) c ≡ false → onDeed (λ d. beyond (deedLifetime d)) c ≡ false → accepted c ≡ parseRest time f ws
+  unfolding scan orElse conflicting all
+  fixed f words number c ec z b =
+      let scanned : scan (allowed f) none (optionWords f ws) ≡ some [] = rw words in
+      let said : saidBy time f ws ≡ c = rw scanned ec in
+      rw (← said) (rest-said time f ws (rw scanned) (rw (scanned, number)) (rw said z) (rw said b))
 
-    fixed : (c : Command) → build time f ws [] ≡ c → onDeed (λ d. isZero (deedVersioning d)) c ≡ false → onDeed (λ d. beyond (deedLifetime d)) c ≡ false
-        → accepted c ≡ parseRest time i ws
-    unfolding orElse conflicting all
-    fixed c ec z b =
-        let said : saidBy time i ws ≡ c = rw (fixed-scan, ef) ec in
-        rw (← said)
-        (rest-said time i ws (rw fixed-scan) (rw (fixed-scan, ef, number)) (rw said z) (rw said b))
+  pub fixed-pairs : meant ws (parses.OnKey keyDeeds.SetMany) ≡ parseRest time setManyForm ws
+  unfolding optionWords numberRange build onDeed meant commandFor
+  fixed-pairs = fixed setManyForm refl refl (setMany (wordAt 1 ws) (pairsOf (drop 2 ws))) refl refl refl
 
-  pub fixed-pairs : i ≡ 1 → meant ws (parses.OnKey keyDeeds.SetMany) ≡ parseRest time i ws
-  unfolding commandOf commands optionWords numberRange build onDeed meant commandFor
-  fixed-pairs e = fixed setManyForm (rw e) refl refl (setMany (wordAt 1 ws) (pairsOf (drop 2 ws))) refl refl refl
-
-  pub fixed-persist : i ≡ 7 → meant ws (parses.OnField fieldDeeds.Persist) ≡ parseRest time i ws
-  unfolding commandOf commands optionWords numberRange build onDeed deedVersioning isZero deedLifetime beyond meant deedOf
-  fixed-persist e = fixed persistForm (rw e) refl refl (onField (wordAt 1 ws) (wordAt 2 ws) persist) refl refl refl
-
-  pub fixed-ask : (q : Question) → commandOf i .form ≡ askForm q → meant ws (parses.OnField (fieldDeeds.Ask q)) ≡ parseRest time i ws
+  pub fixed-persist : meant ws (parses.OnField fieldDeeds.Persist) ≡ parseRest time persistForm ws
   unfolding optionWords numberRange build onDeed deedVersioning isZero deedLifetime beyond meant deedOf
-  fixed-ask q e = fixed (askForm q) e refl refl (onField (wordAt 1 ws) (wordAt 2 ws) (ask q)) refl refl refl
+  fixed-persist = fixed persistForm refl refl (onField (wordAt 1 ws) (wordAt 2 ws) persist) refl refl refl
 
-  pub fixed-many : (q : Question) → commandOf i .form ≡ getManyForm q → meant ws (parses.OnKey (keyDeeds.GetMany q)) ≡ parseRest time i ws
+  pub fixed-ask : (q : Question) → meant ws (parses.OnField (fieldDeeds.Ask q)) ≡ parseRest time (askForm q) ws
+  unfolding optionWords numberRange build onDeed deedVersioning isZero deedLifetime beyond meant deedOf
+  fixed-ask q = fixed (askForm q) refl refl (onField (wordAt 1 ws) (wordAt 2 ws) (ask q)) refl refl refl
+
+  pub fixed-many : (q : Question) → meant ws (parses.OnKey (keyDeeds.GetMany q)) ≡ parseRest time (getManyForm q) ws
   unfolding optionWords numberRange build onDeed meant commandFor
-  fixed-many q e = fixed (getManyForm q) e refl refl (getMany (wordAt 1 ws) (drop 2 ws) q) refl refl refl
+  fixed-many q = fixed (getManyForm q) refl refl (getMany (wordAt 1 ws) (drop 2 ws) q) refl refl refl
 
-  pub fixed-delete : i ≡ 18 → meant ws (parses.OnKey keyDeeds.Delete) ≡ parseRest time i ws
-  unfolding commandOf commands optionWords numberRange build onDeed meant commandFor
-  fixed-delete e = fixed deleteForm (rw e) refl refl (delete (wordAt 1 ws) (drop 2 ws)) refl refl refl
-
-  pub fixed-list : (l : Listing) → commandOf i .form ≡ listForm l → meant ws (parses.OnKey (keyDeeds.List l)) ≡ parseRest time i ws
+  pub fixed-delete : meant ws (parses.OnKey keyDeeds.Delete) ≡ parseRest time deleteForm ws
   unfolding optionWords numberRange build onDeed meant commandFor
-  fixed-list l e = fixed (listForm l) e refl refl (list (wordAt 1 ws) l) refl refl refl
+  fixed-delete = fixed deleteForm refl refl (delete (wordAt 1 ws) (drop 2 ws)) refl refl refl
+
+  pub fixed-list : (l : Listing) → meant ws (parses.OnKey (keyDeeds.List l)) ≡ parseRest time (listForm l) ws
+  unfolding optionWords numberRange build onDeed meant commandFor
+  fixed-list l = fixed (listForm l) refl refl (list (wordAt 1 ws) l) refl refl refl
+
+-- ---- a row
+
+-- a number from n on that is not n lies behind it
+pub behind : (n : ℕ) {k : ℕ} → n ≤ k → (k ≡ n → ⊥) → suc n ≤ k
+behind n l ne = omega (arith, ne)
+
+-- the family behind all others
+pub list-form : (family n : ℕ) → listFamily ≤ family → formOf family n ≡ listForm (listingOf n)
+unfolding formOf
+list-form family n l = List·getD-eq-default (firstForms n) (listForm (listingOf n)) l
+
+-- a command of row i is parsed as its family and its argument say
+pub row-parsed : (time i : ℕ) (ws : List Word) {family argument : ℕ} → family ≡ getD (commandData (commandOf i)) familyAt 0 → argument ≡ getD (commandData (commandOf i)) argumentAt 0
+    → (f : Form) → formOf family argument ≡ f → (x : Parsed) → meant ws x ≡ parseRest time f ws → meant ws x ≡ parseRest time (commandOf i .form) ws
+unfolding commandData
+row-parsed time i ws ef ea f e x h =
+    let form : commandOf i .form ≡ f = row-form i ∙ rw (← ef, ← ea) e in
+    rw form h

@@ -19,7 +19,6 @@ pub mod Ready
 pub mod AllOrNone
 pub mod Lines
 pub mod RowNumbers
-pub mod WordPlaces
 pub mod Scanning
 pub mod Acts
 pub mod Plans

@@ -1,18 +1,18 @@
 -- The line of each refusal stands among all lines between two ends.
 use mathlib.Core.Path.{_≡_, refl}
-use mathlib.Core.Bool.{Bool, true, false, _||_}
+use mathlib.Core.Bool.{Bool, true, false, cond, _||_}
 use mathlib.Core.List.{List, [], _∷_, _++_, flatMap}
-use Prim.Native.Nat.{ℕ, _-_, _≤_, _<_}
-use lib.Dec.{leb, ltb, eqb}
+use Prim.Native.Nat.{ℕ, zero, suc, _-_, _≤_}
+use lib.Dec.{leb, eqb}
 use lib.ListN.{length, take, drop, getD}
-use borrow.Author.Tests.{ltb-true, leb-true, eqb-true}
+use borrow.Author.Tests.{leb-true, eqb-true}
 use Rattle.wire.specs.Lists.{every, all, any}
 use Rattle.wire.specs.Bytes.{same, text}
 use Rattle.wire.specs.Words.{crlf}
 use Rattle.wire.specs.Promises.{Laid}
 use Rattle.wire.proofs.Lists.{and-left, and-right, every-at, both-ways}
 use Rattle.wire.proofs.Bytes.{same-true}
-use Rattle.commands.specs.Refusal.{table, errorLine}
+use Rattle.commands.specs.Refusal.{table, lateMost, errorLine}
 use Rattle.commands.specs.ParsePromises.{isRefusal}
 use Rattle.commands.proofs.Computing.{computing}
 
@@ -27,38 +27,47 @@ any-all f p (x ∷ xs) n h e = go (eqb (f x) n) refl (any-all f p xs n (and-righ
     go true q later e = rw (← (eqb-true (f x) n q)) (and-left (p (f x)) (all (λ y. p (f y)) xs) h)
     go false q later e = later e
 
--- the lines one after another, and where the line of each number ends among them
+-- the lines one after another, and where the line of each number ends among them: behind the lines of the numbers up to it
 unfoldable pub lines : List ℕ
 lines = flatMap (λ r. text (r .reply)) table
 
+unfoldable pub endOf : ℕ → ℕ
+endOf n = length (flatMap (λ r. cond (leb (r .number) n) (text (r .reply)) []) table)
+
+unfoldable pub endsFrom : ℕ → ℕ → List ℕ
+endsFrom zero n = []
+endsFrom (suc k) n = endOf n ∷ endsFrom k (suc n)
+
 unfoldable pub ends : List ℕ
-ends =
-    0 ∷ 0 ∷ 0 ∷ 0 ∷ 0 ∷ 0 ∷ 0 ∷ 0 ∷ 0 ∷ 0
-    ∷ 13 ∷ 36 ∷ 56 ∷ 86 ∷ 99 ∷ 116 ∷ 160 ∷ 180 ∷ 204 ∷ 204
-    ∷ 232 ∷ 265 ∷ 307 ∷ 328 ∷ 346 ∷ []
+ends = endsFrom (suc lateMost) 0
 
 unfoldable pub lineOf : ℕ → List ℕ
 lineOf n = take (getD ends n 0 - getD ends (n - 1) 0) (drop (getD ends (n - 1) 0) lines) ++ crlf
 
 pub record LineAt (n : ℕ) : Type 0 where
   pub first : 1 ≤ n
-  pub last : n < 25
+  pub last : n ≤ lateMost
   pub order : getD ends (n - 1) 0 ≤ getD ends n 0
-  pub inside : getD ends n 0 ≤ 346
+  pub inside : getD ends n 0 ≤ length lines
   pub bytes : lineOf n ≡ errorLine n
+
+-- to compute with the lines
+unfoldable pub placing : Unit {0}
+unfolding computing lines endOf endsFrom ends lineOf
+placing = tt
 
 unfoldable tests : ℕ → List Bool
 tests n =
     leb 1 n
-    ∷ ltb n 25
+    ∷ leb n lateMost
     ∷ leb (getD ends (n - 1) 0) (getD ends n 0)
-    ∷ leb (getD ends n 0) 346
+    ∷ leb (getD ends n 0) (length lines)
     ∷ same (lineOf n) (errorLine n)
     ∷ []
 
 -- the line of each refusal is there, computed at each
 all-placed : all (λ r. every (tests (r .number))) table ≡ true
-unfolding computing lines ends lineOf tests
+unfolding placing tests
 all-placed = refl
 
 pub line-at : (n : ℕ) → isRefusal n ≡ true → LineAt n
@@ -67,9 +76,9 @@ line-at n e =
     let t : (i : ℕ) → getD (tests n) i true ≡ true = every-at (tests n) (any-all (λ r. r .number) (λ k. every (tests k)) table n all-placed e) in
     record {
       first = leb-true 1 n (t 0);
-      last = ltb-true n 25 (t 1);
+      last = leb-true n lateMost (t 1);
       order = leb-true (getD ends (n - 1) 0) (getD ends n 0) (t 2);
-      inside = leb-true (getD ends n 0) 346 (t 3);
+      inside = leb-true (getD ends n 0) (length lines) (t 3);
       bytes = same-true (lineOf n) (errorLine n) (t 4);
     }
 

@@ -2,32 +2,32 @@
 use mathlib.Core.Path.{_≡_, refl, sym}
 use mathlib.Core.Bool.{Bool, true, false, cond, _&&_, _||_}
 use mathlib.Core.List.{List, [], _∷_}
-use mathlib.Core.Option.{Option, none, some, Option·map, Option·getD, Option·none-ne-some}
+use mathlib.Core.Option.{Option, none, some, Option·map, Option·getD}
 use Prim.Native.Nat.{ℕ}
 use borrow.Author.Tests.{eqb-true, eq-eqb, ne-eqb}
 use lib.Dec.{eqb}
 use Rattle.wire.specs.Lists.{all, any, orElse}
 use Rattle.wire.specs.Bytes.{spells}
 use Rattle.wire.specs.Words.{Word}
-use Rattle.wire.proofs.Lists.{and-left, and-right, and-both, or-left, or-right, both-ways}
-use Rattle.commands.specs.Options.{Meaning, Range, OptionRow, Given, _with_, options, group, operandRange, optionNamed, scan, conflicting, givenOf}
+use Rattle.wire.proofs.Lists.{and-left, and-right, and-both, or-left, or-right, both-ways, impossible}
+use Rattle.commands.specs.Options.{OptionKind, Range, OptionRow, Given, _with_, options, group, operandRange, optionNamed, scan, conflicting, givenOf}
 
 -- ---- groups that are allowed
 
 module _ (al : List ℕ) where
   -- whether an option's group is allowed
   unfoldable pub permitted : Given → Bool
-  permitted g = any (eqb (group (g .meaning))) al
+  permitted g = any (eqb (group (g .kind))) al
 
-  named-allowed : (rows : List OptionRow) (w : Word) (m : Meaning) → optionNamed rows al w ≡ some m → any (eqb (group m)) al ≡ true
+  named-allowed : (rows : List OptionRow) (w : Word) (m : OptionKind) → optionNamed rows al w ≡ some m → any (eqb (group m)) al ≡ true
   unfolding optionNamed
-  named-allowed [] w m e = absurd (Option·none-ne-some m e)
-  named-allowed (r ∷ rs) w m e = go (spells (r .name) w) (any (eqb (group (r .meaning))) al) refl (named-allowed rs w m) e
+  named-allowed [] w m e = impossible cc
+  named-allowed (r ∷ rs) w m e = go (spells (r .name) w) (any (eqb (group (r .kind))) al) refl (named-allowed rs w m) e
     where
-      go : (t a : Bool) → any (eqb (group (r .meaning))) al ≡ a → (optionNamed rs al w ≡ some m → any (eqb (group m)) al ≡ true)
-          → cond (t && a) (some (r .meaning)) (optionNamed rs al w) ≡ some m → any (eqb (group m)) al ≡ true
+      go : (t a : Bool) → any (eqb (group (r .kind))) al ≡ a → (optionNamed rs al w ≡ some m → any (eqb (group m)) al ≡ true)
+          → cond (t && a) (some (r .kind)) (optionNamed rs al w) ≡ some m → any (eqb (group m)) al ≡ true
       go true true q later e =
-          let s : r .meaning ≡ m = cc in
+          let s : r .kind ≡ m = cc in
           rw s at q
       go true false q later e = later e
       go false a q later e = later e
@@ -39,21 +39,21 @@ module _ (al : List ℕ) where
   one-more x h (some gs) k = and-both h k
 
   -- a scan finds only options of groups that are allowed
-  pub scan-allowed : (o : Option Meaning) (ws : List Word) → orElse o true (λ m. any (eqb (group m)) al) ≡ true → orElse (scan al o ws) true (all permitted) ≡ true
+  pub scan-allowed : (o : Option OptionKind) (ws : List Word) → orElse o true (λ m. any (eqb (group m)) al) ≡ true → orElse (scan al o ws) true (all permitted) ≡ true
   unfolding scan orElse all permitted
   scan-allowed none [] h = refl
   scan-allowed (some m) [] h = refl
   scan-allowed (some m) (w ∷ ws) h = one-more (m with w) h (scan al none ws) (scan-allowed none ws refl)
   scan-allowed none (w ∷ ws) h = go (optionNamed options al w) refl (scan-allowed none ws refl) (λ m. scan-allowed (some m) ws)
     where
-      at : (m : Meaning) → any (eqb (group m)) al ≡ true → (o : Option Range) → orElse (scan al none ws) true (all permitted) ≡ true
+      at : (m : OptionKind) → any (eqb (group m)) al ≡ true → (o : Option Range) → orElse (scan al none ws) true (all permitted) ≡ true
           → (any (eqb (group m)) al ≡ true → orElse (scan al (some m) ws) true (all permitted) ≡ true)
           → orElse (orElse o (Option·map (λ gs. m with [] ∷ gs) (scan al none ws)) (λ r. scan al (some m) ws)) true (all permitted) ≡ true
       at m q none bare after = one-more (m with []) q (scan al none ws) bare
       at m q (some r) bare after = after q
 
-      go : (o : Option Meaning) → optionNamed options al w ≡ o → orElse (scan al none ws) true (all permitted) ≡ true
-          → ((m : Meaning) → any (eqb (group m)) al ≡ true → orElse (scan al (some m) ws) true (all permitted) ≡ true)
+      go : (o : Option OptionKind) → optionNamed options al w ≡ o → orElse (scan al none ws) true (all permitted) ≡ true
+          → ((m : OptionKind) → any (eqb (group m)) al ≡ true → orElse (scan al (some m) ws) true (all permitted) ≡ true)
           → orElse (orElse o none λ m. orElse (operandRange m) (Option·map (λ gs. m with [] ∷ gs) (scan al none ws)) (λ r. scan al (some m) ws)) true (all permitted) ≡ true
       go none e bare after = refl
       go (some m) e bare after = at m (named-allowed options w m e) (operandRange m) bare (after m)
@@ -82,31 +82,31 @@ all-each h [] = refl
 all-each h (n ∷ ns) = and-both (h n) (all-each h ns)
 
 -- the group of what was found
-pub given-group : (n : ℕ) (gs : List Given) (x : Given) → givenOf n gs ≡ some x → group (x .meaning) ≡ n
+pub given-group : (n : ℕ) (gs : List Given) (x : Given) → givenOf n gs ≡ some x → group (x .kind) ≡ n
 unfolding givenOf
-given-group n [] x e = absurd (Option·none-ne-some x e)
-given-group n (g ∷ gs) x e = go (eqb (group (g .meaning)) n) refl e (given-group n gs x)
+given-group n [] x e = impossible cc
+given-group n (g ∷ gs) x e = go (eqb (group (g .kind)) n) refl e (given-group n gs x)
   where
-    go : (t : Bool) → eqb (group (g .meaning)) n ≡ t → cond t (some g) (givenOf n gs) ≡ some x → (givenOf n gs ≡ some x → group (x .meaning) ≡ n) → group (x .meaning) ≡ n
+    go : (t : Bool) → eqb (group (g .kind)) n ≡ t → cond t (some g) (givenOf n gs) ≡ some x → (givenOf n gs ≡ some x → group (x .kind) ≡ n) → group (x .kind) ≡ n
     go true q e later =
         let s : g ≡ x = cc in
-        rw s at (eqb-true (group (g .meaning)) n q)
+        rw s at (eqb-true (group (g .kind)) n q)
     go false q e later = later e
 
 -- none of a group
-none-of : (n : ℕ) (gs : List Given) → any (λ h. eqb n (group (h .meaning))) gs ≡ false → givenOf n gs ≡ none
+none-of : (n : ℕ) (gs : List Given) → any (λ h. eqb n (group (h .kind))) gs ≡ false → givenOf n gs ≡ none
 unfolding any givenOf
 none-of n [] h = refl
 none-of n (g ∷ gs) h =
     rw
-    (ne-eqb (group (g .meaning)) n (λ e. both-ways (eq-eqb n (group (g .meaning)) (sym e)) (or-left (eqb n (group (g .meaning))) (any (λ h. eqb n (group (h .meaning))) gs) h)))
-    (none-of n gs (or-right (eqb n (group (g .meaning))) (any (λ h. eqb n (group (h .meaning))) gs) h))
+    (ne-eqb (group (g .kind)) n (λ e. both-ways (eq-eqb n (group (g .kind)) (sym e)) (or-left (eqb n (group (g .kind))) (any (λ h. eqb n (group (h .kind))) gs) h)))
+    (none-of n gs (or-right (eqb n (group (g .kind))) (any (λ h. eqb n (group (h .kind))) gs) h))
 
 module _ (p : Given → Bool) where
   given-all : (n : ℕ) (gs : List Given) → all p gs ≡ true → orElse (givenOf n gs) true p ≡ true
   unfolding all givenOf orElse
   given-all n [] h = refl
-  given-all n (g ∷ gs) h = go (eqb (group (g .meaning)) n) (given-all n gs (and-right (p g) (all p gs) h))
+  given-all n (g ∷ gs) h = go (eqb (group (g .kind)) n) (given-all n gs (and-right (p g) (all p gs) h))
     where
       go : (t : Bool) → orElse (givenOf n gs) true p ≡ true → orElse (cond t (some g) (givenOf n gs)) true p ≡ true
       go true later = and-left (p g) (all p gs) h
@@ -118,17 +118,17 @@ module _ (p : Given → Bool) where
     unfolding all givenOf orElse conflicting permitted
     all-given [] c m h = refl
     all-given (g ∷ gs) c m h =
-        let same : Given → Bool = λ k. eqb (group (g .meaning)) (group (k .meaning)) in
-        let this : Bool = any (eqb (group (g .meaning))) al in
+        let same : Given → Bool = λ k. eqb (group (g .kind)) (group (k .kind)) in
+        let this : Bool = any (eqb (group (g .kind))) al in
         let rest : Bool = all (permitted al) gs in
         and-both
-        (rw (eq-eqb (group (g .meaning)) (group (g .meaning)) refl) at (h (group (g .meaning)) (and-left this rest m)))
+        (rw (eq-eqb (group (g .kind)) (group (g .kind)) refl) at (h (group (g .kind)) (and-left this rest m)))
         (all-given gs (or-right (any same gs) (conflicting gs) c) (and-right this rest m)
-        (λ n a. go n (eqb (group (g .meaning)) n) refl (h n a) (none-of (group (g .meaning)) gs (or-left (any same gs) (conflicting gs) c))))
+        (λ n a. go n (eqb (group (g .kind)) n) refl (h n a) (none-of (group (g .kind)) gs (or-left (any same gs) (conflicting gs) c))))
       where
-        go : (n : ℕ) (t : Bool) → eqb (group (g .meaning)) n ≡ t → orElse (cond t (some g) (givenOf n gs)) true p ≡ true → givenOf (group (g .meaning)) gs ≡ none
+        go : (n : ℕ) (t : Bool) → eqb (group (g .kind)) n ≡ t → orElse (cond t (some g) (givenOf n gs)) true p ≡ true → givenOf (group (g .kind)) gs ≡ none
             → orElse (givenOf n gs) true p ≡ true
-        go n true e k z = rw (← eqb-true (group (g .meaning)) n e, z)
+        go n true e k z = rw (← eqb-true (group (g .kind)) n e, z)
         go n false e k z = k
 
     -- what holds of all options that were given holds of the one of each group

@@ -1,12 +1,12 @@
 -- From the words of a command to what it says: checks 15 to 18, and what the options that were given say.
 use mathlib.Core.Path.{_≡_, refl, sym, ap, _∙_}
-use mathlib.Core.Bool.{Bool, true, false, cond, not, _&&_, _||_, false≢true}
+use mathlib.Core.Bool.{Bool, true, false, cond, not, _&&_}
 use mathlib.Core.List.{List, []}
 use mathlib.Core.Option.{Option, none, some, Option·getD}
 use Prim.Native.Nat.{ℕ, _≤_, _<_}
 use native.Mathlib.Omega.{arith}
-use borrow.Author.Tests.{not-true, not-false, ltb-true, ltb-false, eq-eqb}
-use lib.Dec.{ltb, eqb}
+use borrow.Author.Tests.{not-true, not-false, ltb-true, ltb-false}
+use lib.Dec.{ltb}
 use lib.IntN.{ℤ, pos}
 use lib.ListN.{getD, drop}
 use Rattle.wire.specs.declared.integers.Signed.{Signed}
@@ -16,193 +16,203 @@ use Rattle.wire.specs.Lists.{all, isSome, orElse}
 use Rattle.wire.specs.Integer.{readInteger, lowest64, highest64}
 use Rattle.wire.specs.Words.{Word, wordAt}
 use Rattle.wire.specs.Promises.{signedFor, integerFor, integerOf}
+use Rattle.wire.proofs.Lists.{impossible}
+use Rattle.wire.proofs.Signs.{sign-said}
 use Rattle.commands.specs.declared.Condition.the-variants as conditions
 use Rattle.commands.specs.declared.Lifetime.{Lifetime}
-use Rattle.commands.specs.declared.Lifetime.the-variants as lifetimes
 use Rattle.commands.specs.declared.Versioning.{Versioning}
-use Rattle.commands.specs.declared.Versioning.the-variants as versionings
 use Rattle.commands.specs.declared.operands.Timed.{Timed}
 use Rattle.commands.specs.declared.operands.Timed.the-variants as timeds
 use Rattle.commands.specs.declared.operands.Versioned.{Versioned}
 use Rattle.commands.specs.declared.operands.Versioned.the-variants as versioneds
 use Rattle.commands.specs.declared.operands.Terms.{Terms}
 use Rattle.commands.specs.declared.operands.Terms.the-variants as terms
-use Rattle.commands.specs.declared.options.Given as code
+use Rattle.commands.specs.declared.options.ScannedOptions.{ScannedOptions}
 use Rattle.commands.specs.declared.Parsed.the-variants as parses
 use Rattle.commands.specs.Refusal.{lowest}
 use Rattle.commands.specs.Command.{Command}
-use Rattle.commands.specs.Options.Meaning.{bound}
-use Rattle.commands.specs.Options.{Range, signed64, Given, options, operandRange, scan, conflicting, givenOf, readIn, readable, numberIn, readableOperand, lifetimeOf, versioningOf, conditionOf, lifetime, versioning, condition, boundIn}
-use Rattle.commands.specs.Parse.{Parsed, allowed, optionWords, numberRange, build, isZero, deedVersioning, beyond, deedLifetime, onDeed, checks}
+use Rattle.commands.specs.Options.{Given, _with_, signed64, expiryGroup, conditionGroup, versionGroup, groupCount, operandRange, scan, conflicting, givenOf, readIn, readable, numberIn, readableOperand, conditionOf, lifetime, versioning, condition, boundIn}
+use Rattle.commands.specs.Options.OptionKind.{bound}
+use Rattle.commands.specs.Parse.{Form, allowed, optionWords, numberRange, build, isZero, deedVersioning, beyond, deedLifetime, onDeed, laterChecks}
 use Rattle.commands.specs.Parse.Parsed.{refused, accepted}
-use Rattle.commands.specs.ParsePromises.{groupsFrom, groupOf, meaningOf, numbered, takesOperand, optionAt, givenAt, InGroup, Scanned, timedFor, versionedFor, termsFor, conditionFor, boundFor, commandOf, parseRest, meant}
-use Rattle.commands.proofs.Answers.{sign-said}
-use Rattle.commands.proofs.OptionWords.{option-some, option-none, operand-word}
-use Rattle.commands.proofs.Tallies.{allBelow, below-at}
-use Rattle.commands.proofs.OneEach.{scan-allowed, given-group, all-groups}
+use Rattle.commands.specs.Tables.{kindIn}
+use Rattle.commands.specs.ParsePromises.{groupsFrom, notGiven, numbered, optionAt, givenAt, Scanned, lifetimeBy, versionBy, readOf, timedFor, versionedFor, termChecks, termsFor, conditionFor, boundFor, boundGiven, parseRest, meant}
+use Rattle.commands.proofs.Checks.{check-applies, check-passed, checks-end}
+use Rattle.commands.proofs.Scanning.{option-some, option-none}
+use Rattle.commands.proofs.OneEach.{scan-allowed, all-groups}
 
 -- ---- checks 15 to 18
 
--- the options of a command of row i, and the command that they and its words say
-abbrev pub scannedOf : ℕ → List Word → Option (List Given)
-scannedOf i ws = scan (allowed (commandOf i .form)) none (optionWords (commandOf i .form) ws)
+-- the options of a command of a form, and the command that they and its words say
+abbrev pub scannedOf : Form → List Word → Option (List Given)
+scannedOf f ws = scan (allowed f) none (optionWords f ws)
 
-abbrev pub givenIn : ℕ → List Word → List Given
-givenIn i ws = Option·getD (scannedOf i ws) []
+abbrev pub givenIn : Form → List Word → List Given
+givenIn f ws = Option·getD (scannedOf f ws) []
 
-abbrev pub saidBy : ℕ → ℕ → List Word → Command
-saidBy time i ws = build time (commandOf i .form) ws (givenIn i ws)
+abbrev pub saidBy : ℕ → Form → List Word → Command
+saidBy time f ws = build time f ws (givenIn f ws)
 
 -- the tests of 15 to 18; the one of 16 passes where all numbers are read
-abbrev pub unclean : ℕ → List Word → Bool
-unclean i ws = orElse (scannedOf i ws) true conflicting
+abbrev pub unclean : Form → List Word → Bool
+unclean f ws = orElse (scannedOf f ws) true conflicting
 
-abbrev pub allRead : ℕ → List Word → Bool
-allRead i ws = orElse (numberRange (commandOf i .form)) true (λ r. readable r (wordAt 3 ws)) && all readableOperand (givenIn i ws)
+abbrev pub allRead : Form → List Word → Bool
+allRead f ws = orElse (numberRange f) true (λ r. readable r (wordAt 3 ws)) && all readableOperand (givenIn f ws)
 
-abbrev pub zeroVersion : ℕ → ℕ → List Word → Bool
-zeroVersion time i ws = onDeed (λ d. isZero (deedVersioning d)) (saidBy time i ws)
+abbrev pub zeroVersion : ℕ → Form → List Word → Bool
+zeroVersion time f ws = onDeed (λ d. isZero (deedVersioning d)) (saidBy time f ws)
 
-abbrev pub tooLate : ℕ → ℕ → List Word → Bool
-tooLate time i ws = onDeed (λ d. beyond (deedLifetime d)) (saidBy time i ws)
+abbrev pub tooLate : ℕ → Form → List Word → Bool
+tooLate time f ws = onDeed (λ d. beyond (deedLifetime d)) (saidBy time f ws)
 
-unfoldable decided : Bool → Bool → Bool → Bool → Command → Parsed
-decided a b c d x = cond a (refused 15) (cond b (cond c (refused 17) (cond d (refused 18) (accepted x))) (refused 16))
+-- each number is reached by passing the checks before it
+module _ (time : ℕ) (f : Form) (ws : List Word) where
+  abbrev refusal : Option ℕ
+  refusal = lowest (laterChecks f ws (scannedOf f ws) (saidBy time f ws))
 
-module _ (time i : ℕ) (ws : List Word) where
-  rest-decided : parseRest time i ws ≡ decided (unclean i ws) (allRead i ws) (zeroVersion time i ws) (tooLate time i ws) (saidBy time i ws)
-  unfolding parseRest checks lowest orElse decided
-  rest-decided = go (unclean i ws) (allRead i ws) (zeroVersion time i ws) (tooLate time i ws)
-    where
-      go : (a b c d : Bool)
-          → orElse
-          (cond a (some 15) (cond (not b) (some 16) (cond c (some 17) (cond d (some 18) none))))
-          (accepted (saidBy time i ws))
-          refused
-          ≡ decided a b c d (saidBy time i ws)
-      go true b c d = refl
-      go false false c d = refl
-      go false true true d = refl
-      go false true false true = refl
-      go false true false false = refl
+  rest-refused : (n : ℕ) → refusal ≡ some n → meant ws (parses.Refused n) ≡ parseRest time f ws
+  unfolding meant parseRest orElse
+  rest-refused n e = rw e
 
-  pub rest-15 : unclean i ws ≡ true → meant ws (parses.Refused 15) ≡ parseRest time i ws
-  unfolding meant decided
-  rest-15 a = rw (rest-decided, a)
+  rest-passed : refusal ≡ none → accepted (saidBy time f ws) ≡ parseRest time f ws
+  unfolding parseRest orElse
+  rest-passed e = rw e
 
-  module _ (a : unclean i ws ≡ false) where
-    pub rest-16 : allRead i ws ≡ false → meant ws (parses.Refused 16) ≡ parseRest time i ws
-    unfolding meant decided
-    rest-16 b = rw (rest-decided, a, b)
+  pub rest-15 : unclean f ws ≡ true → meant ws (parses.Refused 15) ≡ parseRest time f ws
+  unfolding laterChecks
+  rest-15 a = rest-refused 15 (check-applies _ _ a)
 
-    module _ (b : allRead i ws ≡ true) where
-      pub rest-17 : zeroVersion time i ws ≡ true → meant ws (parses.Refused 17) ≡ parseRest time i ws
-      unfolding meant decided
-      rest-17 c = rw (rest-decided, a, b, c)
+  module _ (a : unclean f ws ≡ false) where
+    pub rest-16 : allRead f ws ≡ false → meant ws (parses.Refused 16) ≡ parseRest time f ws
+    unfolding laterChecks
+    rest-16 b = rest-refused 16 (check-passed _ _ a ∙ check-applies _ _ (ap not b))
 
-      pub rest-18 : zeroVersion time i ws ≡ false → tooLate time i ws ≡ true → meant ws (parses.Refused 18) ≡ parseRest time i ws
-      unfolding meant decided
-      rest-18 c d = rw (rest-decided, a, b, c, d)
+    module _ (b : allRead f ws ≡ true) where
+      pub rest-17 : zeroVersion time f ws ≡ true → meant ws (parses.Refused 17) ≡ parseRest time f ws
+      unfolding laterChecks
+      rest-17 c = rest-refused 17 (check-passed _ _ a ∙ check-passed _ _ (ap not b) ∙ check-applies _ _ c)
 
-      pub rest-said : zeroVersion time i ws ≡ false → tooLate time i ws ≡ false → accepted (saidBy time i ws) ≡ parseRest time i ws
-      unfolding decided
-      rest-said c d = rw (rest-decided, a, b, c, d)
+      module _ (c : zeroVersion time f ws ≡ false) where
+        pub rest-18 : tooLate time f ws ≡ true → meant ws (parses.Refused 18) ≡ parseRest time f ws
+        unfolding laterChecks
+        rest-18 d = rest-refused 18 (check-passed _ _ a ∙ check-passed _ _ (ap not b) ∙ check-passed _ _ c ∙ check-applies _ _ d)
+
+        pub rest-said : tooLate time f ws ≡ false → accepted (saidBy time f ws) ≡ parseRest time f ws
+        unfolding laterChecks
+        rest-said d = rest-passed (check-passed _ _ a ∙ check-passed _ _ (ap not b) ∙ check-passed _ _ c ∙ check-passed _ _ d ∙ checks-end)
 
 -- ---- what a scan found
 
+-- the groups and the words from which a form takes options
+pub record Takes (f : Form) (al : List ℕ) (from : ℕ) : Type 0 where
+  pub groups : allowed f ≡ groupsFrom 0 al
+  pub words : (ws : List Word) → optionWords f ws ≡ drop from ws
+
 -- A scan that is clean: the options of the groups stand in the code's arrays, and all numbers are read where each group's is.
-pub record Ready (i : ℕ) (ws : List Word) (r : code.Given) : Type 0 where
-  pub clean : unclean i ws ≡ false
-  pub given : (g : ℕ) → g < 6 → givenOf g (givenIn i ws) ≡ givenAt ws (r .options) (r .operands) g
-  pub read : all readableOperand (givenIn i ws) ≡ all (λ n. orElse (givenOf n (givenIn i ws)) true readableOperand) (allowed (commandOf i .form))
+pub record Ready (f : Form) (ws : List Word) (r : ScannedOptions) : Type 0 where
+  pub clean : unclean f ws ≡ false
+  pub given : (g : ℕ) → g < groupCount → givenOf g (givenIn f ws) ≡ givenAt ws r g
+  pub read : all readableOperand (givenIn f ws) ≡ all (λ n. readOf (givenOf n (givenIn f ws))) (allowed f)
 
-module _ (i : ℕ) {ws : List Word} {al : List ℕ} {from : ℕ} {r : code.Given} (s : Scanned ws al from r)
-    (ea : allowed (commandOf i .form) ≡ groupsFrom 0 al) (ew : optionWords (commandOf i .form) ws ≡ drop from ws) where
-  same-scan : scan (groupsFrom 0 al) none (drop from ws) ≡ scannedOf i ws
-  same-scan = rw (ea, ew)
+module _ {f : Form} {al : List ℕ} {from : ℕ} (k : Takes f al from) {ws : List Word} {r : ScannedOptions} (s : Scanned ws al from r) where
+  same-scan : scan (groupsFrom 0 al) none (drop from ws) ≡ scannedOf f ws
+  same-scan = rw (k .groups, k .words ws)
 
-  pub scan-unclean : not (r .clean) ≡ true → unclean i ws ≡ true
-  scan-unclean h = not-false (unclean i ws) (sym (rw same-scan at (s .clean)) ∙ not-true (r .clean) h)
+  pub not-clean : (time : ℕ) → not (r .clean) ≡ true → meant ws (parses.Refused 15) ≡ parseRest time f ws
+  not-clean time h = rest-15 time f ws (not-false (unclean f ws) (sym (rw same-scan at (s .clean)) ∙ not-true (r .clean) h))
 
-  pub scan-ready : not (r .clean) ≡ false → Ready i ws r
-  unfolding orElse
-  scan-ready h =
+  pub ready : not (r .clean) ≡ false → Ready f ws r
+  unfolding orElse readOf
+  ready h =
       let c : r .clean ≡ true = not-false (r .clean) h in
-      let k : unclean i ws ≡ false = not-true (unclean i ws) (sym (rw same-scan at (s .clean)) ∙ c) in
+      let k : unclean f ws ≡ false = not-true (unclean f ws) (sym (rw same-scan at (s .clean)) ∙ c) in
       record {
         clean = k;
         given = λ g l. rw same-scan at (s .given c g l);
-        read =
-            all-groups readableOperand (allowed (commandOf i .form)) (scannedOf i ws) k
-            (scan-allowed (allowed (commandOf i .form)) none (optionWords (commandOf i .form) ws) refl);
+        read = all-groups readableOperand (allowed f) (scannedOf f ws) k (scan-allowed (allowed f) none (optionWords f ws) refl);
       }
 
--- what the code read of an option x
-timed-value : (time : ℕ) (x : Option Given) {t : Timed} {l : Lifetime} → t ≡ timedFor time x → t ≡ timeds.Value l
-    → (orElse x true readableOperand ≡ true) × (orElse x lifetimes.Clear (λ g. lifetimeOf time (g .meaning) (g .operand)) ≡ l)
-unfolding timedFor
-timed-value time x {t} {l} e h = go (orElse x true readableOperand) refl (sym e ∙ h)
-  where
-    said : Lifetime
-    said = orElse x lifetimes.Clear (λ g. lifetimeOf time (g .meaning) (g .operand))
+-- ---- what the code read
 
-    go : (b : Bool) → orElse x true readableOperand ≡ b → cond b (timeds.Value said) timeds.Refused ≡ timeds.Value l → (orElse x true readableOperand ≡ true) × (said ≡ l)
-    go true q k = (q, cc)
-    go false q k = let z : _≡_ {A = ℕ} 0 1 = cc in absurd (omega arith)
+module _ (time : ℕ) (x : Option Given) {t : Timed} (e : t ≡ timedFor time x) where
+  timed-value : {l : Lifetime} → t ≡ timeds.Value l → (readOf x ≡ true) × (lifetimeBy time x ≡ l)
+  unfolding timedFor
+  timed-value {l} h = go (readOf x) refl (sym e ∙ h)
+    where
+      go : (b : Bool) → readOf x ≡ b → cond b (timeds.Value (lifetimeBy time x)) timeds.Refused ≡ timeds.Value l → (readOf x ≡ true) × (lifetimeBy time x ≡ l)
+      go true q k = (q, cc)
+      go false q k = impossible cc
 
-timed-refused : (time : ℕ) (x : Option Given) {t : Timed} → t ≡ timedFor time x → t ≡ timeds.Refused → orElse x true readableOperand ≡ false
-unfolding timedFor
-timed-refused time x {t} e h = go (orElse x true readableOperand) (sym e ∙ h)
-  where
-    go : (b : Bool) → cond b (timeds.Value (orElse x lifetimes.Clear (λ g. lifetimeOf time (g .meaning) (g .operand)))) timeds.Refused ≡ timeds.Refused → b ≡ false
-    go true k = let z : _≡_ {A = ℕ} 0 1 = cc in absurd (omega arith)
-    go false k = refl
+  timed-refused : t ≡ timeds.Refused → readOf x ≡ false
+  unfolding timedFor
+  timed-refused h = go (readOf x) (sym e ∙ h)
+    where
+      go : (b : Bool) → cond b (timeds.Value (lifetimeBy time x)) timeds.Refused ≡ timeds.Refused → b ≡ false
+      go true k = impossible cc
+      go false k = refl
 
-versioned-value : (x : Option Given) {v : Versioned} {n : Versioning} → v ≡ versionedFor x → v ≡ versioneds.Value n
-    → (orElse x true readableOperand ≡ true) × (orElse x versionings.Next (λ g. versioningOf (g .meaning) (g .operand)) ≡ n)
-unfolding versionedFor
-versioned-value x {v} {n} e h = go (orElse x true readableOperand) refl (sym e ∙ h)
-  where
-    said : Versioning
-    said = orElse x versionings.Next (λ g. versioningOf (g .meaning) (g .operand))
+module _ (x : Option Given) {v : Versioned} (e : v ≡ versionedFor x) where
+  versioned-value : {n : Versioning} → v ≡ versioneds.Value n → (readOf x ≡ true) × (versionBy x ≡ n)
+  unfolding versionedFor
+  versioned-value {n} h = go (readOf x) refl (sym e ∙ h)
+    where
+      go : (b : Bool) → readOf x ≡ b → cond b (versioneds.Value (versionBy x)) versioneds.Refused ≡ versioneds.Value n → (readOf x ≡ true) × (versionBy x ≡ n)
+      go true q k = (q, cc)
+      go false q k = impossible cc
 
-    go : (b : Bool) → orElse x true readableOperand ≡ b → cond b (versioneds.Value said) versioneds.Refused ≡ versioneds.Value n → (orElse x true readableOperand ≡ true) × (said ≡ n)
-    go true q k = (q, cc)
-    go false q k = let z : _≡_ {A = ℕ} 0 1 = cc in absurd (omega arith)
-
-versioned-refused : (x : Option Given) {v : Versioned} → v ≡ versionedFor x → v ≡ versioneds.Refused → orElse x true readableOperand ≡ false
-unfolding versionedFor
-versioned-refused x {v} e h = go (orElse x true readableOperand) (sym e ∙ h)
-  where
-    go : (b : Bool) → cond b (versioneds.Value (orElse x versionings.Next (λ g. versioningOf (g .meaning) (g .operand)))) versioneds.Refused ≡ versioneds.Refused → b ≡ false
-    go true k = let z : _≡_ {A = ℕ} 0 1 = cc in absurd (omega arith)
-    go false k = refl
+  versioned-refused : v ≡ versioneds.Refused → readOf x ≡ false
+  unfolding versionedFor
+  versioned-refused h = go (readOf x) (sym e ∙ h)
+    where
+      go : (b : Bool) → cond b (versioneds.Value (versionBy x)) versioneds.Refused ≡ versioneds.Refused → b ≡ false
+      go true k = impossible cc
+      go false k = refl
 
 -- what the code answers of both, x of the expiry and y of the version
-module _ (time : ℕ) (x y : Option Given) {t : Timed} (et : t ≡ timedFor time x) where
-  pub terms-untimed : t ≡ timeds.Refused → terms.Refused 16 ≡ termsFor time x y
-  unfolding termsFor
-  terms-untimed q = rw (timed-refused time x et q)
+module _ (time : ℕ) (x y : Option Given) where
+  terms-given : (n : ℕ) → lowest (termChecks time x y) ≡ some n → terms.Refused n ≡ termsFor time x y
+  unfolding termsFor orElse
+  terms-given n e = rw e
 
-  module _ {v : Versioned} (ev : v ≡ versionedFor y) {l : Lifetime} (el : t ≡ timeds.Value l) where
-    pub terms-unversioned : v ≡ versioneds.Refused → terms.Refused 16 ≡ termsFor time x y
-    unfolding termsFor
-    terms-unversioned q = rw (timed-value time x et el .0, versioned-refused y ev q)
+  terms-passed : lowest (termChecks time x y) ≡ none → terms.Value (versionBy y) (lifetimeBy time x) ≡ termsFor time x y
+  unfolding termsFor orElse
+  terms-passed e = rw e
 
-    module _ {n : Versioning} (en : v ≡ versioneds.Value n) where
-      terms-read : termsFor time x y ≡ cond (isZero n) (terms.Refused 17) (cond (beyond l) (terms.Refused 18) (terms.Value n l))
-      unfolding termsFor
-      terms-read = rw (timed-value time x et el .0, versioned-value y ev en .0, timed-value time x et el .1, versioned-value y ev en .1)
+  module _ {t : Timed} (et : t ≡ timedFor time x) where
+    pub terms-untimed : t ≡ timeds.Refused → terms.Refused 16 ≡ termsFor time x y
+    unfolding termChecks
+    terms-untimed q = terms-given 16 (check-applies _ _ (rw (timed-refused time x et q)))
 
-      pub terms-zero : {b : Bool} → b ≡ isZero n → b ≡ true → terms.Refused 17 ≡ termsFor time x y
-      terms-zero e q = rw (terms-read, ← e, q)
+    module _ {v : Versioned} (ev : v ≡ versionedFor y) {l : Lifetime} (el : t ≡ timeds.Value l) where
+      pub terms-unversioned : v ≡ versioneds.Refused → terms.Refused 16 ≡ termsFor time x y
+      unfolding termChecks
+      terms-unversioned q = terms-given 16 (check-applies _ _ (rw (timed-value time x et el .0, versioned-refused y ev q)))
 
-      module _ {b : Bool} (eb : b ≡ isZero n) (qb : b ≡ false) where
-        pub terms-beyond : {d : Bool} → d ≡ beyond l → d ≡ true → terms.Refused 18 ≡ termsFor time x y
-        terms-beyond e q = rw (terms-read, ← eb, qb, ← e, q)
+      module _ {n : Versioning} (en : v ≡ versioneds.Value n) where
+        both-read : not (readOf x && readOf y) ≡ false
+        both-read = rw (timed-value time x et el .0, versioned-value y ev en .0)
 
-        pub terms-both : {d : Bool} → d ≡ beyond l → d ≡ false → terms.Value n l ≡ termsFor time x y
-        terms-both e q = rw (terms-read, ← eb, qb, ← e, q)
+        zero-so : {b : Bool} (t : Bool) → b ≡ isZero n → b ≡ t → isZero (versionBy y) ≡ t
+        zero-so t e q = rw (versioned-value y ev en .1) (sym e ∙ q)
+
+        late-so : {b : Bool} (t : Bool) → b ≡ beyond l → b ≡ t → beyond (lifetimeBy time x) ≡ t
+        late-so t e q = rw (timed-value time x et el .1) (sym e ∙ q)
+
+        pub terms-zero : {b : Bool} → b ≡ isZero n → b ≡ true → terms.Refused 17 ≡ termsFor time x y
+        unfolding termChecks
+        terms-zero e q = terms-given 17 (check-passed _ _ both-read ∙ check-applies _ _ (zero-so true e q))
+
+        module _ {b : Bool} (eb : b ≡ isZero n) (qb : b ≡ false) where
+          pub terms-beyond : {d : Bool} → d ≡ beyond l → d ≡ true → terms.Refused 18 ≡ termsFor time x y
+          unfolding termChecks
+          terms-beyond e q = terms-given 18 (check-passed _ _ both-read ∙ check-passed _ _ (zero-so false eb qb) ∙ check-applies _ _ (late-so true e q))
+
+          pub terms-both : {d : Bool} → d ≡ beyond l → d ≡ false → terms.Value n l ≡ termsFor time x y
+          unfolding termChecks
+          terms-both e q =
+              rw (← timed-value time x et el .1, ← versioned-value y ev en .1)
+              (terms-passed (check-passed _ _ both-read ∙ check-passed _ _ (zero-so false eb qb) ∙ check-passed _ _ (late-so false e q) ∙ checks-end))
 
 -- whether an integer was read
 unfoldable pub hasRead : Integer → Bool
@@ -216,137 +226,115 @@ integer-read (some z) = refl
 
 pub integer-value : (o : Option ℤ) (z : Signed) → integerFor o ≡ integers.Value z → Option·getD o (pos 0) ≡ integerOf z
 unfolding integerFor
-integer-value none z e = let y : _≡_ {A = ℕ} 0 1 = cc in absurd (omega arith)
+integer-value none z e = impossible cc
 integer-value (some k) z e =
     let q : signedFor k ≡ z = cc in
     rw (← q) (sym (sign-said k))
 
--- an option takes no operand where it is of group n
-unfoldable pub bare : ℕ → ℕ → Bool
-bare n k = not (eqb (groupOf k) n) || not (takesOperand k)
+-- ---- what the options say, where a scan is clean
 
-module _ {i : ℕ} {ws : List Word} {r : code.Given} (y : Ready i ws r) where
+module _ {f : Form} {ws : List Word} {r : ScannedOptions} (y : Ready f ws r) where
   abbrev found : ℕ → Option Given
-  found n = givenOf n (givenIn i ws)
+  found n = givenOf n (givenIn f ws)
 
-  -- the option of a group, and its operand's word
-  abbrev option : ℕ → ℕ
-  option n = getD (r .options) n 0
+  -- what the option of a group says, and its operand's word
+  abbrev said : ℕ → ℕ
+  said n = getD (r .said) n 0
 
   abbrev operand : ℕ → ℕ
   operand n = getD (r .operands) n 0
 
-  at : (n : ℕ) → n < 6 → found n ≡ optionAt ws (option n) (operand n)
-  unfolding givenAt
-  at n l = y .given n l
+  module _ {v : Versioned} (e : v ≡ versionedFor (givenAt ws r versionGroup)) where
+    pub version-said : {n : Versioning} → v ≡ versioneds.Value n → (readOf (found versionGroup) ≡ true) × (versioning (givenIn f ws) ≡ n)
+    unfolding versioning versionBy
+    version-said h = versioned-value (found versionGroup) (rw (y .given versionGroup (omega arith)) e) h
 
-  pub in-group : (n : ℕ) → n < 6 → InGroup n (option n)
-  unfolding groupOf numbered
-  in-group n l h = given-group n (givenIn i ws) (numbered ws (option n) (operand n)) (at n l ∙ option-some ws (option n) (operand n) h)
+    pub version-refused : v ≡ versioneds.Refused → readOf (found versionGroup) ≡ false
+    version-refused h = versioned-refused (found versionGroup) (rw (y .given versionGroup (omega arith)) e) h
 
-  module _ {v : Versioned} (e : v ≡ versionedFor (optionAt ws (option 2) (operand 2))) where
-    pub version-said : {n : Versioning} → v ≡ versioneds.Value n → (orElse (found 2) true readableOperand ≡ true) × (versioning (givenIn i ws) ≡ n)
-    unfolding versioning
-    version-said h = versioned-value (found 2) (rw (at 2 (omega arith)) e) h
-
-    pub version-refused : v ≡ versioneds.Refused → orElse (found 2) true readableOperand ≡ false
-    version-refused h = versioned-refused (found 2) (rw (at 2 (omega arith)) e) h
-
-  pub condition-said : condition (givenIn i ws) ≡ conditionFor (option 1)
-  unfolding condition conditionFor optionAt numbered orElse
-  condition-said = rw (at 1 (omega arith)) (go (ltb (option 1) 12))
+  pub condition-said : condition (givenIn f ws) ≡ conditionFor (said conditionGroup)
+  unfolding condition conditionFor conditionOf optionAt numbered kindIn orElse
+  condition-said = rw (y .given conditionGroup (omega arith)) (go (ltb (said conditionGroup) notGiven))
     where
       go : (t : Bool)
-          → orElse (cond t (some (numbered ws (option 1) (operand 1))) none) conditions.Always (λ g. conditionOf (g .meaning))
-          ≡ cond t (conditionOf (meaningOf (option 1))) conditions.Always
+          → orElse (cond t (some (numbered ws conditionGroup (said conditionGroup) (operand conditionGroup))) none) conditions.Always (λ g. conditionOf (g .kind))
+          ≡ cond t (conditionOf (kindIn conditionGroup (said conditionGroup))) conditions.Always
       go true = refl
       go false = refl
 
   -- what takes no operand has none to be read
-  pub bare-read : (n : ℕ) → n < 6 → allBelow (bare n) 12 ≡ true → orElse (found n) true readableOperand ≡ true
-  unfolding orElse bare isSome takesOperand readableOperand numbered
-  bare-read n l h = rw (at n l) (go (ltb (option n) 12) refl)
+  pub bare-read : (n : ℕ) → n < groupCount → ((s : ℕ) → operandRange (kindIn n s) ≡ none) → readOf (found n) ≡ true
+  unfolding readOf orElse readableOperand numbered
+  bare-read n l h = rw (y .given n l) (go (ltb (said n) notGiven) refl)
     where
-      without : (o : Option Range) (w : Word) → not (isSome o) ≡ true → orElse o true (λ q. readable q w) ≡ true
-      without none w e = refl
-      without (some q) w e = absurd (false≢true e)
-
-      taken : option n < 12 → not (takesOperand (option n)) ≡ true
-      taken m =
-          let t : not (eqb (groupOf (option n)) n) || not (takesOperand (option n)) ≡ true = below-at (bare n) 12 h (option n) m in
-          rw (eq-eqb (groupOf (option n)) n (in-group n l m)) at t
-
-      go : (t : Bool) → ltb (option n) 12 ≡ t → orElse (optionAt ws (option n) (operand n)) true readableOperand ≡ true
-      go true q =
-          rw (option-some ws (option n) (operand n) (ltb-true (option n) 12 q))
-          (without (operandRange (meaningOf (option n))) (cond (takesOperand (option n)) (wordAt (operand n) ws) []) (taken (ltb-true (option n) 12 q)))
-      go false q = rw (option-none ws (option n) (operand n) (ltb-false (option n) 12 q))
+      go : (t : Bool) → ltb (said n) notGiven ≡ t → readOf (optionAt ws n (said n) (operand n)) ≡ true
+      go true q = rw (option-some ws n (said n) (operand n) (ltb-true (said n) notGiven q), h (said n))
+      go false q = rw (option-none ws n (said n) (operand n) (ltb-false (said n) notGiven q))
 
   -- a bound that was read, or that was not given
-  module _ (n : ℕ) (l : n < 6) (m : option n < 12 → meaningOf (option n) ≡ bound n) (u : Signed) where
-    abbrev read : Integer
-    read = boundFor u (option n) (wordAt (operand n) ws)
+  module _ (n : ℕ) (l : n < groupCount) (m : (s : ℕ) → kindIn n s ≡ bound n) (u : Signed) where
+    abbrev number : Option ℤ
+    number = readInteger lowest64 highest64 (wordAt (operand n) ws)
 
-    given-bound : option n < 12 → found n ≡ some (record { meaning = bound n; operand = wordAt (operand n) ws })
-    unfolding operandRange
-    given-bound h = at n l ∙ option-some ws (option n) (operand n) h ∙ ap some (operand-word ws (option n) (operand n) (bound n) (m h) signed64 refl)
+    given-bound : said n < notGiven → found n ≡ some (bound n with wordAt (operand n) ws)
+    unfolding numbered operandRange isSome
+    given-bound h = y .given n l ∙ option-some ws n (said n) (operand n) h ∙ rw (m (said n))
 
-    given-none : 12 ≤ option n → found n ≡ none
-    given-none h = at n l ∙ option-none ws (option n) (operand n) h
+    given-none : notGiven ≤ said n → found n ≡ none
+    given-none h = y .given n l ∙ option-none ws n (said n) (operand n) h
 
-    pub bound-readable : hasRead read ≡ orElse (found n) true readableOperand
-    unfolding boundFor orElse readableOperand operandRange readable readIn hasRead
-    bound-readable = go (ltb (option n) 12) refl
+    pub bound-readable : hasRead (boundGiven u n ws r) ≡ readOf (found n)
+    unfolding boundGiven boundFor readOf orElse readableOperand operandRange readable readIn hasRead
+    bound-readable = go (ltb (said n) notGiven) refl
       where
-        go : (t : Bool) → ltb (option n) 12 ≡ t → hasRead (cond t (integerFor (readInteger lowest64 highest64 (wordAt (operand n) ws))) (integers.Value u)) ≡ orElse (found n) true readableOperand
-        go true q = rw (given-bound (ltb-true (option n) 12 q)) (integer-read (readInteger lowest64 highest64 (wordAt (operand n) ws)))
-        go false q = rw (given-none (ltb-false (option n) 12 q))
+        go : (t : Bool) → ltb (said n) notGiven ≡ t → hasRead (cond t (integerFor number) (integers.Value u)) ≡ readOf (found n)
+        go true q = rw (given-bound (ltb-true (said n) notGiven q)) (integer-read number)
+        go false q = rw (given-none (ltb-false (said n) notGiven q))
 
-    pub bound-said : {b : Integer} {z : Signed} → b ≡ read → b ≡ integers.Value z → boundIn n (integerOf u) (givenIn i ws) ≡ integerOf z
-    unfolding boundFor boundIn orElse numberIn readIn
-    bound-said {b} {z} eb e = go (ltb (option n) 12) refl (sym eb ∙ e)
+    pub bound-said : {z : Signed} → boundGiven u n ws r ≡ integers.Value z → boundIn n (integerOf u) (givenIn f ws) ≡ integerOf z
+    unfolding boundGiven boundFor boundIn orElse numberIn readIn
+    bound-said {z} e = go (ltb (said n) notGiven) refl e
       where
-        go : (t : Bool) → ltb (option n) 12 ≡ t → cond t (integerFor (readInteger lowest64 highest64 (wordAt (operand n) ws))) (integers.Value u) ≡ integers.Value z
+        go : (t : Bool) → ltb (said n) notGiven ≡ t → cond t (integerFor number) (integers.Value u) ≡ integers.Value z
             → orElse (found n) (integerOf u) (λ g. numberIn signed64 (g .operand)) ≡ integerOf z
-        go true q k = rw (given-bound (ltb-true (option n) 12 q)) (integer-value (readInteger lowest64 highest64 (wordAt (operand n) ws)) z k)
+        go true q k = rw (given-bound (ltb-true (said n) notGiven q)) (integer-value number z k)
         go false q k =
             let same : u ≡ z = cc in
-            rw (given-none (ltb-false (option n) 12 q), same)
+            rw (given-none (ltb-false (said n) notGiven q), same)
 
   -- what the options say of the version and the expiry, where these two are what is left to be read
-  module _ (time : ℕ) {m : Terms} (e : m ≡ termsFor time (givenAt ws (r .options) (r .operands) 0) (givenAt ws (r .options) (r .operands) 2))
-      (left : allRead i ws ≡ orElse (found 0) true readableOperand && orElse (found 2) true readableOperand)
-      (zero : zeroVersion time i ws ≡ isZero (versioning (givenIn i ws))) (late : tooLate time i ws ≡ beyond (lifetime time (givenIn i ws))) where
-    abbrev judged : Bool → Bool → Bool → Terms
-    judged a c d =
-        cond a (cond c (terms.Refused 17) (cond d (terms.Refused 18) (terms.Value (versioning (givenIn i ws)) (lifetime time (givenIn i ws))))) (terms.Refused 16)
+  module _ (time : ℕ) {m : Terms} (e : m ≡ termsFor time (givenAt ws r expiryGroup) (givenAt ws r versionGroup))
+      (left : allRead f ws ≡ readOf (found expiryGroup) && readOf (found versionGroup))
+      (zero : zeroVersion time f ws ≡ isZero (versioning (givenIn f ws))) (late : tooLate time f ws ≡ beyond (lifetime time (givenIn f ws))) where
+    abbrev outcome : Option ℕ
+    outcome = lowest (termChecks time (found expiryGroup) (found versionGroup))
 
-    terms-judged : m ≡ judged (allRead i ws) (zeroVersion time i ws) (tooLate time i ws)
-    unfolding termsFor versioning lifetime
-    terms-judged = rw (left, zero, late, y .given 0 (omega arith), y .given 2 (omega arith)) e
+    -- the checks from 16 on are those of the terms
+    rest-terms : parseRest time f ws ≡ orElse outcome (accepted (saidBy time f ws)) refused
+    unfolding parseRest laterChecks termChecks versioning versionBy lifetime lifetimeBy
+    rest-terms =
+        let same : refusal time f ws ≡ outcome = check-passed _ _ (y .clean) ∙ rw (left, zero, late) in
+        rw same
 
-    pub terms-refused : (n : ℕ) → m ≡ terms.Refused n → meant ws (parses.Refused n) ≡ parseRest time i ws
-    terms-refused n h = go (allRead i ws) (zeroVersion time i ws) (tooLate time i ws) refl refl refl (sym terms-judged ∙ h)
+    terms-so : m ≡ orElse outcome (terms.Value (versioning (givenIn f ws)) (lifetime time (givenIn f ws))) terms.Refused
+    unfolding termsFor versioning versionBy lifetime lifetimeBy
+    terms-so = rw (y .given expiryGroup (omega arith), y .given versionGroup (omega arith)) e
+
+    pub terms-refused : (n : ℕ) → m ≡ terms.Refused n → meant ws (parses.Refused n) ≡ parseRest time f ws
+    unfolding orElse meant
+    terms-refused n h = rw rest-terms (go outcome (sym terms-so ∙ h))
       where
-        go : (a c d : Bool) → allRead i ws ≡ a → zeroVersion time i ws ≡ c → tooLate time i ws ≡ d → judged a c d ≡ terms.Refused n → meant ws (parses.Refused n) ≡ parseRest time i ws
-        go false c d p q k z =
-            let same : 16 ≡ n = cc in
-            rw (← same) (rest-16 time i ws (y .clean) p)
-        go true true d p q k z =
-            let same : 17 ≡ n = cc in
-            rw (← same) (rest-17 time i ws (y .clean) p q)
-        go true false true p q k z =
-            let same : 18 ≡ n = cc in
-            rw (← same) (rest-18 time i ws (y .clean) p q k)
-        go true false false p q k z = let o : _≡_ {A = ℕ} 0 1 = cc in absurd (omega arith)
+        go : (o : Option ℕ) → orElse o (terms.Value (versioning (givenIn f ws)) (lifetime time (givenIn f ws))) terms.Refused ≡ terms.Refused n
+            → refused n ≡ orElse o (accepted (saidBy time f ws)) refused
+        go none k = impossible cc
+        go (some j) k = cc
 
     pub terms-said : {v : Versioning} {l : Lifetime} → m ≡ terms.Value v l
-        → (accepted (saidBy time i ws) ≡ parseRest time i ws) × (versioning (givenIn i ws) ≡ v) × (lifetime time (givenIn i ws) ≡ l)
-    terms-said {v} {l} h = go (allRead i ws) (zeroVersion time i ws) (tooLate time i ws) refl refl refl (sym terms-judged ∙ h)
+        → (accepted (saidBy time f ws) ≡ parseRest time f ws) × (versioning (givenIn f ws) ≡ v) × (lifetime time (givenIn f ws) ≡ l)
+    unfolding orElse
+    terms-said {v} {l} h = rw rest-terms (go outcome (sym terms-so ∙ h))
       where
-        go : (a c d : Bool) → allRead i ws ≡ a → zeroVersion time i ws ≡ c → tooLate time i ws ≡ d → judged a c d ≡ terms.Value v l
-            → (accepted (saidBy time i ws) ≡ parseRest time i ws) × (versioning (givenIn i ws) ≡ v) × (lifetime time (givenIn i ws) ≡ l)
-        go false c d p q k z = let o : _≡_ {A = ℕ} 0 1 = cc in absurd (omega arith)
-        go true true d p q k z = let o : _≡_ {A = ℕ} 0 1 = cc in absurd (omega arith)
-        go true false true p q k z = let o : _≡_ {A = ℕ} 0 1 = cc in absurd (omega arith)
-        go true false false p q k z = (rest-said time i ws (y .clean) p q k, cc, cc)
+        go : (o : Option ℕ) → orElse o (terms.Value (versioning (givenIn f ws)) (lifetime time (givenIn f ws))) terms.Refused ≡ terms.Value v l
+            → (accepted (saidBy time f ws) ≡ orElse o (accepted (saidBy time f ws)) refused) × (versioning (givenIn f ws) ≡ v) × (lifetime time (givenIn f ws) ≡ l)
+        go none k = (refl, cc, cc)
+        go (some j) k = impossible cc

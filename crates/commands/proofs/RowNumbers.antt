@@ -3,49 +3,77 @@ use mathlib.Core.Path.{_≡_, refl, sym, ap, _∙_}
 use mathlib.Core.Bool.{Bool, true, false, cond, not, _&&_}
 use mathlib.Core.List.{List, [], _∷_, _++_, map, flatMap, append-assoc}
 use mathlib.Core.Option.{Option, none, some, Option·map, Option·none-ne-some}
-use Prim.Native.Nat.{ℕ, zero, suc, _+_, _-_, _*_, _/_, _<_}
+use Prim.Native.Nat.{ℕ, zero, suc, _+_, _-_, _*_, _/_, _≤_, _<_}
 use Prim.Native.String.{String}
+use native.Mathlib.Nat.{not-suc-le-zero}
 use native.Mathlib.Omega.{arith}
-use borrow.Author.Tests.{ltb-true, not-true}
-use lib.Dec.{ltb, eqb}
-use lib.ListN.{length, getD, drop, replicate, length-append, length-replicate}
+use borrow.Author.Tests.{ltb-true, leb-true, not-true}
+use lib.Dec.{leb, ltb, eqb}
+use lib.ListN.{length, getD, drop, replicate, length-append, List·getD-append, List·getD-map}
 use lib.Seq.{getD-at, getD-append-add, drop-at, take-append-seam}
 use Rattle.wire.specs.Lists.{all, any, onlyIf, orElse}
 use Rattle.wire.specs.Bytes.{part, padded, same, text, upper, spells}
 use Rattle.wire.specs.Words.{Word}
-use Rattle.wire.specs.Promises.{nameIn, rowFrom, rowNamed, Table}
-use Rattle.wire.proofs.Lists.{and-left, and-right}
-use Rattle.wire.proofs.Bytes.{same-true}
-use Rattle.commands.specs.Options.{OptionRow, Meaning, options, group, optionNamed}
-use Rattle.commands.specs.Parse.{CommandRow, commands, commandNamed}
-use Rattle.commands.specs.ParsePromises.{nameRow, commandTable, optionTable, meaningOf, groupOf}
+use Rattle.wire.specs.Promises.{nameSize, dataSize, rowSize, nameIn, rowFrom, rowNamed, datumIn, Table}
+use Rattle.wire.proofs.Lists.{and-left, and-right, all-at}
+use Rattle.wire.proofs.Bytes.{same-true, length-padded, padded-at}
+use Rattle.commands.specs.Options.{OptionRow, OptionKind, _means_, options, optionCount, groupCount, group, optionNamed}
+use Rattle.commands.specs.Options.OptionKind.{noExp}
+use Rattle.commands.specs.Parse.{CommandRow, row, commands, commandCount, commandNamed}
+use Rattle.commands.specs.Parse.Count.{atLeast}
+use Rattle.commands.specs.Parse.Form.{setForm}
+use Rattle.commands.specs.Tables.{nameRow, familyOf, unitNumber, unitOf, questionNumber, questionOf, listingNumber, listingOf, argumentOf, formOf, leastOf, moreOf, namesOf, commandData, commandTable, commandOf, conditionNumber, versioningNumber, saidOf, expiryKind, conditionBy, versioningBy, kindIn, sizeOf, optionData, optionTable, optionOf}
+use Rattle.commands.specs.ParsePromises.{notGiven}
 use Rattle.commands.proofs.Computing.{computing}
+
+-- to compute with the tables
+unfoldable pub tables : Unit {0}
+unfolding computing nameRow familyOf unitNumber questionNumber listingNumber argumentOf leastOf moreOf namesOf commandData unitOf questionOf listingOf formOf conditionNumber versioningNumber saidOf sizeOf optionData expiryKind conditionBy versioningBy kindIn
+tables = tt
 
 -- ---- rows of names
 
 -- a name fits its row
 abbrev pub Short : String → Type 0
-Short t = length (text t) < 16
+Short t = length (text t) < nameSize
 
-length-row : (t : String) → Short t → length (nameRow t) ≡ 16
-unfolding nameRow padded
-length-row t l = rw (length-append, length-replicate) (omega arith)
+-- a name and numbers that fit their row
+module _ (t : String) (numbers : List ℕ) (short : Short t) (few : length numbers ≤ dataSize) where
+  length-name : length (padded nameSize (length (text t) ∷ text t)) ≡ nameSize
+  length-name = length-padded nameSize (length (text t) ∷ text t) short
 
--- the name of the row after i rows
-name-row : (before after : List ℕ) (i : ℕ) (t : String) → length before ≡ 16 * i → nameIn (before ++ (nameRow t ++ after)) i ≡ text t
-unfolding nameIn part nameRow padded
-name-row before after i t n =
-    let zeros : List ℕ = replicate (15 - length (text t)) 0 in
-    let row : List ℕ = (text t ++ zeros) ++ after in
-    let size : getD (before ++ length (text t) ∷ row) (16 * i) 0 ≡ length (text t) = getD-at before (length (text t)) row 0 (16 * i) n in
-    let front : length (before ++ (length (text t) ∷ [])) ≡ 16 * i + 1 = rw length-append (omega arith) in
-    let split : before ++ length (text t) ∷ row ≡ (before ++ (length (text t) ∷ [])) ++ row = sym (append-assoc before (length (text t) ∷ []) row) in
-    let rest : drop (16 * i + 1) (before ++ length (text t) ∷ row) ≡ row = rw split (drop-at (before ++ (length (text t) ∷ [])) row (16 * i + 1) front) in
-    rw (size, rest, append-assoc) (take-append-seam (text t) (zeros ++ after))
+  length-row : length (nameRow t numbers) ≡ rowSize
+  unfolding nameRow
+  length-row = rw length-append (omega (arith, length-name, length-padded dataSize numbers few))
 
-module _ {A : Type 0} (name : A → String) where
+  -- the name of the row after i rows
+  name-row : (before after : List ℕ) (i : ℕ) → length before ≡ rowSize * i → nameIn (before ++ (nameRow t numbers ++ after)) i ≡ text t
+  unfolding nameIn part nameRow padded
+  name-row before after i n =
+      let size : ℕ = length (text t) in
+      let zeros : List ℕ = replicate (nameSize - suc size) 0 in
+      let nums : List ℕ = padded dataSize numbers in
+      let rest : List ℕ = ((text t ++ zeros) ++ nums) ++ after in
+      let here : getD (before ++ size ∷ rest) (rowSize * i) 0 ≡ size = getD-at before size rest 0 (rowSize * i) n in
+      let front : length (before ++ (size ∷ [])) ≡ rowSize * i + 1 = rw length-append (omega arith) in
+      let split : before ++ size ∷ rest ≡ (before ++ (size ∷ [])) ++ rest = sym (append-assoc before (size ∷ []) rest) in
+      let behind : drop (rowSize * i + 1) (before ++ size ∷ rest) ≡ rest = rw split (drop-at (before ++ (size ∷ [])) rest (rowSize * i + 1) front) in
+      let flat : rest ≡ text t ++ (zeros ++ (nums ++ after)) = simp append-assoc in
+      rw (here, behind, flat) (take-append-seam (text t) (zeros ++ (nums ++ after)))
+
+  -- its numbers
+  datum-row : (after : List ℕ) (k : ℕ) → k < dataSize → getD (nameRow t numbers ++ after) (nameSize + k) 0 ≡ getD numbers k 0
+  unfolding nameRow
+  datum-row after k l =
+      let front : List ℕ = padded nameSize (length (text t) ∷ text t) in
+      let nums : List ℕ = padded dataSize numbers in
+      let n : nameSize + k ≡ length front + k = omega (arith, length-name) in
+      let inside : k < length nums = omega (arith, length-padded dataSize numbers few) in
+      rw (append-assoc front nums after, n, getD-append-add front (nums ++ after) k 0, List·getD-append nums after 0 k inside) (padded-at dataSize numbers k)
+
+module _ {A : Type 0} (name : A → String) (numbers : A → List ℕ) where
   unfoldable pub tableOf : List A → List ℕ
-  tableOf rows = flatMap (λ r. nameRow (name r)) rows
+  tableOf rows = flatMap (λ r. nameRow (name r) (numbers r)) rows
 
   -- the first row whose name a word spells, and its number, counted from i
   unfoldable pub named : List A → Word → Option A
@@ -60,50 +88,81 @@ module _ {A : Type 0} (name : A → String) where
       let later : Option ℕ = numberFrom (suc i) rs w in
       cond (spells (name r) w) (some i) later
 
-  unfoldable pub allShort : List A → Bool
-  allShort rows = all (λ r. ltb (length (text (name r))) 16) rows
+  abbrev fits : A → Bool
+  fits r = ltb (length (text (name r))) nameSize && leb (length (numbers r)) dataSize
 
-  row-short : (r : A) (rs : List A) → allShort (r ∷ rs) ≡ true → Short (name r)
-  unfolding allShort all
-  row-short r rs h = ltb-true (length (text (name r))) 16 (and-left (ltb (length (text (name r))) 16) (allShort rs) h)
+  unfoldable pub allFit : List A → Bool
+  allFit rows = all fits rows
 
-  later-short : (r : A) (rs : List A) → allShort (r ∷ rs) ≡ true → allShort rs ≡ true
-  unfolding allShort all
-  later-short r rs h = and-right (ltb (length (text (name r))) 16) (allShort rs) h
+  module _ (r : A) (rs : List A) (h : allFit (r ∷ rs) ≡ true) where
+    row-fits : fits r ≡ true
+    unfolding allFit all
+    row-fits = and-left (fits r) (allFit rs) h
+
+    later-fit : allFit rs ≡ true
+    unfolding allFit all
+    later-fit = and-right (fits r) (allFit rs) h
+
+    row-short : Short (name r)
+    row-short = ltb-true (length (text (name r))) nameSize (and-left (ltb (length (text (name r))) nameSize) (leb (length (numbers r)) dataSize) row-fits)
+
+    row-few : length (numbers r) ≤ dataSize
+    row-few = leb-true (length (numbers r)) dataSize (and-right (ltb (length (text (name r))) nameSize) (leb (length (numbers r)) dataSize) row-fits)
+
+    row-length : length (nameRow (name r) (numbers r)) ≡ rowSize
+    row-length = length-row (name r) (numbers r) row-short row-few
+
+    -- what stands behind the row
+    row-after : (n m : ℕ) → n ≡ rowSize + m → getD (tableOf (r ∷ rs)) n 0 ≡ getD (tableOf rs) m 0
+    unfolding tableOf flatMap
+    row-after n m e =
+        let bytes : List ℕ = nameRow (name r) (numbers r) in
+        let at : n ≡ length bytes + m = omega (arith, row-length) in
+        rw at (getD-append-add bytes (tableOf rs) m 0)
+
+    -- the length of its name stands at its start
+    row-first : getD (tableOf (r ∷ rs)) 0 0 < nameSize
+    unfolding tableOf flatMap nameRow padded
+    row-first = row-short
 
   -- the rows of the bytes are the rows of the list
-  rows-from : (rows : List A) (w : Word) (before : List ℕ) (i : ℕ) → length before ≡ 16 * i → allShort rows ≡ true
+  rows-from : (rows : List A) (w : Word) (before : List ℕ) (i : ℕ) → length before ≡ rowSize * i → allFit rows ≡ true
       → rowFrom (length rows) i (before ++ tableOf rows) w ≡ numberFrom i rows w
   unfolding rowFrom numberFrom tableOf flatMap spells
   rows-from [] w before i n h = refl
   rows-from (r ∷ rs) w before i n h =
-      let size : length (before ++ nameRow (name r)) ≡ 16 * suc i = rw (length-append, length-row (name r) (row-short r rs h)) (omega arith) in
-      let later : rowFrom (length rs) (suc i) ((before ++ nameRow (name r)) ++ tableOf rs) w ≡ numberFrom (suc i) rs w = rows-from rs w (before ++ nameRow (name r)) (suc i) size (later-short r rs h) in
-      let assoc : (before ++ nameRow (name r)) ++ tableOf rs ≡ before ++ (nameRow (name r) ++ tableOf rs) = append-assoc before (nameRow (name r)) (tableOf rs) in
-      rw (name-row before (tableOf rs) i (name r) n, ← assoc, later)
+      let bytes : List ℕ = nameRow (name r) (numbers r) in
+      let size : length (before ++ bytes) ≡ rowSize * suc i = rw length-append (omega (arith, row-length r rs h)) in
+      let later : rowFrom (length rs) (suc i) ((before ++ bytes) ++ tableOf rs) w ≡ numberFrom (suc i) rs w = rows-from rs w (before ++ bytes) (suc i) size (later-fit r rs h) in
+      let assoc : (before ++ bytes) ++ tableOf rs ≡ before ++ (bytes ++ tableOf rs) = append-assoc before bytes (tableOf rs) in
+      rw (name-row (name r) (numbers r) (row-short r rs h) (row-few r rs h) before (tableOf rs) i n, ← assoc, later)
 
-  length-table : (rows : List A) → allShort rows ≡ true → length (tableOf rows) ≡ 16 * length rows
+  length-table : (rows : List A) → allFit rows ≡ true → length (tableOf rows) ≡ rowSize * length rows
   unfolding tableOf flatMap
   length-table [] h = refl
-  length-table (r ∷ rs) h = rw (length-append, length-row (name r) (row-short r rs h)) (omega (arith, length-table rs (later-short r rs h)))
+  length-table (r ∷ rs) h = rw length-append (omega (arith, row-length r rs h, length-table rs (later-fit r rs h)))
 
-  row-number : (rows : List A) (w : Word) → allShort rows ≡ true → rowNamed (tableOf rows) w ≡ numberFrom 0 rows w
+  pub table-rows : (rows : List A) → allFit rows ≡ true → length (tableOf rows) / rowSize ≡ length rows
+  table-rows rows h = omega (arith, length-table rows h)
+
+  row-number : (rows : List A) (w : Word) → allFit rows ≡ true → rowNamed (tableOf rows) w ≡ numberFrom 0 rows w
   unfolding rowNamed
-  row-number rows w h =
-      let n : length (tableOf rows) / 16 ≡ length rows = omega (arith, length-table rows h) in
-      rw n (rows-from rows w [] 0 refl h)
+  row-number rows w h = rw (table-rows rows h) (rows-from rows w [] 0 refl h)
 
-  -- the length of a row's name stands at its start, and past the rows is nothing
-  short-from : (rows : List A) (i : ℕ) → allShort rows ≡ true → getD (tableOf rows) (16 * i) 0 < 16
-  unfolding tableOf flatMap nameRow
+  short-from : (rows : List A) (i : ℕ) → allFit rows ≡ true → getD (tableOf rows) (rowSize * i) 0 < nameSize
+  unfolding tableOf flatMap
   short-from [] i h = omega arith
-  short-from (r ∷ rs) zero h = row-short r rs h
-  short-from (r ∷ rs) (suc i) h =
-      let n : 16 * suc i ≡ length (nameRow (name r)) + 16 * i = rw (length-row (name r) (row-short r rs h)) (omega arith) in
-      let e : getD (nameRow (name r) ++ tableOf rs) (16 * suc i) 0 ≡ getD (tableOf rs) (16 * i) 0 = rw n (getD-append-add (nameRow (name r)) (tableOf rs) (16 * i) 0) in
-      rw e (short-from rs i (later-short r rs h))
+  short-from (r ∷ rs) zero h = row-first r rs h
+  short-from (r ∷ rs) (suc i) h = omega (arith, short-from rs i (later-fit r rs h), row-after r rs h (rowSize * suc i) (rowSize * i) (omega arith))
 
-  pub table-of : (rows : List A) → allShort rows ≡ true → Table (tableOf rows)
+  -- number k of row i
+  pub datum-from : (rows : List A) (d : A) (i k : ℕ) → allFit rows ≡ true → i < length rows → k < dataSize → datumIn (tableOf rows) i k ≡ getD (numbers (getD rows i d)) k 0
+  unfolding datumIn tableOf flatMap
+  datum-from [] d i k h l m = absurd (not-suc-le-zero l)
+  datum-from (r ∷ rs) d zero k h l m = datum-row (name r) (numbers r) (row-short r rs h) (row-few r rs h) (tableOf rs) k m
+  datum-from (r ∷ rs) d (suc i) k h l m = row-after r rs h (rowSize * suc i + nameSize + k) (rowSize * i + nameSize + k) (omega arith) ∙ datum-from rs d i k (later-fit r rs h) (omega arith) m
+
+  pub table-of : (rows : List A) → allFit rows ≡ true → Table (tableOf rows)
   table-of rows h = record { whole = omega (arith, length-table rows h); short = λ i. short-from rows i h }
 
   -- a number says the row
@@ -122,7 +181,7 @@ module _ {A : Type 0} (name : A → String) where
       go true e later = ap some e
       go false e later = later
 
-  pub row-named : (rows : List A) (w : Word) (d : A) → allShort rows ≡ true
+  pub row-named : (rows : List A) (w : Word) (d : A) → allFit rows ≡ true
       → Option·map (λ k. getD rows k d) (rowNamed (tableOf rows) w) ≡ named rows w
   row-named rows w d h = rw (row-number rows w h) (number-row rows [] w 0 d refl)
 
@@ -138,43 +197,110 @@ module _ {A : Type 0} (name : A → String) where
           omega arith
       go false later e = omega (arith, later e)
 
-  pub row-below : (rows : List A) (w : Word) (k : ℕ) → allShort rows ≡ true → rowNamed (tableOf rows) w ≡ some k → k < length rows
-  row-below rows w k h e = omega (arith, number-below rows w 0 k (rw (row-number rows w h) at e))
+  pub number-inside : (rows : List A) (w : Word) (k : ℕ) → allFit rows ≡ true → rowNamed (tableOf rows) w ≡ some k → k < length rows
+  number-inside rows w k h e = omega (arith, number-below rows w 0 k (rw (row-number rows w h) at e))
 
 -- ---- the tables
 
-commands-short : allShort (λ (r : CommandRow). r .name) commands ≡ true
-unfolding allShort computing
-commands-short = refl
+commands-fit : allFit (λ r. r .name) commandData commands ≡ true
+unfolding allFit tables
+commands-fit = refl
 
-options-short : allShort (λ (r : OptionRow). r .name) options ≡ true
-unfolding allShort computing
-options-short = refl
+options-fit : allFit (λ r. r .name) optionData options ≡ true
+unfolding allFit tables
+options-fit = refl
+
+-- as many rows as there are said to be
+commands-counted : length commands ≡ commandCount
+unfolding commands
+commands-counted = refl
+
+options-counted : length options ≡ optionCount
+unfolding options
+options-counted = refl
 
 -- the bytes of the rows are a table
 pub command-table : Table commandTable
 unfolding tableOf commandTable
-command-table = table-of (λ (r : CommandRow). r .name) commands commands-short
+command-table = table-of (λ r. r .name) commandData commands commands-fit
 
 pub option-table : Table optionTable
 unfolding tableOf optionTable
-option-table = table-of (λ (r : OptionRow). r .name) options options-short
+option-table = table-of (λ r. r .name) optionData options options-fit
+
+-- the numbers of a row
+module _ (i k : ℕ) where
+  pub command-inside : i < commandCount → i < length commandTable / rowSize
+  unfolding tableOf commandTable
+  command-inside l = omega (arith, table-rows (λ r. r .name) commandData commands commands-fit, commands-counted)
+
+  pub command-datum : i < commandCount → k < dataSize → datumIn commandTable i k ≡ getD (commandData (commandOf i)) k 0
+  unfolding tableOf commandTable commandOf
+  command-datum l = datum-from (λ r. r .name) commandData commands (row "EXHSET" (atLeast 4) setForm) i k commands-fit (omega (arith, commands-counted))
+
+  pub option-inside : i < optionCount → i < length optionTable / rowSize
+  unfolding tableOf optionTable
+  option-inside l = omega (arith, table-rows (λ r. r .name) optionData options options-fit, options-counted)
+
+  pub option-datum : i < optionCount → k < dataSize → datumIn optionTable i k ≡ getD (optionData (optionOf i)) k 0
+  unfolding tableOf optionTable optionOf
+  option-datum l = datum-from (λ r. r .name) optionData options ("NOEXP" means noExp) i k options-fit (omega (arith, options-counted))
+
+-- ---- what a row's numbers mean
+
+-- a row's form follows from its family and its argument
+forms-back : map (λ r. formOf (familyOf (r .form)) (argumentOf (r .form))) commands ≡ map (λ r. r .form) commands
+unfolding tables
+forms-back = refl
+
+pub row-form : (i : ℕ) → commandOf i .form ≡ formOf (familyOf (commandOf i .form)) (argumentOf (commandOf i .form))
+unfolding commandOf formOf familyOf argumentOf
+row-form i =
+    let first : CommandRow = row "EXHSET" (atLeast 4) setForm in
+    sym (List·getD-map (λ r. r .form) commands i first)
+    ∙ ap (λ l. getD l i setForm) (sym forms-back)
+    ∙ List·getD-map (λ r. formOf (familyOf (r .form)) (argumentOf (r .form))) commands i first
+
+-- an option follows from its group and what it says
+kinds-back : map (λ r. kindIn (group (r .kind)) (saidOf (r .kind))) options ≡ map (λ r. r .kind) options
+unfolding tables
+kinds-back = refl
+
+pub row-kind : (i : ℕ) → kindIn (group (optionOf i .kind)) (saidOf (optionOf i .kind)) ≡ optionOf i .kind
+unfolding optionOf kindIn group
+row-kind i =
+    let last : OptionRow = "NOEXP" means noExp in
+    sym (List·getD-map (λ r. kindIn (group (r .kind)) (saidOf (r .kind))) options i last)
+    ∙ ap (λ l. getD l i noExp) kinds-back
+    ∙ List·getD-map (λ r. r .kind) options i last
+
+-- its group is one of the groups, and what it says is no mark that none was given
+options-below : all (λ r. ltb (group (r .kind)) groupCount && ltb (saidOf (r .kind)) notGiven) options ≡ true
+unfolding tables
+options-below = refl
+
+pub row-below : (i : ℕ) → i < optionCount → (group (optionOf i .kind) < groupCount) × (saidOf (optionOf i .kind) < notGiven)
+unfolding optionOf
+row-below i l =
+    let m : OptionKind = optionOf i .kind in
+    let t : ltb (group m) groupCount && ltb (saidOf m) notGiven ≡ true = all-at (λ r. ltb (group (r .kind)) groupCount && ltb (saidOf (r .kind)) notGiven) options ("NOEXP" means noExp) options-below i (omega (arith, options-counted)) in
+    (ltb-true (group m) groupCount (and-left (ltb (group m) groupCount) (ltb (saidOf m) notGiven) t), ltb-true (saidOf m) notGiven (and-right (ltb (group m) groupCount) (ltb (saidOf m) notGiven) t))
 
 -- ---- what a row's number means
 
-command-named : (rows : List CommandRow) (w : Word) → commandNamed rows w ≡ named (λ r. r .name) rows w
+command-named : (rows : List CommandRow) (w : Word) → commandNamed rows w ≡ named (λ r. r .name) commandData rows w
 unfolding commandNamed named
 command-named [] w = refl
 command-named (r ∷ rs) w = rw (command-named rs w)
 
 -- the command of a word is the row of its number
-pub command-row : (w : Word) (d : CommandRow) → commandNamed commands w ≡ Option·map (λ i. getD commands i d) (rowNamed commandTable w)
-unfolding tableOf commandTable
-command-row w d = command-named commands w ∙ sym (row-named (λ r. r .name) commands w d commands-short)
+pub command-row : (w : Word) → commandNamed commands w ≡ Option·map commandOf (rowNamed commandTable w)
+unfolding tableOf commandTable commandOf
+command-row w = command-named commands w ∙ sym (row-named (λ r. r .name) commandData commands w (row "EXHSET" (atLeast 4) setForm) commands-fit)
 
-pub command-below : (w : Word) (i : ℕ) → rowNamed commandTable w ≡ some i → i < 23
-unfolding tableOf commandTable computing
-command-below w i e = row-below (λ (r : CommandRow). r .name) commands w i commands-short e
+pub command-below : (w : Word) (i : ℕ) → rowNamed commandTable w ≡ some i → i < commandCount
+unfolding tableOf commandTable
+command-below w i e = omega (arith, commands-counted, number-inside (λ r. r .name) commandData commands w i commands-fit e)
 
 -- no name is another's
 unfoldable distinct : List OptionRow → Bool
@@ -197,41 +323,41 @@ module _ (w : Word) (allowed : List ℕ) where
       let rest : Bool = all (λ p. not (same (text (r .name)) (text (p .name)))) rs in
       rw (n, not-true (same (text (r .name)) (text (q .name))) (and-left this rest h)) (spelled-once r rs e (and-right this rest h))
 
-  abbrev meant : OptionRow → Option Meaning
-  meant r = onlyIf (any (eqb (group (r .meaning))) allowed) (r .meaning)
+  abbrev pub meant : OptionRow → Option OptionKind
+  meant r = onlyIf (any (eqb (group (r .kind))) allowed) (r .kind)
 
-  option-named : (rows : List OptionRow) → distinct rows ≡ true → optionNamed rows allowed w ≡ orElse (named (λ r. r .name) rows w) none meant
+  option-named : (rows : List OptionRow) → distinct rows ≡ true → optionNamed rows allowed w ≡ orElse (named (λ r. r .name) optionData rows w) none meant
   unfolding optionNamed named distinct orElse onlyIf
   option-named [] h = refl
   option-named (r ∷ rs) h =
       let others : Bool = all (λ q. not (same (text (r .name)) (text (q .name)))) rs in
       go
       (spells (r .name) w)
-      (any (eqb (group (r .meaning))) allowed)
+      (any (eqb (group (r .kind))) allowed)
       refl
       refl
       (λ e. spelled-once r rs e (and-left others (distinct rs) h))
       (option-named rs (and-right others (distinct rs) h))
     where
-      go : (t a : Bool) → spells (r .name) w ≡ t → any (eqb (group (r .meaning))) allowed ≡ a → (spells (r .name) w ≡ true → optionNamed rs allowed w ≡ none)
-          → optionNamed rs allowed w ≡ orElse (named (λ q. q .name) rs w) none meant
-          → cond (t && a) (some (r .meaning)) (optionNamed rs allowed w) ≡ orElse (cond t (some r) (named (λ q. q .name) rs w)) none meant
+      go : (t a : Bool) → spells (r .name) w ≡ t → any (eqb (group (r .kind))) allowed ≡ a → (spells (r .name) w ≡ true → optionNamed rs allowed w ≡ none)
+          → optionNamed rs allowed w ≡ orElse (named (λ q. q .name) optionData rs w) none meant
+          → cond (t && a) (some (r .kind)) (optionNamed rs allowed w) ≡ orElse (cond t (some r) (named (λ q. q .name) optionData rs w)) none meant
       go true true e f once later = rw f
       go true false e f once later = rw f (once e)
       go false a e f once later = later
 
   -- the option of a word is the row of its number, where its group is allowed
-  pub option-row : optionNamed options allowed w ≡ orElse (rowNamed optionTable w) none (λ i. onlyIf (any (eqb (groupOf i)) allowed) (meaningOf i))
-  unfolding tableOf optionTable meaningOf groupOf orElse
+  pub option-row : optionNamed options allowed w ≡ orElse (rowNamed optionTable w) none (λ i. meant (optionOf i))
+  unfolding tableOf optionTable optionOf orElse
   option-row =
       option-named options options-distinct
-      ∙ ap (λ o. orElse o none meant) (sym (row-named (λ r. r .name) options w (record { name = "NOEXP"; meaning = Meaning.noExp }) options-short))
+      ∙ ap (λ o. orElse o none meant) (sym (row-named (λ r. r .name) optionData options w ("NOEXP" means noExp) options-fit))
       ∙ go (rowNamed optionTable w)
     where
-      go : (o : Option ℕ) → orElse (Option·map (λ k. getD options k (record { name = "NOEXP"; meaning = Meaning.noExp })) o) none meant ≡ orElse o none (λ i. onlyIf (any (eqb (groupOf i)) allowed) (meaningOf i))
+      go : (o : Option ℕ) → orElse (Option·map optionOf o) none meant ≡ orElse o none (λ i. meant (optionOf i))
       go none = refl
       go (some i) = refl
 
-  pub option-below : (i : ℕ) → rowNamed optionTable w ≡ some i → i < 12
-  unfolding tableOf optionTable computing
-  option-below i e = row-below (λ (r : OptionRow). r .name) options w i options-short e
+pub option-below : (w : Word) (i : ℕ) → rowNamed optionTable w ≡ some i → i < optionCount
+unfolding tableOf optionTable
+option-below w i e = omega (arith, options-counted, number-inside (λ r. r .name) optionData options w i options-fit e)

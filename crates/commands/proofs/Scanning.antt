@@ -1,66 +1,29 @@
 -- The scan of the options, one option after the other.
 use mathlib.Core.Path.{_≡_, refl, sym, ap, _∙_}
-use mathlib.Core.Bool.{Bool, true, false, cond, not, _||_, true≢false, false≢true}
-use mathlib.Core.List.{List, [], _∷_, _++_, map, append-assoc, append-nil}
-use mathlib.Core.Option.{Option, none, some, Option·map, Option·none-ne-some, Option·some-ne-none}
+use mathlib.Core.Bool.{Bool, true, false, cond, not, _||_}
+use mathlib.Core.List.{List, [], _∷_, _++_, append-assoc, append-nil}
+use mathlib.Core.Option.{Option, none, some, Option·map}
 use Prim.Native.Nat.{ℕ, zero, suc, _+_, _≤_, _<_, _-_}
-use native.Mathlib.Nat.{not-suc-le-zero}
 use native.Mathlib.Omega.{arith}
-use borrow.Author.Tests.{lt-ltb, le-ltb, ltb-true, eq-eqb, ne-eqb, eqb-true, eqb-false, ltb-false}
-use lib.Dec.{ltb, eqb}
-use lib.ListN.{length, getD, drop, set, replicate, length-set, List·getD-map, getD-replicate, drop-of-length-le}
+use borrow.Author.Tests.{lt-ltb, le-ltb, eq-eqb, ne-eqb, eqb-true, eqb-false}
+use lib.Dec.{eqb}
+use lib.ListN.{length, getD, drop, set, replicate, length-set, getD-replicate, drop-of-length-le}
 use lib.Seq.{drop-cons, getD-set-same, getD-set-other}
-use Rattle.wire.specs.declared.names.Row.{Row}
-use Rattle.wire.specs.declared.names.Row.the-variants as rows
-use Rattle.wire.specs.Lists.{all, any, isSome, onlyIf, orElse}
-use Rattle.wire.specs.Words.{Word, wordAt}
-use Rattle.wire.specs.Promises.{rowFor, rowNamed}
-use Rattle.wire.proofs.Lists.{or-left, or-right, or-neither, or-late, all-at}
+use Rattle.wire.specs.declared.names.RowFound.{RowFound}
+use Rattle.wire.specs.declared.names.RowFound.the-variants as rows
 use Rattle.wire.specs.declared.places.Next.{Next}
 use Rattle.wire.specs.declared.places.Next.the-variants as nexts
-use Rattle.wire.specs.Promises.{nextOf}
-use Rattle.commands.specs.declared.options.Given as code
-use Rattle.commands.specs.Options.{Meaning, Range, OptionRow, Given, _with_, options, group, operandRange, optionNamed, scan, conflicting, givenOf}
-use Rattle.commands.specs.ParsePromises.{optionTable, meaningOf, groupOf, takesOperand, optionSize, groupsFrom, numbered, optionAt, givenAt, Scanned}
-use Rattle.commands.proofs.RowNumbers.{option-row, option-below}
-
--- ---- options by their number
-
-pub getD-inside : {A : Type 0} (l : List A) (i : ℕ) (d e : A) → i < length l → getD l i d ≡ getD l i e
-getD-inside [] i d e h = absurd (not-suc-le-zero h)
-getD-inside (x ∷ xs) zero d e h = refl
-getD-inside (x ∷ xs) (suc i) d e h = getD-inside xs i d e (omega arith)
-
--- the group of each option, and how many words it is
-unfoldable pub groups : List ℕ
-groups = map (λ r. group (r .meaning)) options
-
-unfoldable pub sizes : List ℕ
-sizes = map (λ r. cond (isSome (operandRange (r .meaning))) 2 1) options
-
-lastRow : OptionRow
-lastRow = record { name = "NOEXP"; meaning = Meaning.noExp }
-
-pub group-at : (i : ℕ) → i < 12 → getD groups i 0 ≡ groupOf i
-unfolding groups groupOf meaningOf options group lastRow
-group-at i l = getD-inside groups i 0 5 l ∙ List·getD-map (λ r. group (r .meaning)) options i lastRow
-
-pub size-at : (i : ℕ) → i < 12 → getD sizes i 0 ≡ optionSize i
-unfolding sizes optionSize takesOperand meaningOf options operandRange isSome lastRow
-size-at i l = getD-inside sizes i 0 1 l ∙ List·getD-map (λ r. cond (isSome (operandRange (r .meaning))) 2 1) options i lastRow
-
-pub group-below : (i : ℕ) → i < 12 → groupOf i < 6
-unfolding groupOf meaningOf options group all lastRow
-group-below i l = ltb-true (groupOf i) 6 (all-at (λ r. ltb (group (r .meaning)) 6) options lastRow refl i l)
-
--- an option is one word or two
-pub size-range : (i : ℕ) → (1 ≤ optionSize i) × (optionSize i ≤ 2)
-unfolding optionSize
-size-range i = go (takesOperand i)
-  where
-    go : (t : Bool) → (1 ≤ cond t 2 1) × (cond t 2 1 ≤ 2)
-    go true = (omega arith, omega arith)
-    go false = (omega arith, omega arith)
+use Rattle.wire.specs.Lists.{any, isSome, onlyIf, orElse}
+use Rattle.wire.specs.Words.{Word, wordAt}
+use Rattle.wire.specs.Promises.{rowFor, rowNamed, nextOf}
+use Rattle.wire.proofs.Lists.{or-left, or-right, or-neither, or-late, both-ways, impossible}
+use Rattle.wire.proofs.Rows.{row-nothing, row-at}
+use Rattle.wire.proofs.Cursor.{next-end, next-at}
+use Rattle.commands.specs.declared.options.ScannedOptions as code
+use Rattle.commands.specs.Options.{OptionKind, Range, Given, _with_, options, optionCount, group, groupCount, operandRange, optionNamed, scan, conflicting, givenOf}
+use Rattle.commands.specs.Tables.{kindIn, sizeOf, optionData, groupAt, saidAt, sizeAt, optionTable, optionOf}
+use Rattle.commands.specs.ParsePromises.{groupsFrom, notGiven, numbered, optionAt, givenAt, Found, Scanned}
+use Rattle.commands.proofs.RowNumbers.{option-row, option-below, row-kind, row-below}
 
 -- ---- the groups that are allowed
 
@@ -108,173 +71,230 @@ any-then p (x ∷ xs) y more e = or-late (p x) (any-then p xs y more e)
 
 module _ (x : Given) where
   -- none of its group was given before
-  given-same : (gs : List Given) → givenOf (group (x .meaning)) gs ≡ none → givenOf (group (x .meaning)) (gs ++ (x ∷ [])) ≡ some x
+  given-same : (gs : List Given) → givenOf (group (x .kind)) gs ≡ none → givenOf (group (x .kind)) (gs ++ (x ∷ [])) ≡ some x
   unfolding givenOf
-  given-same [] h = rw (eq-eqb (group (x .meaning)) (group (x .meaning)) refl)
-  given-same (y ∷ gs) h = go (eqb (group (y .meaning)) (group (x .meaning))) (given-same gs) h
+  given-same [] h = rw (eq-eqb (group (x .kind)) (group (x .kind)) refl)
+  given-same (y ∷ gs) h = go (eqb (group (y .kind)) (group (x .kind))) (given-same gs) h
     where
-      go : (t : Bool) → (givenOf (group (x .meaning)) gs ≡ none → givenOf (group (x .meaning)) (gs ++ (x ∷ [])) ≡ some x)
-          → cond t (some y) (givenOf (group (x .meaning)) gs) ≡ none → cond t (some y) (givenOf (group (x .meaning)) (gs ++ (x ∷ []))) ≡ some x
-      go true later h = absurd (Option·some-ne-none y h)
+      go : (t : Bool) → (givenOf (group (x .kind)) gs ≡ none → givenOf (group (x .kind)) (gs ++ (x ∷ [])) ≡ some x)
+          → cond t (some y) (givenOf (group (x .kind)) gs) ≡ none → cond t (some y) (givenOf (group (x .kind)) (gs ++ (x ∷ []))) ≡ some x
+      go true later h = impossible cc
       go false later h = later h
 
-  given-other : (n : ℕ) (gs : List Given) → eqb (group (x .meaning)) n ≡ false → givenOf n (gs ++ (x ∷ [])) ≡ givenOf n gs
+  given-other : (n : ℕ) (gs : List Given) → eqb (group (x .kind)) n ≡ false → givenOf n (gs ++ (x ∷ [])) ≡ givenOf n gs
   unfolding givenOf
   given-other n [] h = rw h
   given-other n (y ∷ gs) h = rw (given-other n gs h)
 
-  conflict-none : (gs : List Given) → conflicting gs ≡ false → givenOf (group (x .meaning)) gs ≡ none → conflicting (gs ++ (x ∷ [])) ≡ false
+  conflict-none : (gs : List Given) → conflicting gs ≡ false → givenOf (group (x .kind)) gs ≡ none → conflicting (gs ++ (x ∷ [])) ≡ false
   unfolding conflicting givenOf any
   conflict-none [] h e = refl
   conflict-none (y ∷ gs) h e =
-      let p : Given → Bool = λ z. eqb (group (y .meaning)) (group (z .meaning)) in
+      let p : Given → Bool = λ z. eqb (group (y .kind)) (group (z .kind)) in
       go
-      (eqb (group (y .meaning)) (group (x .meaning)))
+      (eqb (group (y .kind)) (group (x .kind)))
       refl
       (any-last p gs x (or-left (any p gs) (conflicting gs) h))
       (conflict-none gs (or-right (any p gs) (conflicting gs) h))
       e
     where
-      go : (t : Bool) → eqb (group (y .meaning)) (group (x .meaning)) ≡ t
-          → (eqb (group (y .meaning)) (group (x .meaning)) ≡ false → any (λ z. eqb (group (y .meaning)) (group (z .meaning))) (gs ++ (x ∷ [])) ≡ false)
-          → (givenOf (group (x .meaning)) gs ≡ none → conflicting (gs ++ (x ∷ [])) ≡ false)
-          → cond t (some y) (givenOf (group (x .meaning)) gs) ≡ none
-          → any (λ z. eqb (group (y .meaning)) (group (z .meaning))) (gs ++ (x ∷ [])) || conflicting (gs ++ (x ∷ [])) ≡ false
-      go true q this later e = absurd (Option·some-ne-none y e)
+      go : (t : Bool) → eqb (group (y .kind)) (group (x .kind)) ≡ t
+          → (eqb (group (y .kind)) (group (x .kind)) ≡ false → any (λ z. eqb (group (y .kind)) (group (z .kind))) (gs ++ (x ∷ [])) ≡ false)
+          → (givenOf (group (x .kind)) gs ≡ none → conflicting (gs ++ (x ∷ [])) ≡ false)
+          → cond t (some y) (givenOf (group (x .kind)) gs) ≡ none
+          → any (λ z. eqb (group (y .kind)) (group (z .kind))) (gs ++ (x ∷ [])) || conflicting (gs ++ (x ∷ [])) ≡ false
+      go true q this later e = impossible cc
       go false q this later e = or-neither (this q) (later e)
 
   -- a second one of a group conflicts, whatever follows
-  conflict-again : (gs more : List Given) (z : Given) → givenOf (group (x .meaning)) gs ≡ some z → conflicting (gs ++ (x ∷ more)) ≡ true
+  conflict-again : (gs more : List Given) (z : Given) → givenOf (group (x .kind)) gs ≡ some z → conflicting (gs ++ (x ∷ more)) ≡ true
   unfolding conflicting givenOf
-  conflict-again [] more z e = absurd (Option·none-ne-some z e)
+  conflict-again [] more z e = impossible cc
   conflict-again (y ∷ gs) more z e =
       go
-      (eqb (group (y .meaning)) (group (x .meaning)))
+      (eqb (group (y .kind)) (group (x .kind)))
       refl
-      (any-then (λ u. eqb (group (y .meaning)) (group (u .meaning))) gs x more)
+      (any-then (λ u. eqb (group (y .kind)) (group (u .kind))) gs x more)
       (conflict-again gs more z)
       e
     where
-      go : (t : Bool) → eqb (group (y .meaning)) (group (x .meaning)) ≡ t
-          → (eqb (group (y .meaning)) (group (x .meaning)) ≡ true → any (λ u. eqb (group (y .meaning)) (group (u .meaning))) (gs ++ (x ∷ more)) ≡ true)
-          → (givenOf (group (x .meaning)) gs ≡ some z → conflicting (gs ++ (x ∷ more)) ≡ true)
-          → cond t (some y) (givenOf (group (x .meaning)) gs) ≡ some z
-          → any (λ u. eqb (group (y .meaning)) (group (u .meaning))) (gs ++ (x ∷ more)) || conflicting (gs ++ (x ∷ more)) ≡ true
+      go : (t : Bool) → eqb (group (y .kind)) (group (x .kind)) ≡ t
+          → (eqb (group (y .kind)) (group (x .kind)) ≡ true → any (λ u. eqb (group (y .kind)) (group (u .kind))) (gs ++ (x ∷ more)) ≡ true)
+          → (givenOf (group (x .kind)) gs ≡ some z → conflicting (gs ++ (x ∷ more)) ≡ true)
+          → cond t (some y) (givenOf (group (x .kind)) gs) ≡ some z
+          → any (λ u. eqb (group (y .kind)) (group (u .kind))) (gs ++ (x ∷ more)) || conflicting (gs ++ (x ∷ more)) ≡ true
       go true q this later e = rw (this q)
-      go false q this later e = or-late (any (λ u. eqb (group (y .meaning)) (group (u .meaning))) (gs ++ (x ∷ more))) (later e)
+      go false q this later e = or-late (any (λ u. eqb (group (y .kind)) (group (u .kind))) (gs ++ (x ∷ more))) (later e)
 
 -- ---- one option
-
--- a scan that begins with an option: it fails, or that option is the first that it finds
-pub data Begins (m : Meaning) : Option (List Given) → Type 0 where
-  fails : Begins m none
-  finds : (x : Given) (more : List Given) → x .meaning ≡ m → Begins m (some (x ∷ more))
 
 module _ (al : List ℕ) (w : Word) (ws : List Word) where
   scan-unknown : optionNamed options al w ≡ none → scan al none (w ∷ ws) ≡ none
   unfolding scan orElse
   scan-unknown e = rw e
 
-module _ (al : List ℕ) (m : Meaning) (w : Word) (e : optionNamed options al w ≡ some m) where
-  scan-bare : (ws : List Word) → isSome (operandRange m) ≡ false → scan al none (w ∷ ws) ≡ Option·map (λ gs. m with [] ∷ gs) (scan al none ws)
-  unfolding scan orElse isSome
-  scan-bare ws h = rw e (go (operandRange m) h)
-    where
-      go : (o : Option Range) → isSome o ≡ false
-          → orElse o (Option·map (λ gs. m with [] ∷ gs) (scan al none ws)) (λ r. scan al (some m) ws) ≡ Option·map (λ gs. m with [] ∷ gs) (scan al none ws)
-      go none h = refl
-      go (some r) h = absurd (true≢false h)
+  -- an option: it takes no operand, or the next word is its operand
+  module _ (m : OptionKind) (e : optionNamed options al w ≡ some m) where
+    abbrev bare : Option (List Given)
+    bare = Option·map (λ gs. m with [] ∷ gs) (scan al none ws)
 
-  scan-operand : (ws : List Word) → isSome (operandRange m) ≡ true → scan al none (w ∷ ws) ≡ scan al (some m) ws
-  unfolding scan orElse isSome
-  scan-operand ws h = rw e (go (operandRange m) h)
-    where
-      go : (o : Option Range) → isSome o ≡ true
-          → orElse o (Option·map (λ gs. m with [] ∷ gs) (scan al none ws)) (λ r. scan al (some m) ws) ≡ scan al (some m) ws
-      go none h = absurd (false≢true h)
-      go (some r) h = refl
+    scan-bare : isSome (operandRange m) ≡ false → scan al none (w ∷ ws) ≡ bare
+    unfolding scan orElse isSome
+    scan-bare h = rw e (go (operandRange m) h)
+      where
+        go : (o : Option Range) → isSome o ≡ false → orElse o bare (λ r. scan al (some m) ws) ≡ bare
+        go none h = refl
+        go (some r) h = impossible cc
 
-  scan-begins : (ws : List Word) → Begins m (scan al none (w ∷ ws))
-  unfolding scan orElse
-  scan-begins ws = rw e (go (operandRange m) ws)
-    where
-      first : (v : Word) (o : Option (List Given)) → Begins m (Option·map (λ gs. m with v ∷ gs) o)
-      first v none = fails
-      first v (some gs) = finds (m with v) gs refl
+    scan-operand : isSome (operandRange m) ≡ true → scan al none (w ∷ ws) ≡ scan al (some m) ws
+    unfolding scan orElse isSome
+    scan-operand h = rw e (go (operandRange m) h)
+      where
+        go : (o : Option Range) → isSome o ≡ true → orElse o bare (λ r. scan al (some m) ws) ≡ scan al (some m) ws
+        go none h = impossible cc
+        go (some r) h = refl
 
-      go : (o : Option Range) (vs : List Word) → Begins m (orElse o (Option·map (λ gs. m with [] ∷ gs) (scan al none vs)) (λ r. scan al (some m) vs))
-      go none vs = first [] (scan al none vs)
-      go (some r) [] = fails
-      go (some r) (v ∷ vs) = first v (scan al none vs)
-
--- the option at word i, whose number is k
-module _ (al : List ℕ) (ws : List Word) (i k : ℕ) (l : i < length ws) (e : optionNamed options al (wordAt i ws) ≡ some (meaningOf k)) where
+-- the option at word i
+module _ (al : List ℕ) (ws : List Word) (i : ℕ) (l : i < length ws) where
   here : drop i ws ≡ wordAt i ws ∷ drop (suc i) ws
   unfolding wordAt
   here = drop-cons ws i [] l
 
-  -- its last word is there: its operand, if it takes one
-  scan-step : (last : ℕ) → last + 1 ≡ i + optionSize k → last < length ws
-      → scan al none (drop i ws) ≡ Option·map (λ gs. numbered ws k last ∷ gs) (scan al none (drop (last + 1) ws))
-  unfolding optionSize takesOperand numbered scan wordAt
-  scan-step last = go (isSome (operandRange (meaningOf k))) refl
-    where
-      go : (t : Bool) → isSome (operandRange (meaningOf k)) ≡ t → last + 1 ≡ i + cond t 2 1 → last < length ws
-          → scan al none (drop i ws) ≡ Option·map (λ gs. meaningOf k with cond t (wordAt last ws) [] ∷ gs) (scan al none (drop (last + 1) ws))
-      go true h ends room =
-          let n : last + 1 ≡ suc (suc i) = omega arith in
-          let m : last ≡ suc i = omega arith in
-          let next : drop (suc i) ws ≡ wordAt (suc i) ws ∷ drop (suc (suc i)) ws = drop-cons ws (suc i) [] (omega arith) in
-          rw (n, m, here, scan-operand al (meaningOf k) (wordAt i ws) e (drop (suc i) ws) h, next)
-      go false h ends room =
-          let n : last + 1 ≡ suc i = omega arith in
-          rw (n, here) (scan-bare al (meaningOf k) (wordAt i ws) e (drop (suc i) ws) h)
+  none-here : optionNamed options al (wordAt i ws) ≡ none → scan al none (drop i ws) ≡ none
+  none-here e = rw here (scan-unknown al (wordAt i ws) (drop (suc i) ws) e)
 
-  -- its operand is missing
-  scan-short : length ws < i + optionSize k → scan al none (drop i ws) ≡ none
-  unfolding optionSize takesOperand scan
-  scan-short = go (isSome (operandRange (meaningOf k))) refl
-    where
-      go : (t : Bool) → isSome (operandRange (meaningOf k)) ≡ t → length ws < i + cond t 2 1 → scan al none (drop i ws) ≡ none
-      go true h short =
-          let past : drop (suc i) ws ≡ [] = drop-of-length-le ws {i = suc i} (omega arith) in
-          rw (here, scan-operand al (meaningOf k) (wordAt i ws) e (drop (suc i) ws) h, past)
-      go false h short = absurd (omega arith)
+  module _ (m : OptionKind) (e : optionNamed options al (wordAt i ws) ≡ some m) where
+    -- its last word is there: its operand, if it takes one
+    scan-step : (last : ℕ) → last + 1 ≡ i + sizeOf m → last < length ws
+        → scan al none (drop i ws) ≡ Option·map (λ gs. m with cond (isSome (operandRange m)) (wordAt last ws) [] ∷ gs) (scan al none (drop (last + 1) ws))
+    unfolding sizeOf scan wordAt
+    scan-step last = go (isSome (operandRange m)) refl
+      where
+        go : (t : Bool) → isSome (operandRange m) ≡ t → last + 1 ≡ i + cond t 2 1 → last < length ws
+            → scan al none (drop i ws) ≡ Option·map (λ gs. m with cond t (wordAt last ws) [] ∷ gs) (scan al none (drop (last + 1) ws))
+        go true h ends room =
+            let n : last + 1 ≡ suc (suc i) = omega arith in
+            let m : last ≡ suc i = omega arith in
+            let next : drop (suc i) ws ≡ wordAt (suc i) ws ∷ drop (suc (suc i)) ws = drop-cons ws (suc i) [] (omega arith) in
+            rw (n, m, here, scan-operand al (wordAt i ws) (drop (suc i) ws) _ e h, next)
+        go false h ends room =
+            let n : last + 1 ≡ suc i = omega arith in
+            rw (n, here) (scan-bare al (wordAt i ws) (drop (suc i) ws) m e h)
 
-  scan-from : Begins (meaningOf k) (scan al none (drop i ws))
-  scan-from = rw here (scan-begins al (meaningOf k) (wordAt i ws) e (drop (suc i) ws))
+    -- its operand is missing
+    scan-short : length ws < i + sizeOf m → scan al none (drop i ws) ≡ none
+    unfolding sizeOf scan
+    scan-short = go (isSome (operandRange m)) refl
+      where
+        go : (t : Bool) → isSome (operandRange m) ≡ t → length ws < i + cond t 2 1 → scan al none (drop i ws) ≡ none
+        go true h short =
+            let past : drop (suc i) ws ≡ [] = drop-of-length-le ws {i = suc i} (omega arith) in
+            rw (here, scan-operand al (wordAt i ws) (drop (suc i) ws) m e h, past)
+        go false h short = absurd (omega arith)
+
+-- an option is one word or two
+pub size-range : (m : OptionKind) → (1 ≤ sizeOf m) × (sizeOf m ≤ 2)
+unfolding sizeOf
+size-range m = go (isSome (operandRange m))
+  where
+    go : (t : Bool) → (1 ≤ cond t 2 1) × (cond t 2 1 ≤ 2)
+    go true = (omega arith, omega arith)
+    go false = (omega arith, omega arith)
+
+-- ---- the code at word i: w is the word, and the code looked for its row
+
+abbrev kindOf : ℕ → OptionKind
+kindOf k = optionOf k .kind
+
+module _ (ws : List Word) (allowed : List ℕ) (i : ℕ) {count : ℕ} (size : length ws ≡ count) (l : i < count)
+    {w : Word} (ew : w ≡ wordAt i ws) {row : RowFound} (er : row ≡ rowFor (rowNamed optionTable w)) where
+  inside : i < length ws
+  inside = omega arith
+
+  -- it names no option
+  pub option-unknown : row ≡ rows.Nothing → scan (groupsFrom 0 allowed) none (drop i ws) ≡ none
+  unfolding orElse
+  option-unknown h =
+      let nothing : rowNamed optionTable (wordAt i ws) ≡ none = row-nothing (rowNamed optionTable (wordAt i ws)) (rw ew at (sym er ∙ h)) in
+      none-here (groupsFrom 0 allowed) ws i inside (option-row (wordAt i ws) (groupsFrom 0 allowed) ∙ rw nothing)
+
+  -- it names option k
+  module _ (k : ℕ) (h : row ≡ rows.At k) where
+    number-so : rowNamed optionTable (wordAt i ws) ≡ some k
+    number-so = row-at (rowNamed optionTable (wordAt i ws)) k (rw ew at (sym er ∙ h))
+
+    pub option-number : k < optionCount
+    option-number = option-below (wordAt i ws) k number-so
+
+    named-so : optionNamed options (groupsFrom 0 allowed) (wordAt i ws) ≡ onlyIf (not (eqb (getD allowed (group (kindOf k)) 0) 0)) (kindOf k)
+    unfolding orElse
+    named-so = option-row (wordAt i ws) (groupsFrom 0 allowed) ∙ rw (number-so, group-allowed (group (kindOf k)) allowed)
+
+    -- of group g
+    module _ {g : ℕ} (eg : g ≡ getD (optionData (optionOf k)) groupAt 0) where
+      pub option-group : g < groupCount
+      unfolding optionData
+      option-group = omega (arith, row-below k option-number)
+
+      -- which is not allowed
+      pub option-barred : getD allowed g 0 ≡ 0 → scan (groupsFrom 0 allowed) none (drop i ws) ≡ none
+      unfolding onlyIf optionData
+      option-barred z =
+          let barred : getD allowed (group (kindOf k)) 0 ≡ 0 = rw eg at z in
+          none-here (groupsFrom 0 allowed) ws i inside (named-so ∙ rw barred)
+
+      -- which is allowed; the code looked for its last word
+      module _ (a : getD allowed g 0 ≡ 0 → ⊥) {n : ℕ} (en : n ≡ getD (optionData (optionOf k)) sizeAt 0) {end : Next} (ee : end ≡ nextOf count (i + n - 1)) where
+        known-so : optionNamed options (groupsFrom 0 allowed) (wordAt i ws) ≡ some (kindOf k)
+        unfolding onlyIf optionData
+        known-so =
+            let there : eqb (getD allowed (group (kindOf k)) 0) 0 ≡ false = ne-eqb (getD allowed (group (kindOf k)) 0) 0 (rw eg at a) in
+            named-so ∙ rw there
+
+        size-so : (n ≡ sizeOf (kindOf k)) × (1 ≤ n) × (n ≤ 2)
+        unfolding optionData
+        size-so = (en, omega (arith, size-range (kindOf k)), omega (arith, size-range (kindOf k)))
+
+        -- which is not there: its operand is missing
+        pub option-short : end ≡ nexts.End → scan (groupsFrom 0 allowed) none (drop i ws) ≡ none
+        option-short q = scan-short (groupsFrom 0 allowed) ws i inside (kindOf k) known-so (omega (arith, size-so, next-end count (i + n - 1) ee q))
+
+        -- which is there
+        pub option-found : (last : ℕ) → end ≡ nexts.Word last → {said : ℕ} → said ≡ getD (optionData (optionOf k)) saidAt 0 → Found ws allowed i g said last
+        unfolding optionData numbered
+        option-found last q {said} es =
+            let at : (last ≡ i + n - 1) × (i + n - 1 < count) = next-at count (i + n - 1) last ee q in
+            let same : kindIn g said ≡ kindOf k = rw (eg, es) (row-kind k) in
+            record {
+              left = rw same (scan-step (groupsFrom 0 allowed) ws i inside (kindOf k) known-so last (omega (arith, size-so)) (omega arith));
+              member = rw same (sym eg);
+              grouped = option-group;
+              given = omega (arith, row-below k option-number);
+              after = omega (arith, size-so);
+              inside = omega arith;
+            }
 
 -- ---- the loop
 
 -- The words up to i were scanned: what is left does the same as all words after the options found, none of which conflict, and which the code has by their groups.
-pub record Scanning (ws : List Word) (allowed : List ℕ) (from i : ℕ) (r : code.Given) : Type 0 where
+pub record Scanning (ws : List Word) (allowed : List ℕ) (from i : ℕ) (r : code.ScannedOptions) : Type 0 where
   pub found : List Given
   pub left : scan (groupsFrom 0 allowed) none (drop from ws) ≡ Option·map (λ more. found ++ more) (scan (groupsFrom 0 allowed) none (drop i ws))
   pub clean : conflicting found ≡ false
-  pub entries : (g : ℕ) → g < 6 → givenOf g found ≡ givenAt ws (r .options) (r .operands) g
+  pub entries : (g : ℕ) → g < groupCount → givenOf g found ≡ givenAt ws r g
   pub unclean : r .clean ≡ false
-  pub optionsSize : length (r .options) ≡ 6
-  pub operandsSize : length (r .operands) ≡ 6
+  pub saidSize : length (r .said) ≡ groupCount
+  pub operandsSize : length (r .operands) ≡ groupCount
 
--- an entry of the code
-entry-none : (ws : List Word) (numbers operands : List ℕ) (g : ℕ) → 12 ≤ getD numbers g 0 → givenAt ws numbers operands g ≡ none
-unfolding givenAt optionAt
-entry-none ws numbers operands g h = rw (le-ltb (getD numbers g 0) 12 h)
+-- an option of the code
+module _ (ws : List Word) (g said operand : ℕ) where
+  pub option-none : notGiven ≤ said → optionAt ws g said operand ≡ none
+  unfolding optionAt
+  option-none l = rw (le-ltb said notGiven l)
 
-entry-some : (ws : List Word) (numbers operands : List ℕ) (g : ℕ) → getD numbers g 0 < 12
-    → givenAt ws numbers operands g ≡ some (numbered ws (getD numbers g 0) (getD operands g 0))
-unfolding givenAt optionAt
-entry-some ws numbers operands g h = rw (lt-ltb (getD numbers g 0) 12 h)
-
--- the entry of a group that is set, and those of the others
-module _ (ws : List Word) (numbers operands : List ℕ) (g k at : ℕ) where
-  entry-set : g < length numbers → g < length operands → k < 12 → givenAt ws (set numbers g k) (set operands g at) g ≡ some (numbered ws k at)
-  unfolding givenAt optionAt
-  entry-set p q l = rw (getD-set-same numbers g k 0 p, getD-set-same operands g at 0 q, lt-ltb k 12 l)
-
-  entry-other : (h : ℕ) → (h ≡ g → ⊥) → givenAt ws (set numbers g k) (set operands g at) h ≡ givenAt ws numbers operands h
-  unfolding givenAt optionAt
-  entry-other h ne = rw (getD-set-other numbers g h k 0 ne, getD-set-other operands g h at 0 ne)
+  pub option-some : said < notGiven → optionAt ws g said operand ≡ some (numbered ws g said operand)
+  unfolding optionAt
+  option-some l = rw (lt-ltb said notGiven l)
 
 map-none : (o : Option (List Given)) → o ≡ Option·map (λ more. [] ++ more) o
 map-none none = refl
@@ -285,189 +305,93 @@ map-last : (gs : List Given) (x : Given) (o : Option (List Given))
 map-last gs x none = refl
 map-last gs x (some more) = ap some (sym (append-assoc gs (x ∷ []) more))
 
-pub scanning-begins : (ws : List Word) (allowed : List ℕ) (from : ℕ) → Scanning ws allowed from from (record { clean = false; options = replicate 6 12; operands = replicate 6 0 })
+pub scanning-begins : (ws : List Word) (allowed : List ℕ) (from : ℕ)
+    → Scanning ws allowed from from (record { clean = false; said = replicate groupCount notGiven; operands = replicate groupCount 0 })
 unfolding conflicting givenOf
 scanning-begins ws allowed from =
     record {
       found = [];
       left = map-none (scan (groupsFrom 0 allowed) none (drop from ws));
       clean = refl;
-      entries = λ g l. sym (entry-none ws (replicate 6 12) (replicate 6 0) g (omega (arith, getD-replicate {A = ℕ} 6 g 12 0 l)));
+      entries = λ g l. sym (option-none ws g _ _ (omega (arith, getD-replicate {A = ℕ} groupCount g notGiven 0 l)));
       unclean = refl;
-      optionsSize = refl;
+      saidSize = refl;
       operandsSize = refl;
     }
 
-module _ {ws : List Word} {allowed : List ℕ} {from i : ℕ} {r : code.Given} (s : Scanning ws allowed from i r) where
+module _ {ws : List Word} {allowed : List ℕ} {from i : ℕ} {r : code.ScannedOptions} (s : Scanning ws allowed from i r) where
   refused : orElse (scan (groupsFrom 0 allowed) none (drop from ws)) true conflicting ≡ true → Scanned ws allowed from r
-  refused h = record { clean = rw h (s .unclean); given = λ e. absurd (true≢false (sym e ∙ s .unclean)) }
+  refused h = record { clean = rw h (s .unclean); given = λ e. both-ways e (s .unclean) }
 
   -- the scan of what is left fails
-  refused-left : scan (groupsFrom 0 allowed) none (drop i ws) ≡ none → Scanned ws allowed from r
+  pub scanning-fails : scan (groupsFrom 0 allowed) none (drop i ws) ≡ none → Scanned ws allowed from r
   unfolding orElse
-  refused-left e = refused (rw (s .left, e))
-
-  -- it begins with an option of a group that was given
-  refused-again : (m : Meaning) (z : Given) → Begins m (scan (groupsFrom 0 allowed) none (drop i ws)) → givenOf (group m) (s .found) ≡ some z
-      → Scanned ws allowed from r
-  unfolding orElse
-  refused-again m z b e = refused (rw (s .left) (go b))
-    where
-      go : {o : Option (List Given)} → Begins m o → orElse (Option·map (λ more. s .found ++ more) o) true conflicting ≡ true
-      go fails = refl
-      go (finds x more q) = conflict-again x (s .found) more z (rw q e)
+  scanning-fails e = refused (rw (s .left, e))
 
   -- all words were scanned
-  pub scanning-ends : {count : ℕ} → length ws ≡ count → count ≤ i → Scanned ws allowed from (record { clean = true; options = r .options; operands = r .operands })
+  pub scanning-ends : {count : ℕ} → length ws ≡ count → count ≤ i → Scanned ws allowed from (record { clean = true; said = r .said; operands = r .operands })
   unfolding scan orElse
   scanning-ends size l =
       let past : drop i ws ≡ [] = drop-of-length-le ws {i = i} (omega arith) in
       let all : scan (groupsFrom 0 allowed) none (drop from ws) ≡ some (s .found) = s .left ∙ rw (past, append-nil) in
       record { clean = rw (all, s .clean); given = λ e g b. rw all (s .entries g b) }
 
--- ---- a turn of the loop
+  -- an option was found
+  module _ {g said last : ℕ} (f : Found ws allowed i g said last) where
+    abbrev x : Given
+    x = numbered ws g said last
 
-pub row-nothing : (o : Option ℕ) → rowFor o ≡ rows.Nothing → o ≡ none
-unfolding rowFor
-row-nothing none h = refl
-row-nothing (some k) h =
-    let z : _≡_ {A = ℕ} 0 1 = cc in
-    absurd (omega arith)
+    member-so : group (x .kind) ≡ g
+    unfolding numbered
+    member-so = f .member
 
-pub row-at : (o : Option ℕ) (k : ℕ) → rowFor o ≡ rows.At k → o ≡ some k
-unfolding rowFor
-row-at none k h =
-    let z : _≡_ {A = ℕ} 0 1 = cc in
-    absurd (omega arith)
-row-at (some j) k h =
-    let q : j ≡ k = cc in
-    ap some q
-
--- there is no word n
-next-end : (count n : ℕ) {r : Next} → r ≡ nextOf count n → r ≡ nexts.End → count ≤ n
-unfolding nextOf
-next-end count n {r} e q = go (ltb n count) refl e
-  where
-    go : (t : Bool) → ltb n count ≡ t → r ≡ cond t (nexts.Word n) nexts.End → count ≤ n
-    go true p d = let z : _≡_ {A = ℕ} 0 1 = cc in omega arith
-    go false p d = ltb-false n count p
-
--- word k is there, and is n
-next-at : (count n k : ℕ) {r : Next} → r ≡ nextOf count n → r ≡ nexts.Word k → (k ≡ n) × (n < count)
-unfolding nextOf
-next-at count n k {r} e q = go (ltb n count) refl e
-  where
-    go : (t : Bool) → ltb n count ≡ t → r ≡ cond t (nexts.Word n) nexts.End → (k ≡ n) × (n < count)
-    go true p d = (cc, ltb-true n count p)
-    go false p d = let z : _≡_ {A = ℕ} 0 1 = cc in absurd (omega arith)
-
--- word i is w, and the code looked for its row
-module _ {ws : List Word} {allowed : List ℕ} {from i : ℕ} {r : code.Given} (s : Scanning ws allowed from i r)
-    {count : ℕ} (size : length ws ≡ count) (l : i < count) {w : Word} (ew : w ≡ wordAt i ws) {row : Row} (er : row ≡ rowFor (rowNamed optionTable w)) where
-  inside : i < length ws
-  inside = omega arith
-
-  -- it names no option
-  pub turn-unknown : row ≡ rows.Nothing → Scanned ws allowed from r
-  unfolding wordAt orElse
-  turn-unknown h =
-      let none-named : rowNamed optionTable (wordAt i ws) ≡ none = row-nothing (rowNamed optionTable (wordAt i ws)) (rw ew at (sym er ∙ h)) in
-      let unknown : optionNamed options (groupsFrom 0 allowed) (wordAt i ws) ≡ none = option-row (wordAt i ws) (groupsFrom 0 allowed) ∙ rw none-named in
-      refused-left s (rw (drop-cons ws i [] inside) (scan-unknown (groupsFrom 0 allowed) (wordAt i ws) (drop (suc i) ws) unknown))
-
-  -- it names option k
-  module _ (k : ℕ) (h : row ≡ rows.At k) where
-    numbered-so : rowNamed optionTable (wordAt i ws) ≡ some k
-    numbered-so = row-at (rowNamed optionTable (wordAt i ws)) k (rw ew at (sym er ∙ h))
-
-    pub turn-below : k < 12
-    turn-below = option-below (wordAt i ws) [] k numbered-so
-
-    meant-so : optionNamed options (groupsFrom 0 allowed) (wordAt i ws) ≡ onlyIf (not (eqb (getD allowed (groupOf k) 0) 0)) (meaningOf k)
+    -- of a group that was given before
+    pub scanning-again : getD (r .said) g 0 < notGiven → Scanned ws allowed from r
     unfolding orElse
-    meant-so = option-row (wordAt i ws) (groupsFrom 0 allowed) ∙ rw (numbered-so, group-allowed (groupOf k) allowed)
+    scanning-again b = refused (rw (s .left, f .left) (go (scan (groupsFrom 0 allowed) none (drop (last + 1) ws))))
+      where
+        before : givenOf (group (x .kind)) (s .found) ≡ some (numbered ws g (getD (r .said) g 0) (getD (r .operands) g 0))
+        before = rw member-so (s .entries g (f .grouped) ∙ option-some ws g _ _ b)
 
-    -- of group g
-    module _ {g : ℕ} (eg : g ≡ groupOf k) where
-      pub turn-group : g < 6
-      turn-group = omega (arith, group-below k turn-below)
+        go : (o : Option (List Given)) → orElse (Option·map (λ more. s .found ++ more) (Option·map (λ gs. x ∷ gs) o)) true conflicting ≡ true
+        go none = refl
+        go (some more) = conflict-again x (s .found) more _ before
 
-      -- which is not allowed
-      pub turn-barred : getD allowed g 0 ≡ 0 → Scanned ws allowed from r
-      unfolding wordAt onlyIf
-      turn-barred z =
-          let zero-there : getD allowed (groupOf k) 0 ≡ 0 = rw eg at z in
-          let unknown : optionNamed options (groupsFrom 0 allowed) (wordAt i ws) ≡ none = meant-so ∙ rw zero-there in
-          refused-left s (rw (drop-cons ws i [] inside) (scan-unknown (groupsFrom 0 allowed) (wordAt i ws) (drop (suc i) ws) unknown))
+    -- of another group
+    module _ (free : notGiven ≤ getD (r .said) g 0) where
+      none-before : givenOf (group (x .kind)) (s .found) ≡ none
+      none-before = rw member-so (s .entries g (f .grouped) ∙ option-none ws g _ _ free)
 
-      -- which is allowed
-      module _ (a : getD allowed g 0 ≡ 0 → ⊥) where
-        known-so : optionNamed options (groupsFrom 0 allowed) (wordAt i ws) ≡ some (meaningOf k)
-        unfolding onlyIf
-        known-so =
-            let there : eqb (getD allowed (groupOf k) 0) 0 ≡ false = ne-eqb (getD allowed (groupOf k) 0) 0 (rw eg at a) in
-            meant-so ∙ rw there
+      abbrev next : code.ScannedOptions
+      next = record { clean = r .clean; said = set (r .said) g said; operands = set (r .operands) g last }
 
-        -- it was given before
-        pub turn-again : getD (r .options) g 0 < 12 → Scanned ws allowed from r
-        unfolding groupOf
-        turn-again b =
-            refused-again
-            s
-            (meaningOf k)
-            (numbered ws (getD (r .options) g 0) (getD (r .operands) g 0))
-            (scan-from (groupsFrom 0 allowed) ws i k inside known-so)
-            (rw (sym eg) (s .entries g turn-group ∙ entry-some ws (r .options) (r .operands) g b))
+      next-entries : (h : ℕ) → h < groupCount → givenOf h (s .found ++ (x ∷ [])) ≡ givenAt ws next h
+      next-entries h b = go (eqb g h) refl
+        where
+          go : (t : Bool) → eqb g h ≡ t → givenOf h (s .found ++ (x ∷ [])) ≡ givenAt ws next h
+          go true q =
+              let e : g ≡ h = eqb-true g h q in
+              let this : givenOf g (s .found ++ (x ∷ [])) ≡ some x = rw member-so at (given-same x (s .found) none-before) in
+              let p : g < length (r .said) = omega (arith, s .saidSize, f .grouped) in
+              let o : g < length (r .operands) = omega (arith, s .operandsSize, f .grouped) in
+              rw (← e, getD-set-same (r .said) g said 0 p, getD-set-same (r .operands) g last 0 o) (this ∙ sym (option-some ws g said last (f .given)))
+          go false q =
+              let ne : h ≡ g → ⊥ = λ e. eqb-false g h q (sym e) in
+              let other : eqb (group (x .kind)) h ≡ false = rw member-so q in
+              given-other x h (s .found) other ∙ s .entries h b ∙ rw (getD-set-other (r .said) g h said 0 ne, getD-set-other (r .operands) g h last 0 ne)
 
-        -- none of its group was given
-        module _ (free : 12 ≤ getD (r .options) g 0) (last : ℕ) where
-          none-before : givenOf (groupOf k) (s .found) ≡ none
-          none-before = rw (sym eg) (s .entries g turn-group ∙ entry-none ws (r .options) (r .operands) g free)
-
-          turn-entries : (h : ℕ) → h < 6 → givenOf h (s .found ++ (numbered ws k last ∷ [])) ≡ givenAt ws (set (r .options) g k) (set (r .operands) g last) h
-          unfolding groupOf numbered
-          turn-entries h b = go (eqb g h) refl
-            where
-              x : Given
-              x = numbered ws k last
-
-              go : (t : Bool) → eqb g h ≡ t → givenOf h (s .found ++ (x ∷ [])) ≡ givenAt ws (set (r .options) g k) (set (r .operands) g last) h
-              go true q =
-                  let e : g ≡ h = eqb-true g h q in
-                  let this : givenOf g (s .found ++ (x ∷ [])) ≡ some x = rw eg (given-same x (s .found) none-before) in
-                  let p : g < length (r .options) = omega (arith, s .optionsSize, turn-group) in
-                  let o : g < length (r .operands) = omega (arith, s .operandsSize, turn-group) in
-                  rw (← e) (this ∙ sym (entry-set ws (r .options) (r .operands) g k last p o turn-below))
-              go false q =
-                  let ne : h ≡ g → ⊥ = λ e. eqb-false g h q (sym e) in
-                  let other : eqb (group (x .meaning)) h ≡ false = rw eg at q in
-                  given-other x h (s .found) other ∙ s .entries h b ∙ sym (entry-other ws (r .options) (r .operands) g k last h ne)
-
-        -- the code looked for its last word
-        module _ {n : ℕ} (en : n ≡ optionSize k) {end : Next} (ee : end ≡ nextOf count (i + n - 1)) where
-          -- which is not there: its operand is missing
-          pub turn-short : end ≡ nexts.End → Scanned ws allowed from r
-          turn-short q = refused-left s (scan-short (groupsFrom 0 allowed) ws i k inside known-so (omega (arith, en, size-range k, next-end count (i + n - 1) ee q)))
-
-          -- which is there
-          module _ (last : ℕ) (q : end ≡ nexts.Word last) where
-            pub turn-last : (last + 1 ≡ i + n) × (last < count)
-            turn-last = (omega (arith, en, size-range k, next-at count (i + n - 1) last ee q), omega (arith, next-at count (i + n - 1) last ee q))
-
-            -- it is one option more
-            pub turn-on : 12 ≤ getD (r .options) g 0 → Scanning ws allowed from (last + 1) (record { clean = r .clean; options = set (r .options) g k; operands = set (r .operands) g last })
-            unfolding groupOf numbered
-            turn-on free =
-                let x : Given = numbered ws k last in
-                record {
-                  found = s .found ++ (x ∷ []);
-                  left =
-                      s .left
-                      ∙ ap (Option·map (λ more. s .found ++ more)) (scan-step (groupsFrom 0 allowed) ws i k inside known-so last (turn-last .0 ∙ ap (λ m. i + m) en) (omega (arith, turn-last)))
-                      ∙ map-last (s .found) x (scan (groupsFrom 0 allowed) none (drop (last + 1) ws));
-                  clean = conflict-none x (s .found) (s .clean) (none-before free last);
-                  entries = turn-entries free last;
-                  unclean = s .unclean;
-                  optionsSize = length-set (r .options) g k ∙ s .optionsSize;
-                  operandsSize = length-set (r .operands) g last ∙ s .operandsSize;
-                }
+      -- it is one option more
+      pub scanning-on : Scanning ws allowed from (last + 1) next
+      scanning-on =
+          record {
+            found = s .found ++ (x ∷ []);
+            left =
+                s .left
+                ∙ ap (Option·map (λ more. s .found ++ more)) (f .left)
+                ∙ map-last (s .found) x (scan (groupsFrom 0 allowed) none (drop (last + 1) ws));
+            clean = conflict-none x (s .found) (s .clean) none-before;
+            entries = next-entries;
+            unclean = s .unclean;
+            saidSize = length-set (r .said) g said ∙ s .saidSize;
+            operandsSize = length-set (r .operands) g last ∙ s .operandsSize;
+          }

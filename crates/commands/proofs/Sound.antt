@@ -11,7 +11,7 @@ use native.Mathlib.Omega.{arith}
 use borrow.Author.Tests.{ltb-false, ltb-true}
 use Rattle.wire.specs.Lists.{any, isSome}
 use Rattle.wire.specs.Bytes.{Bytes}
-use Rattle.wire.specs.Words.{Word, wordsOf, wordAt}
+use Rattle.wire.specs.Words.{Word, wordsMost, wordsOf, wordAt}
 use Rattle.wire.proofs.Words.{words-bytes, words-count}
 use Rattle.wire.proofs.Lists.{or-left, or-right, any-at}
 use Rattle.store.specs.Layout.{keyMost, fieldMost, valueMost, timeLimit}
@@ -41,6 +41,10 @@ pub record Sound (c : Command) : Type 0 where
 
 -- ---- every word of the command is a word of the array, or empty
 
+-- the most fields that a command names: all its words but its name and its key
+abbrev pub namedMost : ℕ
+namedMost = 62
+
 -- a property of every word of a list; past its end there is the empty one
 abbrev AllHave : (Word → Type 0) → List Word → Type 0
 AllHave P ws = (i : ℕ) → P (getD ws i [])
@@ -50,7 +54,7 @@ record Taken (P : Word → Type 0) (c : Command) : Type 0 where
   key : P (keyOf c)
   fields : AllHave P (fieldsOf c)
   values : AllHave P (valuesOf c)
-  few : length (fieldsOf c) ≤ 62
+  few : length (fieldsOf c) ≤ namedMost
 
 pub pair-count : (ws : List Word) → length (pairsOf ws) ≤ length ws
 unfolding pairsOf
@@ -80,12 +84,12 @@ module _ (P : Word → Type 0) (empty : P []) where
   pair-values (f ∷ v ∷ ws) h zero = h 1
   pair-values (f ∷ v ∷ ws) h (suc i) = pair-values ws (λ j. h (suc (suc j))) i
 
-  module _ (ws : List Word) (h : AllHave P ws) (n : length ws ≤ 64) where
+  module _ (ws : List Word) (h : AllHave P ws) (n : length ws ≤ wordsMost) where
     of-field : (d : Deed) → AllHave P (deedValues d) → Taken P (onField (wordAt 1 ws) (wordAt 2 ws) d)
     unfolding keyOf fieldsOf valuesOf wordAt
     of-field d v = record { key = h 1; fields = have-one (wordAt 2 ws) (h 2); values = v; few = omega arith }
 
-    few-left : length (drop 2 ws) ≤ 62
+    few-left : length (drop 2 ws) ≤ namedMost
     few-left = simp length-drop (omega arith)
 
     of-build : (now : ℕ) (gs : List Given) (f : Form) → Taken P (build now f ws gs)
@@ -151,8 +155,8 @@ parse-sound now clock s c b e =
       within = w;
     }
 
--- What is accepted names at most 62 fields.
-pub parse-few : (now clock : ℕ) (s : List ℕ) (c : Command) → parse now clock s ≡ accepted c → length (fieldsOf c) ≤ 62
+-- What is accepted names no more fields.
+pub parse-few : (now clock : ℕ) (s : List ℕ) (c : Command) → parse now clock s ≡ accepted c → length (fieldsOf c) ≤ namedMost
 parse-few now clock s c e = parse-taken (λ w. Unit {0}) tt now clock s c (λ ws q i. tt) (parse-accepted now clock s c e) .few
 
 -- What is accepted comes with a clock below the limit.

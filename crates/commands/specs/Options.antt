@@ -58,21 +58,21 @@ instant now u w = cond (u .fromNow) (now + u .ms * naturalIn times w) (u .ms * n
 -- ---- the options
 
 -- what an option says; EX, EXAT, PX and PXAT carry their unit, VER and ABS what their number becomes, MIN and MAX their group
-pub data Meaning : Type 0 where
-  expires : TimeUnit → Meaning
-  keepTTL : Meaning
-  only : Condition → Meaning
-  versioned : (ℕ → Versioning) → Meaning
-  bound : ℕ → Meaning
-  noExp : Meaning
+pub data OptionKind : Type 0 where
+  expires : TimeUnit → OptionKind
+  keepTTL : OptionKind
+  only : Condition → OptionKind
+  versioned : (ℕ → Versioning) → OptionKind
+  bound : ℕ → OptionKind
+  noExp : OptionKind
 
 pub record OptionRow : Type 0 where
   pub name : String
-  pub meaning : Meaning
+  pub kind : OptionKind
 
 infix 70 _means_
-abbrev pub _means_ : String → Meaning → OptionRow
-n means m = record { name = n; meaning = m }
+abbrev pub _means_ : String → OptionKind → OptionRow
+n means m = record { name = n; kind = m }
 
 abbrev pub inSeconds : Bool → TimeUnit
 inSeconds b = record { ms = 1000; fromNow = b }
@@ -99,6 +99,9 @@ maxGroup = 4
 abbrev pub noExpGroup : ℕ
 noExpGroup = 5
 
+abbrev pub groupCount : ℕ
+groupCount = 6
+
 unfoldable pub options : List OptionRow
 options =
     "EX" means expires (inSeconds true)
@@ -115,7 +118,10 @@ options =
     ∷ "NOEXP" means noExp
     ∷ []
 
-unfoldable pub group : Meaning → ℕ
+abbrev pub optionCount : ℕ
+optionCount = 12
+
+unfoldable pub group : OptionKind → ℕ
 group (expires u) = expiryGroup
 group keepTTL = expiryGroup
 group (only c) = conditionGroup
@@ -124,7 +130,7 @@ group (bound n) = n
 group noExp = noExpGroup
 
 -- the range of an option's operand, where it takes one
-unfoldable pub operandRange : Meaning → Option Range
+unfoldable pub operandRange : OptionKind → Option Range
 operandRange (expires u) = some times
 operandRange keepTTL = none
 operandRange (only c) = none
@@ -133,24 +139,24 @@ operandRange (bound n) = some signed64
 operandRange noExp = none
 
 -- the option that a word names, among the groups that a command allows
-unfoldable pub optionNamed : List OptionRow → List ℕ → Word → Option Meaning
+unfoldable pub optionNamed : List OptionRow → List ℕ → Word → Option OptionKind
 optionNamed [] allowed w = none
 optionNamed (r ∷ rs) allowed w =
-    let later : Option Meaning = optionNamed rs allowed w in
-    cond (spells (r .name) w && any (eqb (group (r .meaning))) allowed) (some (r .meaning)) later
+    let later : Option OptionKind = optionNamed rs allowed w in
+    cond (spells (r .name) w && any (eqb (group (r .kind))) allowed) (some (r .kind)) later
 
 -- an option as it was given; the operand is empty where it takes none
 pub record Given : Type 0 where
-  pub meaning : Meaning
+  pub kind : OptionKind
   pub operand : Word
 
 infix 70 _with_
-abbrev pub _with_ : Meaning → Word → Given
-m with w = record { meaning = m; operand = w }
+abbrev pub _with_ : OptionKind → Word → Given
+m with w = record { kind = m; operand = w }
 
 -- The options among the words, none where one is unknown or lacks its operand. "A word after an option that takes one is its operand,
 -- whatever it says." The second argument is an option whose operand comes next.
-unfoldable pub scan : List ℕ → Option Meaning → List Word → Option (List Given)
+unfoldable pub scan : List ℕ → Option OptionKind → List Word → Option (List Given)
 scan allowed none [] = some []
 scan allowed (some m) [] = none
 scan allowed (some m) (w ∷ ws) = Option·map (λ gs. m with w ∷ gs) (scan allowed none ws)
@@ -162,11 +168,11 @@ scan allowed none (w ∷ ws) =
 -- "repeated or conflicting": two of one group
 unfoldable pub conflicting : List Given → Bool
 conflicting [] = false
-conflicting (g ∷ gs) = any (λ h. eqb (group (g .meaning)) (group (h .meaning))) gs || conflicting gs
+conflicting (g ∷ gs) = any (λ h. eqb (group (g .kind)) (group (h .kind))) gs || conflicting gs
 
 -- whether an option's operand, if it takes one, is a number of its range
 unfoldable pub readableOperand : Given → Bool
-readableOperand g = orElse (operandRange (g .meaning)) true (λ r. readable r (g .operand))
+readableOperand g = orElse (operandRange (g .kind)) true (λ r. readable r (g .operand))
 
 -- ---- what the options say
 
@@ -175,10 +181,10 @@ unfoldable pub givenOf : ℕ → List Given → Option Given
 givenOf n [] = none
 givenOf n (g ∷ gs) =
     let later : Option Given = givenOf n gs in
-    cond (eqb (group (g .meaning)) n) (some g) later
+    cond (eqb (group (g .kind)) n) (some g) later
 
 -- "Expiry is cleared unless an option sets it or KEEPTTL keeps it."
-unfoldable pub lifetimeOf : ℕ → Meaning → Word → Lifetime
+unfoldable pub lifetimeOf : ℕ → OptionKind → Word → Lifetime
 lifetimeOf now (expires u) w = Until (instant now u w)
 lifetimeOf now keepTTL w = Keep
 lifetimeOf now (only c) w = Clear
@@ -186,7 +192,7 @@ lifetimeOf now (versioned f) w = Clear
 lifetimeOf now (bound n) w = Clear
 lifetimeOf now noExp w = Clear
 
-unfoldable pub conditionOf : Meaning → Condition
+unfoldable pub conditionOf : OptionKind → Condition
 conditionOf (expires u) = Always
 conditionOf keepTTL = Always
 conditionOf (only c) = c
@@ -194,7 +200,7 @@ conditionOf (versioned f) = Always
 conditionOf (bound n) = Always
 conditionOf noExp = Always
 
-unfoldable pub versioningOf : Meaning → Word → Versioning
+unfoldable pub versioningOf : OptionKind → Word → Versioning
 versioningOf (expires u) w = Next
 versioningOf keepTTL w = Next
 versioningOf (only c) w = Next
@@ -203,13 +209,13 @@ versioningOf (bound n) w = Next
 versioningOf noExp w = Next
 
 unfoldable pub lifetime : ℕ → List Given → Lifetime
-lifetime now gs = orElse (givenOf expiryGroup gs) Clear (λ g. lifetimeOf now (g .meaning) (g .operand))
+lifetime now gs = orElse (givenOf expiryGroup gs) Clear (λ g. lifetimeOf now (g .kind) (g .operand))
 
 unfoldable pub condition : List Given → Condition
-condition gs = orElse (givenOf conditionGroup gs) Always (λ g. conditionOf (g .meaning))
+condition gs = orElse (givenOf conditionGroup gs) Always (λ g. conditionOf (g .kind))
 
 unfoldable pub versioning : List Given → Versioning
-versioning gs = orElse (givenOf versionGroup gs) Next (λ g. versioningOf (g .meaning) (g .operand))
+versioning gs = orElse (givenOf versionGroup gs) Next (λ g. versioningOf (g .kind) (g .operand))
 
 -- MIN and MAX, the ends of signed 64 bits where they are not given
 unfoldable pub boundIn : ℕ → ℤ → List Given → ℤ

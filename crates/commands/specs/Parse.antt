@@ -5,7 +5,7 @@ use mathlib.Core.Option.{Option, none, some, Option·getD}
 use Prim.Native.Nat.{ℕ, _%_}
 use Prim.Native.String.{String}
 use lib.Dec.{leb, ltb, eqb}
-use lib.ListN.{length, drop, getD}
+use lib.ListN.{length, drop}
 use Rattle.wire.specs.Lists.{all, any, isSome, orElse}
 use Rattle.wire.specs.Bytes.{spells}
 use Rattle.wire.specs.Integer.{lowest64, highest64}
@@ -82,6 +82,9 @@ commands =
     ∷ row "EXHVALS" (exactly 2) (listForm Values)
     ∷ row "EXHGETALL" (exactly 2) (listForm Both)
     ∷ []
+
+abbrev pub commandCount : ℕ
+commandCount = 23
 
 unfoldable pub commandNamed : List CommandRow → Word → Option CommandRow
 commandNamed [] w = none
@@ -214,16 +217,21 @@ onDeed test (countHeld k) = false
 onDeed test (countLive k) = false
 onDeed test (list k l) = false
 
--- 13: "word count"; 15: "option unknown, repeated or conflicting; a missing operand is refused as 15"; 16: "a number not plain or out of range"
-unfoldable pub checks : Form → Count → List Word → Option (List Given) → Command → List Check
-checks form count ws scanned c =
-    13 when not (countFits count (length ws))
-    ∷ 14 when tooLong c
-    ∷ 15 when orElse scanned true conflicting
+-- 15: "option unknown, repeated or conflicting; a missing operand is refused as 15"; 16: "a number not plain or out of range"
+unfoldable pub laterChecks : Form → List Word → Option (List Given) → Command → List Check
+laterChecks form ws scanned c =
+    15 when orElse scanned true conflicting
     ∷ 16 when not (orElse (numberRange form) true (λ r. readable r (wordAt 3 ws)) && all readableOperand (Option·getD scanned []))
     ∷ 17 when onDeed (λ d. isZero (deedVersioning d)) c
     ∷ 18 when onDeed (λ d. beyond (deedLifetime d)) c
     ∷ []
+
+-- 13: "word count"
+unfoldable pub checks : Form → Count → List Word → Option (List Given) → Command → List Check
+checks form count ws scanned c =
+    13 when not (countFits count (length ws))
+    ∷ 14 when tooLong c
+    ∷ laterChecks form ws scanned c
 
 -- a command, or the number of the refusal
 pub data Parsed : Type 0 where

@@ -1,20 +1,18 @@
 -- What the functions that parse a command ask and answer, in the terms of the other definitions.
 use mathlib.Core.Path.{_≡_}
 use mathlib.Core.Bool.{Bool, true, false, cond, not, _&&_, _||_}
-use mathlib.Core.List.{List, [], _∷_, flatMap}
-use mathlib.Core.Option.{Option, none, some, Option·getD}
+use mathlib.Core.List.{List, [], _∷_}
+use mathlib.Core.Option.{Option, none, some, Option·map, Option·getD}
 use Prim.Native.Nat.{ℕ, suc, _+_, _*_, _≤_, _<_}
-use Prim.Native.String.{String}
 use lib.Dec.{ltb, eqb}
 use lib.ListN.{length, drop, getD}
 use Rattle.wire.specs.Lists.{any, isSome, orElse}
-use Rattle.wire.specs.Bytes.{text, padded}
 use Rattle.wire.specs.Integer.{readInteger, lowest64, highest64}
-use Rattle.wire.specs.Words.{Word, wordAt}
+use Rattle.wire.specs.Words.{Word, wordAt, wordsOf}
 use Rattle.wire.specs.declared.integers.Signed.{Signed}
 use Rattle.wire.specs.declared.integers.Integer.{Integer}
 use Rattle.wire.specs.declared.integers.Integer.the-variants as integers
-use Rattle.wire.specs.Promises.{integerFor, integerOf}
+use Rattle.wire.specs.Promises.{integerFor, integerOf, wordsIn, Inside}
 use Rattle.store.specs.Layout.{fieldMost, valueMost}
 use Rattle.commands.specs.declared.FieldDeed.{FieldDeed}
 use Rattle.commands.specs.declared.FieldDeed.the-variants as fieldDeeds
@@ -23,9 +21,9 @@ use Rattle.commands.specs.declared.KeyDeed.the-variants as keyDeeds
 use Rattle.commands.specs.declared.Parsed.{Parsed}
 use Rattle.commands.specs.declared.Parsed.the-variants as parses
 use Rattle.commands.specs.declared.Lifetime.{Lifetime}
+use Rattle.commands.specs.declared.Lifetime.the-variants as lifetimes
 use Rattle.commands.specs.declared.Condition.{Condition}
 use Rattle.commands.specs.declared.Condition.the-variants as conditions
-use Rattle.commands.specs.declared.Lifetime.the-variants as lifetimes
 use Rattle.commands.specs.declared.Versioning.{Versioning}
 use Rattle.commands.specs.declared.Versioning.the-variants as versionings
 use Rattle.commands.specs.declared.operands.Timed.{Timed}
@@ -36,121 +34,115 @@ use Rattle.commands.specs.declared.operands.Terms.{Terms}
 use Rattle.commands.specs.declared.operands.Terms.the-variants as terms
 use Rattle.commands.specs.declared.operands.Added.{Added}
 use Rattle.commands.specs.declared.operands.Added.the-variants as addeds
-use Rattle.commands.specs.declared.options.Given.{Given}
-use Rattle.commands.specs.Refusal.{table, lowest}
+use Rattle.commands.specs.declared.options.OptionFound.{OptionFound}
+use Rattle.commands.specs.declared.options.OptionFound.the-variants as founds
+use Rattle.commands.specs.declared.options.ScannedOptions.{ScannedOptions}
+use Rattle.commands.specs.Refusal.{table, Check, _when_, lowest}
 use Rattle.commands.specs.Command.{Deed, Command}
 use Rattle.commands.specs.Command.Deed.{assign, increment, expire, persist, renumber, ask}
 use Rattle.commands.specs.Command.Command.{onField, setMany, getMany, delete, countHeld, countLive, list}
-use Rattle.commands.specs.Options as O
-use Rattle.commands.specs.Options.{Meaning, options, group, operandRange, scan, conflicting, readableOperand, givenOf, lifetimeOf, conditionOf, versioningOf}
+use Rattle.commands.specs.Options.{Given, _with_, minGroup, maxGroup, group, groupCount, operandRange, scan, conflicting, readableOperand, givenOf, lifetimeOf, versioningOf}
 use Rattle.commands.specs.Parse as P
-use Rattle.commands.specs.Parse.{commands, pairsOf, beyond, allowed, optionWords, build, checks, isZero}
+use Rattle.commands.specs.Parse.{Form, pairsOf, beyond, allowed, optionWords, build, laterChecks, isZero}
+use Rattle.commands.specs.Tables.{unitOf, conditionBy, kindIn}
 
 -- ---- words
 
--- a count of words and their places, as wire's split answers them: each place lies in the command
-pub record Split (s starts sizes : List ℕ) (count : ℕ) : Type 0 where
-  pub most : count ≤ 64
-  pub startsRoom : 64 ≤ length starts
-  pub sizesRoom : 64 ≤ length sizes
-  pub inside : (i : ℕ) → i < count → getD starts i 0 + getD sizes i 0 ≤ length s
-
--- ---- tables of names
-
--- a row of a table: the name's length, and the name, 16 bytes in all
-unfoldable pub nameRow : String → List ℕ
-nameRow t = length (text t) ∷ padded 15 (text t)
-
-unfoldable pub commandTable : List ℕ
-commandTable = flatMap (λ r. nameRow (r .name)) commands
-
-unfoldable pub optionTable : List ℕ
-optionTable = flatMap (λ r. nameRow (r .name)) options
+-- the places of a command's words, none where it is damaged
+pub record Divided (s : List ℕ) (places : List (List ℕ)) : Type 0 where
+  pub words : wordsOf s ≡ cond (eqb (length places) 0) none (some (wordsIn s places))
+  pub within : Inside s places
 
 -- ---- the lines of refusals
 
 unfoldable pub isRefusal : ℕ → Bool
 isRefusal n = any (λ r. eqb (r .number) n) table
 
--- ---- options
-
--- an option by its number in the table; the last one past its end
-unfoldable pub meaningOf : ℕ → Meaning
-meaningOf i = getD options i (record { name = "NOEXP"; meaning = O.Meaning.noExp }) .meaning
-
-unfoldable pub groupOf : ℕ → ℕ
-groupOf i = group (meaningOf i)
-
-unfoldable pub takesOperand : ℕ → Bool
-takesOperand i = isSome (operandRange (meaningOf i))
-
--- how many words an option is, its operand counted
-unfoldable pub optionSize : ℕ → ℕ
-optionSize i = cond (takesOperand i) 2 1
+-- ---- options that were given
 
 -- the groups that a command takes, from a 1 for each
 unfoldable pub groupsFrom : ℕ → List ℕ → List ℕ
 groupsFrom n [] = []
 groupsFrom n (a ∷ rest) = cond (eqb a 0) (groupsFrom (suc n) rest) (n ∷ groupsFrom (suc n) rest)
 
--- an option as it was given, by its number and the number of its operand's word
-unfoldable pub numbered : List Word → ℕ → ℕ → O.Given
-numbered ws i at = record { meaning = meaningOf i; operand = cond (takesOperand i) (wordAt at ws) [] }
+-- where the code has this as what an option of a group says, none was given
+abbrev pub notGiven : ℕ
+notGiven = 256
 
--- an option as the code has it: 12 says that none was given
-unfoldable pub optionAt : List Word → ℕ → ℕ → Option O.Given
-optionAt ws option operand = cond (ltb option 12) (some (numbered ws option operand)) none
+-- an option as it was given, by what it says in its group and the number of its operand's word
+unfoldable pub numbered : List Word → ℕ → ℕ → ℕ → Given
+numbered ws g said operand = kindIn g said with cond (isSome (operandRange (kindIn g said))) (wordAt operand ws) []
 
 -- the option of a group as the code has it
-unfoldable pub givenAt : List Word → List ℕ → List ℕ → ℕ → Option O.Given
-givenAt ws numbers operands g = optionAt ws (getD numbers g 0) (getD operands g 0)
+unfoldable pub optionAt : List Word → ℕ → ℕ → ℕ → Option Given
+optionAt ws g said operand = cond (ltb said notGiven) (some (numbered ws g said operand)) none
+
+abbrev pub givenAt : List Word → ScannedOptions → ℕ → Option Given
+givenAt ws r g = optionAt ws g (getD (r .said) g 0) (getD (r .operands) g 0)
+
+-- an option stands at word i: what is left of a scan there is that option, and what is left behind its last word
+pub record Found (ws : List Word) (allowed : List ℕ) (i g said last : ℕ) : Type 0 where
+  pub left : scan (groupsFrom 0 allowed) none (drop i ws)
+      ≡ Option·map (λ gs. numbered ws g said last ∷ gs) (scan (groupsFrom 0 allowed) none (drop (last + 1) ws))
+  pub member : group (kindIn g said) ≡ g
+  pub grouped : g < groupCount
+  pub given : said < notGiven
+  pub after : i ≤ last
+  pub inside : last < length ws
+
+-- what the code found there; a scan fails where it found nothing
+abbrev pub FoundBy : List Word → List ℕ → ℕ → OptionFound → Type 0
+FoundBy ws allowed i (founds.At g said last) = Found ws allowed i g said last
+FoundBy ws allowed i founds.Nothing = scan (groupsFrom 0 allowed) none (drop i ws) ≡ none
 
 -- what a scan of the words from one on found
-pub record Scanned (ws : List Word) (allowed : List ℕ) (from : ℕ) (r : Given) : Type 0 where
+pub record Scanned (ws : List Word) (allowed : List ℕ) (from : ℕ) (r : ScannedOptions) : Type 0 where
   pub clean : r .clean ≡ not (orElse (scan (groupsFrom 0 allowed) none (drop from ws)) true conflicting)
-  pub given : r .clean ≡ true → (g : ℕ) → g < 6
-      → givenOf g (Option·getD (scan (groupsFrom 0 allowed) none (drop from ws)) []) ≡ givenAt ws (r .options) (r .operands) g
+  pub given : r .clean ≡ true → (g : ℕ) → g < groupCount
+      → givenOf g (Option·getD (scan (groupsFrom 0 allowed) none (drop from ws)) []) ≡ givenAt ws r g
 
 -- ---- what the options say
-
--- an option, if one was given, is of a group
-abbrev pub InGroup : ℕ → ℕ → Type 0
-InGroup g option = option < 12 → groupOf option ≡ g
-
--- the units of EX, EXAT, PX and PXAT, and of EXHEXPIRE, EXHEXPIREAT, EXHPEXPIRE and EXHPEXPIREAT
-unfoldable pub unitOf : ℕ → O.TimeUnit
-unitOf i = getD (O.inSeconds true ∷ O.inSeconds false ∷ O.inMs true ∷ O.inMs false ∷ []) i (O.inMs false)
 
 -- the instant of a number in a unit
 unfoldable pub instantIn : ℕ → ℕ → ℕ → ℕ
 instantIn unit n time = cond (unitOf unit .fromNow) (time + unitOf unit .ms * n) (unitOf unit .ms * n)
 
--- what an option of the expiry group says, where its number is one
-unfoldable pub timedFor : ℕ → Option O.Given → Timed
-timedFor time x =
-    cond (orElse x true readableOperand) (timeds.Value (orElse x lifetimes.Clear (λ g. lifetimeOf time (g .meaning) (g .operand)))) timeds.Refused
+-- what an option of the expiry group says, and what one of the version group says
+unfoldable pub lifetimeBy : ℕ → Option Given → Lifetime
+lifetimeBy time x = orElse x lifetimes.Clear (λ g. lifetimeOf time (g .kind) (g .operand))
 
--- what an option of the version group says, where its number is one
-unfoldable pub versionedFor : Option O.Given → Versioned
-versionedFor x =
-    cond (orElse x true readableOperand) (versioneds.Value (orElse x versionings.Next (λ g. versioningOf (g .meaning) (g .operand)))) versioneds.Refused
+unfoldable pub versionBy : Option Given → Versioning
+versionBy x = orElse x versionings.Next (λ g. versioningOf (g .kind) (g .operand))
+
+-- whether an option's number, if it was given and takes one, is read
+unfoldable pub readOf : Option Given → Bool
+readOf x = orElse x true readableOperand
+
+-- what they say where their numbers are read
+unfoldable pub timedFor : ℕ → Option Given → Timed
+timedFor time x = cond (readOf x) (timeds.Value (lifetimeBy time x)) timeds.Refused
+
+unfoldable pub versionedFor : Option Given → Versioned
+versionedFor x = cond (readOf x) (versioneds.Value (versionBy x)) versioneds.Refused
 
 -- what the options of the expiry and of the version group say, or the lowest of 16 to 18 that they are refused with
-unfoldable pub termsFor : ℕ → Option O.Given → Option O.Given → Terms
-termsFor time x y =
-    let l : Lifetime = orElse x lifetimes.Clear (λ g. lifetimeOf time (g .meaning) (g .operand)) in
-    let v : Versioning = orElse y versionings.Next (λ g. versioningOf (g .meaning) (g .operand)) in
-    cond (orElse x true readableOperand && orElse y true readableOperand)
-    (cond (isZero v) (terms.Refused 17) (cond (beyond l) (terms.Refused 18) (terms.Value v l)))
-    (terms.Refused 16)
+unfoldable pub termChecks : ℕ → Option Given → Option Given → List Check
+termChecks time x y =
+    16 when not (readOf x && readOf y)
+    ∷ 17 when isZero (versionBy y)
+    ∷ 18 when beyond (lifetimeBy time x)
+    ∷ []
 
--- what NX or XX says, by its number
+unfoldable pub termsFor : ℕ → Option Given → Option Given → Terms
+termsFor time x y = orElse (lowest (termChecks time x y)) (terms.Value (versionBy y) (lifetimeBy time x)) terms.Refused
+
+-- what NX or XX says
 unfoldable pub conditionFor : ℕ → Condition
-conditionFor option = cond (ltb option 12) (conditionOf (meaningOf option)) conditions.Always
+conditionFor said = cond (ltb said notGiven) (conditionBy said) conditions.Always
 
 -- the number of MIN or MAX, or an end where it is not given
 unfoldable pub boundFor : Signed → ℕ → Word → Integer
-boundFor unbounded option w = cond (ltb option 12) (integerFor (readInteger lowest64 highest64 w)) (integers.Value unbounded)
+boundFor unbounded said w = cond (ltb said notGiven) (integerFor (readInteger lowest64 highest64 w)) (integers.Value unbounded)
 
 -- what is done with an integer that was read, and where none was
 unfoldable pub onInteger : Integer → Added → (Signed → Added) → Added
@@ -171,11 +163,16 @@ lowestSigned = record { negative = true; magnitude = 0x8000_0000_0000_0000 }
 abbrev pub highestSigned : Signed
 highestSigned = record { negative = false; magnitude = 0x7fff_ffff_ffff_ffff }
 
--- ---- counts and lengths of words
+-- MIN or MAX of a scan
+unfoldable pub boundGiven : Signed → ℕ → List Word → ScannedOptions → Integer
+boundGiven unbounded g ws r = boundFor unbounded (getD (r .said) g 0) (wordAt (getD (r .operands) g 0) ws)
 
--- a command by its number in the table; the first one past its end
-unfoldable pub commandOf : ℕ → P.CommandRow
-commandOf i = getD commands i (P.row "EXHSET" (P.Count.atLeast 4) P.Form.setForm)
+-- what EXHINCRBY adds and its bounds: word 3, MIN and MAX
+unfoldable pub sumOf : List Word → ScannedOptions → Added
+sumOf ws r =
+    sumFor (integerFor (readInteger lowest64 highest64 (wordAt 3 ws))) (boundGiven lowestSigned minGroup ws r) (boundGiven highestSigned maxGroup ws r)
+
+-- ---- lengths of words
 
 -- a word from word 2 on is longer than a field may be
 unfoldable pub anyOver : List Word → Bool
@@ -212,9 +209,9 @@ meant ws (parses.Refused n) = P.Parsed.refused n
 meant ws (parses.OnField d) = P.Parsed.accepted (onField (wordAt 1 ws) (wordAt 2 ws) (deedOf (wordAt 3 ws) d))
 meant ws (parses.OnKey d) = P.Parsed.accepted (commandFor (wordAt 1 ws) (drop 2 ws) d)
 
--- checks 15 to 18 of a command, by the number of its row
-unfoldable pub parseRest : ℕ → ℕ → List Word → P.Parsed
-parseRest time i ws =
-    let scanned : Option (List O.Given) = scan (allowed (commandOf i .form)) none (optionWords (commandOf i .form) ws) in
-    let c : Command = build time (commandOf i .form) ws (Option·getD scanned []) in
-    orElse (lowest (drop 2 (checks (commandOf i .form) (commandOf i .count) ws scanned c))) (P.Parsed.accepted c) P.Parsed.refused
+-- checks 15 to 18 of a command of a form
+unfoldable pub parseRest : ℕ → Form → List Word → P.Parsed
+parseRest time form ws =
+    let scanned : Option (List Given) = scan (allowed form) none (optionWords form ws) in
+    let c : Command = build time form ws (Option·getD scanned []) in
+    orElse (lowest (laterChecks form ws scanned c)) (P.Parsed.accepted c) P.Parsed.refused

@@ -8,15 +8,15 @@ use lib.Dec.{eqb}
 use Rattle.wire.specs.Reply.{line}
 
 -- a row of the table: the number of a refusal and its reply
-pub record Row : Type 0 where
+pub record RefusalRow : Type 0 where
   pub number : ℕ
   pub reply : String
 
 infix 70 _says_
-abbrev pub _says_ : ℕ → String → Row
+abbrev pub _says_ : ℕ → String → RefusalRow
 n says t = record { number = n; reply = t }
 
-unfoldable pub table : List Row
+unfoldable pub table : List RefusalRow
 table =
     10 says "-ERR protocol"
     ∷ 11 says "-ERR clock out of range"
@@ -34,7 +34,10 @@ table =
     ∷ 24 says "-ERR store is full"
     ∷ []
 
--- "10 to 18 use the record and leave the whole store. 20 to 24 set the clock and remove named dead entries only.": the last of each
+-- "10 to 18 use the record and leave the whole store. 20 to 24 set the clock and remove named dead entries only.": the first of all, and the last of each
+abbrev pub earlyLeast : ℕ
+earlyLeast = 10
+
 abbrev pub earlyMost : ℕ
 earlyMost = 18
 
@@ -45,7 +48,7 @@ lateMost = 24
 abbrev pub bufferLeast : ℕ
 bufferLeast = 56000
 
-unfoldable pub lineIn : List Row → ℕ → List ℕ
+unfoldable pub lineIn : List RefusalRow → ℕ → List ℕ
 lineIn [] n = []
 lineIn (r ∷ rs) n =
     let later : List ℕ = lineIn rs n in

@@ -1,97 +1,54 @@
 // Whether a command has as many words as it takes (13), and whether one of them is too long (14).
-use crate::words::word;
+use crate::table::ANY_MORE;
+use crate::table::EACH_FIELD;
+use crate::table::EACH_PAIR;
+use crate::table::LEAST_AT;
+use crate::table::MORE_AT;
+use crate::table::NAMES_AT;
+use crate::table::NO_MORE;
+use crate::table::NONE_NAMED;
+use crate::table::ONE_FIELD;
+use crate::table::command_datum;
 use store::layout::FIELD_MOST;
 use store::layout::KEY_MOST;
 use store::layout::VALUE_MOST;
+use wire::places::word;
 ghost use mathlib.Core.Path.{_≡_};
 ghost use mathlib.Core.List.{List};
 ghost use Prim.Native.Nat.{ℕ, _<_};
-ghost use Rattle.wire.specs.Promises.{wordsIn};
+ghost use Rattle.wire.specs.Promises.{wordsIn, Inside};
 ghost use Rattle.commands.specs.Options.{Given};
-ghost use Rattle.commands.specs.Parse.{countFits, build, tooLong};
-ghost use Rattle.commands.specs.ParsePromises.{Split, commandOf, anyOver, pairOver};
-
-// The least number of words of each command.
-const LEAST: [usize; 23] = [
-    4,
-    4,
-    4,
-    4,
-    4,
-    4,
-    4,
-    3,
-    4,
-    3,
-    3,
-    3,
-    3,
-    3,
-    3,
-    3,
-    3,
-    3,
-    3,
-    2,
-    2,
-    2,
-    2,
-];
-
-// Whether a command takes that number only (0), more words too (1), or more words in pairs (2).
-const MORE: [u8; 23] = [
-    1,
-    2,
-    1,
-    1,
-    1,
-    1,
-    1,
-    0,
-    0,
-    0,
-    0,
-    0,
-    0,
-    0,
-    0,
-    0,
-    1,
-    1,
-    1,
-    1,
-    0,
-    0,
-    0,
-];
+ghost use Rattle.commands.specs.Parse.{commandCount, countFits, build, tooLong};
+ghost use Rattle.commands.specs.Tables.{commandOf};
+ghost use Rattle.commands.specs.ParsePromises.{anyOver, pairOver};
 
 // Whether a command takes so many words, its name counted.
 pub fn count_fits(row: usize, count: usize) -> bool
-    requires { ⌜ row < 23 ⌝ }
+    requires { ⌜ row < commandCount ⌝ }
     ensures { λ r. ⌜ r ≡ countFits (commandOf row .count) count ⌝ }
 {
-    let least = LEAST[row];
-    let more = MORE[row];
+    let least = command_datum(row, LEAST_AT);
+    let more = command_datum(row, MORE_AT);
     if count < least {
         return false;
     }
-    if more == 0 {
+    if more == NO_MORE {
         return count == least;
     }
-    if more == 1 {
+    if more == ANY_MORE {
         return true;
     }
     count % 2 == 0
 }
 
 // Whether a word from word 2 on is longer than a field may be.
-fn any_over(command: &[u8], starts: &[usize], sizes: &[usize], count: usize) -> bool
-    requires { ⌜ Split (now command) (now starts) (now sizes) count ⌝ }
-    ensures { λ r. ⌜ r ≡ anyOver (wordsIn count (now (command .entry)) (now (starts .entry)) (now (sizes .entry))) ⌝ }
+fn any_over(command: &[u8], places: &[[usize; 2]]) -> bool
+    requires { ⌜ Inside (now command) (now places) ⌝ }
+    ensures { λ r. ⌜ r ≡ anyOver (wordsIn (now (command .entry)) (now (places .entry))) ⌝ }
 {
     let mut i = 2;
-    while i < count {
-        if FIELD_MOST < sizes[i] {
+    while i < places.len() {
+        if FIELD_MOST < word(command, places, i).len() {
             return true;
         }
         i += 1;
@@ -100,16 +57,16 @@ fn any_over(command: &[u8], starts: &[usize], sizes: &[usize], count: usize) -> 
 }
 
 // Whether a pair from word 2 on has a field or a value that is too long.
-fn pair_over(command: &[u8], starts: &[usize], sizes: &[usize], count: usize) -> bool
-    requires { ⌜ Split (now command) (now starts) (now sizes) count ⌝ }
-    ensures { λ r. ⌜ r ≡ pairOver (wordsIn count (now (command .entry)) (now (starts .entry)) (now (sizes .entry))) ⌝ }
+fn pair_over(command: &[u8], places: &[[usize; 2]]) -> bool
+    requires { ⌜ Inside (now command) (now places) ⌝ }
+    ensures { λ r. ⌜ r ≡ pairOver (wordsIn (now (command .entry)) (now (places .entry))) ⌝ }
 {
     let mut i = 2;
-    while i + 1 < count {
-        if FIELD_MOST < sizes[i] {
+    while i + 1 < places.len() {
+        if FIELD_MOST < word(command, places, i).len() {
             return true;
         }
-        if VALUE_MOST < sizes[i + 1] {
+        if VALUE_MOST < word(command, places, i + 1).len() {
             return true;
         }
         i += 2;
@@ -118,27 +75,29 @@ fn pair_over(command: &[u8], starts: &[usize], sizes: &[usize], count: usize) ->
 }
 
 // Whether the key, a field or a value of a command is too long.
-pub fn too_long(command: &[u8], starts: &[usize], sizes: &[usize], count: usize, row: usize) -> bool
-    requires { ⌜ (Split (now command) (now starts) (now sizes) count) × (row < 23) ⌝ }
-    ensures { λ r. ⌜ ((time : ℕ) (gs : List Given) → r ≡ tooLong (build time (commandOf row .form) (wordsIn count (now (command .entry)) (now (starts .entry)) (now (sizes .entry))) gs)) ⌝ }
+pub fn too_long(command: &[u8], places: &[[usize; 2]], row: usize) -> bool
+    requires { ⌜ (Inside (now command) (now places)) × (row < commandCount) ⌝ }
+    ensures { λ r. let ws = wordsIn (now (command .entry)) (now (places .entry)) in
+        ⌜ ((time : ℕ) (gs : List Given) → r ≡ tooLong (build time (commandOf row .form) ws gs)) ⌝ }
 {
-    if KEY_MOST < word(command, starts, sizes, count, 1).len() {
+    if KEY_MOST < word(command, places, 1).len() {
         return true;
     }
-    if 19 <= row {
+    let names = command_datum(row, NAMES_AT);
+    if names == NONE_NAMED {
         return false;
     }
-    if 16 <= row {
-        return any_over(command, starts, sizes, count);
+    if names == EACH_FIELD {
+        return any_over(command, places);
     }
-    if row == 1 {
-        return pair_over(command, starts, sizes, count);
+    if names == EACH_PAIR {
+        return pair_over(command, places);
     }
-    if FIELD_MOST < word(command, starts, sizes, count, 2).len() {
+    if FIELD_MOST < word(command, places, 2).len() {
         return true;
     }
-    if row == 0 {
-        return VALUE_MOST < word(command, starts, sizes, count, 3).len();
+    if names == ONE_FIELD {
+        return false;
     }
-    false
+    VALUE_MOST < word(command, places, 3).len()
 }

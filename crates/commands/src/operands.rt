@@ -1,10 +1,20 @@
-// What the options of a command say: each is given by its number, 12 where there is none, and the number of its operand's word.
+// What the options of a command say: each is given by what it says in its group and the number of its operand's word.
 use crate::Condition;
 use crate::Lifetime;
 use crate::Sum;
 use crate::Versioning;
-use crate::options::Given;
-use crate::words::word;
+use crate::options::NOT_GIVEN;
+use crate::options::ScannedOptions;
+use crate::table::EXPIRY_GROUP;
+use crate::table::IF_MISSING;
+use crate::table::KEPT;
+use crate::table::MATCHED;
+use crate::table::MAX_GROUP;
+use crate::table::MIN_GROUP;
+use crate::table::MS_FROM_NOW;
+use crate::table::SECONDS_FROM_NOW;
+use crate::table::SECONDS_SINCE;
+use crate::table::VERSION_GROUP;
 use store::layout::TIME_LIMIT;
 use store::layout::VERSION_MOST;
 use wire::integers::Integer;
@@ -12,16 +22,15 @@ use wire::integers::Natural;
 use wire::integers::Signed;
 use wire::integers::read_integer;
 use wire::integers::read_natural;
+use wire::places::word;
 ghost use mathlib.Core.Path.{_≡_};
 ghost use Prim.Native.Nat.{_≤_, _<_};
-ghost use lib.ListN.{getD};
 ghost use Rattle.wire.specs.Words.{wordAt};
-ghost use Rattle.wire.specs.Promises.{wordsIn, integerFor};
-ghost use Rattle.wire.specs.Integer.{readInteger, lowest64, highest64};
+ghost use Rattle.wire.specs.Promises.{wordsIn, Inside};
 ghost use Rattle.store.specs.Layout.{timeLimit};
-ghost use Rattle.commands.specs.Options.{expiryGroup, conditionGroup, versionGroup};
+ghost use Rattle.commands.specs.Options.{expiryGroup, versionGroup};
 ghost use Rattle.commands.specs.Parse.{isZero, beyond};
-ghost use Rattle.commands.specs.ParsePromises.{Split, InGroup, optionAt, givenAt, termsFor, instantIn, timedFor, versionedFor, conditionFor, boundFor, sumFor, lowestSigned, highestSigned};
+ghost use Rattle.commands.specs.ParsePromises.{optionAt, givenAt, termsFor, instantIn, timedFor, versionedFor, conditionFor, boundFor, sumOf};
 
 // A lifetime, or that its number is refused (16).
 pub enum Timed {
@@ -50,18 +59,18 @@ pub enum Added {
 // The largest magnitude of a negative number of signed 64 bits.
 const LOWEST: u64 = 9223372036854775808;
 
-// The instant in ms that a number says in the unit of EX (0), EXAT (1), PX (2) or PXAT (3).
+// The instant in ms that a number says in a unit.
 pub fn instant(unit: usize, n: u64, time: u64) -> u64
-    requires { ⌜ (unit < 4) × (n ≤ timeLimit) × (time < timeLimit) ⌝ }
+    requires { ⌜ (n ≤ timeLimit) × (time < timeLimit) ⌝ }
     ensures { λ r. ⌜ r ≡ instantIn unit n time ⌝ }
 {
-    if unit == 0 {
+    if unit == SECONDS_FROM_NOW {
         return time + 1000 * n;
     }
-    if unit == 1 {
+    if unit == SECONDS_SINCE {
         return 1000 * n;
     }
-    if unit == 2 {
+    if unit == MS_FROM_NOW {
         return time + n;
     }
     n
@@ -70,49 +79,40 @@ pub fn instant(unit: usize, n: u64, time: u64) -> u64
 // What EX, EXAT, PX, PXAT or KEEPTTL says.
 pub fn lifetime(
     command: &[u8],
-    starts: &[usize],
-    sizes: &[usize],
-    count: usize,
-    option: usize,
+    places: &[[usize; 2]],
+    said: usize,
     operand: usize,
     time: u64,
 ) -> Timed
-    requires { ⌜ (Split (now command) (now starts) (now sizes) count) × (InGroup expiryGroup option) × (time < timeLimit) ⌝ }
-    ensures { λ r. ⌜ r ≡ timedFor time (optionAt (wordsIn count (now (command .entry)) (now (starts .entry)) (now (sizes .entry))) option operand) ⌝ }
+    requires { ⌜ (Inside (now command) (now places)) × (time < timeLimit) ⌝ }
+    ensures { λ r. let ws = wordsIn (now (command .entry)) (now (places .entry)) in ⌜ r ≡ timedFor time (optionAt ws expiryGroup said operand) ⌝ }
 {
-    if 12 <= option {
+    if NOT_GIVEN <= said {
         return Timed::Value(Lifetime::Clear);
     }
-    if 4 <= option {
+    if said == KEPT {
         return Timed::Value(Lifetime::Keep);
     }
-    let read = read_natural(word(command, starts, sizes, count, operand), TIME_LIMIT);
+    let read = read_natural(word(command, places, operand), TIME_LIMIT);
     let Natural::Value(n) = read else {
         return Timed::Refused;
     };
-    Timed::Value(Lifetime::Until(instant(option, n, time)))
+    Timed::Value(Lifetime::Until(instant(said, n, time)))
 }
 
 // What VER or ABS says.
-pub fn versioning(
-    command: &[u8],
-    starts: &[usize],
-    sizes: &[usize],
-    count: usize,
-    option: usize,
-    operand: usize,
-) -> Versioned
-    requires { ⌜ (Split (now command) (now starts) (now sizes) count) × (InGroup versionGroup option) ⌝ }
-    ensures { λ r. ⌜ r ≡ versionedFor (optionAt (wordsIn count (now (command .entry)) (now (starts .entry)) (now (sizes .entry))) option operand) ⌝ }
+pub fn versioning(command: &[u8], places: &[[usize; 2]], said: usize, operand: usize) -> Versioned
+    requires { ⌜ Inside (now command) (now places) ⌝ }
+    ensures { λ r. let ws = wordsIn (now (command .entry)) (now (places .entry)) in ⌜ r ≡ versionedFor (optionAt ws versionGroup said operand) ⌝ }
 {
-    if 12 <= option {
+    if NOT_GIVEN <= said {
         return Versioned::Value(Versioning::Next);
     }
-    let read = read_natural(word(command, starts, sizes, count, operand), VERSION_MOST);
+    let read = read_natural(word(command, places, operand), VERSION_MOST);
     let Natural::Value(n) = read else {
         return Versioned::Refused;
     };
-    if option == 7 {
+    if said == MATCHED {
         return Versioned::Value(Versioning::Match(n));
     }
     Versioned::Value(Versioning::Exactly(n))
@@ -141,26 +141,20 @@ fn is_beyond(lifetime: Lifetime) -> bool
 }
 
 // What the options of a command say of its version and its expiry.
-pub fn read_terms(
-    command: &[u8],
-    starts: &[usize],
-    sizes: &[usize],
-    count: usize,
-    given: Given,
-    time: u64,
-) -> Terms
-    requires { ⌜ (Split (now command) (now starts) (now sizes) count) × (InGroup expiryGroup (getD (given .options) 0 0)) × (InGroup versionGroup (getD (given .options) 2 0)) × (time < timeLimit) ⌝ }
-    ensures { λ r. ⌜ r ≡ termsFor time (givenAt (wordsIn count (now (command .entry)) (now (starts .entry)) (now (sizes .entry))) (given .options) (given .operands) 0) (givenAt (wordsIn count (now (command .entry)) (now (starts .entry)) (now (sizes .entry))) (given .options) (given .operands) 2) ⌝ }
+pub fn read_terms(command: &[u8], places: &[[usize; 2]], given: ScannedOptions, time: u64) -> Terms
+    requires { ⌜ (Inside (now command) (now places)) × (time < timeLimit) ⌝ }
+    ensures { λ r. let ws = wordsIn (now (command .entry)) (now (places .entry)) in
+        ⌜ r ≡ termsFor time (givenAt ws given expiryGroup) (givenAt ws given versionGroup) ⌝ }
 {
-    let option = given.options[0];
-    let operand = given.operands[0];
-    let timed = lifetime(command, starts, sizes, count, option, operand, time);
+    let said = given.said[EXPIRY_GROUP];
+    let operand = given.operands[EXPIRY_GROUP];
+    let timed = lifetime(command, places, said, operand, time);
     let Timed::Value(until) = timed else {
         return Terms::Refused(16);
     };
-    let option = given.options[2];
-    let operand = given.operands[2];
-    let versioned = versioning(command, starts, sizes, count, option, operand);
+    let said = given.said[VERSION_GROUP];
+    let operand = given.operands[VERSION_GROUP];
+    let versioned = versioning(command, places, said, operand);
     let Versioned::Value(version) = versioned else {
         return Terms::Refused(16);
     };
@@ -174,44 +168,41 @@ pub fn read_terms(
 }
 
 // What NX or XX says.
-pub fn condition(option: usize) -> Condition
-    requires { ⌜ InGroup conditionGroup option ⌝ }
-    ensures { λ r. ⌜ r ≡ conditionFor option ⌝ }
+pub fn condition(said: usize) -> Condition
+    ensures { λ r. ⌜ r ≡ conditionFor said ⌝ }
 {
-    if option == 5 {
+    if NOT_GIVEN <= said {
+        return Condition::Always;
+    }
+    if said == IF_MISSING {
         return Condition::Missing;
     }
-    if option == 6 {
-        return Condition::Live;
-    }
-    Condition::Always
+    Condition::Live
 }
 
 // What MIN or MAX says, an end of signed 64 bits where it is not given.
 pub fn bound(
     command: &[u8],
-    starts: &[usize],
-    sizes: &[usize],
-    count: usize,
-    option: usize,
+    places: &[[usize; 2]],
+    said: usize,
     operand: usize,
     unbounded: Signed,
 ) -> Integer
-    requires { ⌜ Split (now command) (now starts) (now sizes) count ⌝ }
-    ensures { λ r. ⌜ r ≡ boundFor unbounded option (wordAt operand (wordsIn count (now (command .entry)) (now (starts .entry)) (now (sizes .entry)))) ⌝ }
+    requires { ⌜ Inside (now command) (now places) ⌝ }
+    ensures { λ r. let ws = wordsIn (now (command .entry)) (now (places .entry)) in ⌜ r ≡ boundFor unbounded said (wordAt operand ws) ⌝ }
 {
-    if 12 <= option {
+    if NOT_GIVEN <= said {
         return Integer::Value(unbounded);
     }
-    read_integer(word(command, starts, sizes, count, operand))
+    read_integer(word(command, places, operand))
 }
 
 // What EXHINCRBY adds, and its bounds: word 3, MIN and MAX.
-pub fn sum(command: &[u8], starts: &[usize], sizes: &[usize], count: usize, given: Given) -> Added
-    requires { ⌜ Split (now command) (now starts) (now sizes) count ⌝ }
-    ensures { λ r. ⌜ r ≡ sumFor (integerFor (readInteger lowest64 highest64 (wordAt 3 (wordsIn count (now (command .entry)) (now (starts .entry)) (now (sizes .entry)))))) (boundFor lowestSigned (getD (given .options) 3 0) (wordAt (getD (given .operands) 3 0) (wordsIn count (now (command .entry)) (now (starts .entry)) (now (sizes .entry))))) (boundFor highestSigned (getD (given .options) 4 0) (wordAt (getD (given .operands) 4 0) (wordsIn count (now (command .entry)) (now (starts .entry)) (now (sizes .entry))))) ⌝ }
+pub fn sum(command: &[u8], places: &[[usize; 2]], given: ScannedOptions) -> Added
+    requires { ⌜ Inside (now command) (now places) ⌝ }
+    ensures { λ r. ⌜ r ≡ sumOf (wordsIn (now (command .entry)) (now (places .entry))) given ⌝ }
 {
-    let read = read_integer(word(command, starts, sizes, count, 3));
+    let read = read_integer(word(command, places, 3));
     let Integer::Value(amount) = read else {
         return Added::Refused;
     };
@@ -219,9 +210,9 @@ pub fn sum(command: &[u8], starts: &[usize], sizes: &[usize], count: usize, give
         negative: true,
         magnitude: LOWEST,
     };
-    let option = given.options[3];
-    let operand = given.operands[3];
-    let low = bound(command, starts, sizes, count, option, operand, lowest);
+    let said = given.said[MIN_GROUP];
+    let operand = given.operands[MIN_GROUP];
+    let low = bound(command, places, said, operand, lowest);
     let Integer::Value(least) = low else {
         return Added::Refused;
     };
@@ -229,9 +220,9 @@ pub fn sum(command: &[u8], starts: &[usize], sizes: &[usize], count: usize, give
         negative: false,
         magnitude: LOWEST - 1,
     };
-    let option = given.options[4];
-    let operand = given.operands[4];
-    let high = bound(command, starts, sizes, count, option, operand, highest);
+    let said = given.said[MAX_GROUP];
+    let operand = given.operands[MAX_GROUP];
+    let high = bound(command, places, said, operand, highest);
     let Integer::Value(greatest) = high else {
         return Added::Refused;
     };

@@ -1,84 +1,79 @@
 // The options of a command: which were given, and where their operands stand.
+use crate::table::GROUP_AT;
+use crate::table::GROUP_COUNT;
+use crate::table::SAID_AT;
+use crate::table::SIZE_AT;
+use crate::table::option_datum;
 use crate::table::option_named;
-use crate::words::word;
-use wire::names::Row;
+use wire::names::RowFound;
 use wire::places::Next;
 use wire::places::next_word;
+use wire::places::word;
 ghost use mathlib.Core.Path.{_≡_};
-ghost use mathlib.Core.Bool.{true};
 ghost use Prim.Native.Nat.{_<_};
 ghost use lib.ListN.{length};
-ghost use Rattle.wire.specs.Promises.{wordsIn};
-ghost use Rattle.commands.specs.ParsePromises.{Split, Scanned, groupOf, optionSize};
+ghost use Rattle.wire.specs.Promises.{wordsIn, Inside};
+ghost use Rattle.commands.specs.Options.{groupCount};
+ghost use Rattle.commands.specs.ParsePromises.{FoundBy, Scanned};
 
-// How many options there are. An option's number at this is that none was given.
-const OPTIONS: usize = 12;
+// Where this stands as what the option of a group says, none was given; no row of the table says it.
+pub const NOT_GIVEN: usize = 256;
 
-// The group of each option, and how many words it is with its operand.
-const GROUPS: [usize; 12] = [0, 0, 0, 0, 0, 1, 1, 2, 2, 3, 4, 5];
-
-const SIZES: [usize; 12] = [2, 2, 2, 2, 1, 1, 1, 2, 2, 2, 2, 1];
-
-// The options that were given, by group: the option's number, 12 where there is none, and the number of its last word, its operand if it takes one.
-pub struct Given {
+// The options that were given, by group: what the option says, and the number of its last word, its operand if it takes one.
+pub struct ScannedOptions {
     pub clean: bool,
-    pub options: [usize; 6],
-    pub operands: [usize; 6],
+    pub said: [usize; GROUP_COUNT],
+    pub operands: [usize; GROUP_COUNT],
 }
 
-// The group of an option, by its number.
-fn group(option: usize) -> usize
-    requires { ⌜ option < 12 ⌝ }
-    ensures { λ r. ⌜ r ≡ groupOf option ⌝ }
-{
-    GROUPS[option]
+// The option at a word of a command: its group, what it says there, and the number of its last word; or that there is none.
+enum OptionFound {
+    At(usize, usize, usize),
+    Nothing,
 }
 
-// How many words an option is.
-fn size(option: usize) -> usize
-    requires { ⌜ option < 12 ⌝ }
-    ensures { λ r. ⌜ r ≡ optionSize option ⌝ }
+// The option at a word; `allowed` has a 1 for each group that the command takes. Nothing: it is unknown, or its operand is missing.
+fn option_at(command: &[u8], places: &[[usize; 2]], i: usize, allowed: &[u8]) -> OptionFound
+    requires { ⌜ (Inside (now command) (now places)) × (i < length (now places)) × (length (now allowed) ≡ groupCount) ⌝ }
+    ensures { λ r. ⌜ FoundBy (wordsIn (now (command .entry)) (now (places .entry))) (now (allowed .entry)) i r ⌝ }
 {
-    SIZES[option]
+    let found = option_named(word(command, places, i));
+    let RowFound::At(option) = found else {
+        return OptionFound::Nothing;
+    };
+    let g = option_datum(option, GROUP_AT);
+    if allowed[g] == 0 {
+        return OptionFound::Nothing;
+    }
+    let said = option_datum(option, SAID_AT);
+    let size = option_datum(option, SIZE_AT);
+    let end = next_word(places.len(), i + size - 1);
+    let Next::Word(last) = end else {
+        return OptionFound::Nothing;
+    };
+    OptionFound::At(g, said, last)
 }
 
-// The options among the words from a word on; `allowed` has a 1 for each group that the command takes. Not clean: an option is unknown, repeated or conflicting, or
-// its operand is missing.
-pub fn scan(
-    command: &[u8],
-    starts: &[usize],
-    sizes: &[usize],
-    count: usize,
-    from: usize,
-    allowed: &[u8],
-) -> Given
-    requires { ⌜ (Split (now command) (now starts) (now sizes) count) × (length (now allowed) ≡ 6) ⌝ }
-    ensures { λ r. ⌜ Scanned (wordsIn count (now (command .entry)) (now (starts .entry)) (now (sizes .entry))) (now (allowed .entry)) from r ⌝ }
+// The options among the words from a word on. Not clean: an option is unknown, repeated or conflicting, or its operand is missing.
+pub fn scan(command: &[u8], places: &[[usize; 2]], from: usize, allowed: &[u8]) -> ScannedOptions
+    requires { ⌜ (Inside (now command) (now places)) × (length (now allowed) ≡ groupCount) ⌝ }
+    ensures { λ r. ⌜ Scanned (wordsIn (now (command .entry)) (now (places .entry))) (now (allowed .entry)) from r ⌝ }
 {
-    let mut given = Given {
+    let mut given = ScannedOptions {
         clean: false,
-        options: [12; 6],
-        operands: [0; 6],
+        said: [NOT_GIVEN; GROUP_COUNT],
+        operands: [0; GROUP_COUNT],
     };
     let mut i = from;
-    while i < count {
-        let found = option_named(word(command, starts, sizes, count, i));
-        let Row::At(option) = found else {
+    while i < places.len() {
+        let found = option_at(command, places, i, allowed);
+        let OptionFound::At(g, said, last) = found else {
             return given;
         };
-        let g = group(option);
-        if allowed[g] == 0 {
+        if given.said[g] < NOT_GIVEN {
             return given;
         }
-        if given.options[g] < OPTIONS {
-            return given;
-        }
-        // the last word of the option: its operand, if it takes one
-        let end = next_word(count, i + size(option) - 1);
-        let Next::Word(last) = end else {
-            return given;
-        };
-        given.options[g] = option;
+        given.said[g] = said;
         given.operands[g] = last;
         i = last + 1;
     }

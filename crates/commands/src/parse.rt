@@ -10,38 +10,53 @@ use crate::operands;
 use crate::operands::Added;
 use crate::operands::Terms;
 use crate::operands::Versioned;
+use crate::options::NOT_GIVEN;
 use crate::options::scan;
+use crate::table::ARGUMENT_AT;
+use crate::table::ASK_FAMILY;
+use crate::table::CONDITION_GROUP;
+use crate::table::COUNT_FAMILY;
+use crate::table::DELETE_FAMILY;
+use crate::table::EXPIRE_FAMILY;
+use crate::table::FAMILY_AT;
+use crate::table::GET_MANY_FAMILY;
+use crate::table::INCREMENT_FAMILY;
+use crate::table::NO_EXP_GROUP;
+use crate::table::PERSIST_FAMILY;
+use crate::table::RENUMBER_FAMILY;
+use crate::table::SET_FAMILY;
+use crate::table::SET_MANY_FAMILY;
+use crate::table::VERSION_GROUP;
+use crate::table::command_datum;
 use crate::table::command_named;
-use crate::words::word;
 use store::layout::TIME_LIMIT;
 use store::layout::VERSION_MOST;
 use wire::integers::Natural;
 use wire::integers::read_natural;
-use wire::names::Row;
+use wire::names::RowFound;
+use wire::places::word;
 ghost use mathlib.Core.Path.{_≡_};
-ghost use mathlib.Core.List.{List};
-ghost use Prim.Native.Nat.{ℕ, _+_, _≤_, _<_};
-ghost use lib.ListN.{length};
-ghost use Rattle.wire.specs.Words.{Word};
-ghost use Rattle.wire.specs.Promises.{wordsIn, Places};
+ghost use Prim.Native.Nat.{ℕ, _<_};
+ghost use Rattle.wire.specs.Promises.{wordsIn, Inside};
 ghost use Rattle.store.specs.Layout.{timeLimit};
 ghost use Rattle.commands.specs.Parse as P;
-ghost use Rattle.commands.specs.declared.Parsed.the-variants as parses;
-ghost use Rattle.commands.specs.ParsePromises.{Split, commandOf, parseRest, meant};
+ghost use Rattle.commands.specs.Parse.{commandCount};
+ghost use Rattle.commands.specs.Tables.{commandOf, unitOf, questionOf, listingOf};
+ghost use Rattle.commands.specs.ParsePromises.{Divided, parseRest, meant};
 
 // EXHSET from its options on: checks 15 to 18.
-fn parse_set(command: &[u8], starts: &[usize], sizes: &[usize], count: usize, time: u64) -> Parsed
-    requires { ⌜ (Split (now command) (now starts) (now sizes) count) × (time < timeLimit) ⌝ }
-    ensures { λ r. ⌜ meant (wordsIn count (now (command .entry)) (now (starts .entry)) (now (sizes .entry))) r ≡ parseRest time 0 (wordsIn count (now (command .entry)) (now (starts .entry)) (now (sizes .entry))) ⌝ }
+fn parse_set(command: &[u8], places: &[[usize; 2]], time: u64) -> Parsed
+    requires { ⌜ (Inside (now command) (now places)) × (time < timeLimit) ⌝ }
+    ensures { λ r. let ws = wordsIn (now (command .entry)) (now (places .entry)) in ⌜ meant ws r ≡ parseRest time P.Form.setForm ws ⌝ }
 {
-    let given = scan(command, starts, sizes, count, 4, &[1, 1, 1, 0, 0, 0]);
+    let given = scan(command, places, 4, &[1, 1, 1, 0, 0, 0]);
     if !given.clean {
         return Parsed::Refused(15);
     }
-    let read = operands::read_terms(command, starts, sizes, count, given, time);
+    let read = operands::read_terms(command, places, given, time);
     match read {
         Terms::Value(version, until) => {
-            let condition = operands::condition(given.options[1]);
+            let condition = operands::condition(given.said[CONDITION_GROUP]);
             Parsed::OnField(FieldDeed::Assign(condition, version, until))
         }
         Terms::Refused(n) => Parsed::Refused(n),
@@ -49,59 +64,42 @@ fn parse_set(command: &[u8], starts: &[usize], sizes: &[usize], count: usize, ti
 }
 
 // EXHINCRBY from its options on.
-fn parse_increment(
-    command: &[u8],
-    starts: &[usize],
-    sizes: &[usize],
-    count: usize,
-    time: u64,
-) -> Parsed
-    requires { ⌜ (Split (now command) (now starts) (now sizes) count) × (time < timeLimit) ⌝ }
-    ensures { λ r. ⌜ meant (wordsIn count (now (command .entry)) (now (starts .entry)) (now (sizes .entry))) r ≡ parseRest time 2 (wordsIn count (now (command .entry)) (now (starts .entry)) (now (sizes .entry))) ⌝ }
+fn parse_increment(command: &[u8], places: &[[usize; 2]], time: u64) -> Parsed
+    requires { ⌜ (Inside (now command) (now places)) × (time < timeLimit) ⌝ }
+    ensures { λ r. let ws = wordsIn (now (command .entry)) (now (places .entry)) in ⌜ meant ws r ≡ parseRest time P.Form.incrementForm ws ⌝ }
 {
-    let given = scan(command, starts, sizes, count, 4, &[1, 0, 1, 1, 1, 0]);
+    let given = scan(command, places, 4, &[1, 0, 1, 1, 1, 0]);
     if !given.clean {
         return Parsed::Refused(15);
     }
-    let added = operands::sum(command, starts, sizes, count, given);
+    let added = operands::sum(command, places, given);
     let Added::Value(sum) = added else {
         return Parsed::Refused(16);
     };
-    let read = operands::read_terms(command, starts, sizes, count, given, time);
+    let read = operands::read_terms(command, places, given, time);
     match read {
         Terms::Value(version, until) => Parsed::OnField(FieldDeed::Increment(sum, version, until)),
         Terms::Refused(n) => Parsed::Refused(n),
     }
 }
 
-// EXHEXPIRE, EXHEXPIREAT, EXHPEXPIRE and EXHPEXPIREAT from their options on; their units are those of EX, EXAT, PX and PXAT.
-fn parse_expire(
-    command: &[u8],
-    starts: &[usize],
-    sizes: &[usize],
-    count: usize,
-    unit: usize,
-    time: u64,
-) -> Parsed
-    requires { ⌜ (Split (now command) (now starts) (now sizes) count) × (unit < 4) × (time < timeLimit) ⌝ }
-    ensures { λ r. ⌜ meant (wordsIn count (now (command .entry)) (now (starts .entry)) (now (sizes .entry))) r ≡ parseRest time (3 + unit) (wordsIn count (now (command .entry)) (now (starts .entry)) (now (sizes .entry))) ⌝ }
+// EXHEXPIRE, EXHEXPIREAT, EXHPEXPIRE and EXHPEXPIREAT from their options on, by their units.
+fn parse_expire(command: &[u8], places: &[[usize; 2]], unit: usize, time: u64) -> Parsed
+    requires { ⌜ (Inside (now command) (now places)) × (time < timeLimit) ⌝ }
+    ensures { λ r. let ws = wordsIn (now (command .entry)) (now (places .entry)) in
+        ⌜ meant ws r ≡ parseRest time (P.Form.expireForm (unitOf unit)) ws ⌝ }
 {
-    let given = scan(command, starts, sizes, count, 4, &[0, 0, 1, 0, 0, 0]);
+    let given = scan(command, places, 4, &[0, 0, 1, 0, 0, 0]);
     if !given.clean {
         return Parsed::Refused(15);
     }
-    let read = read_natural(word(command, starts, sizes, count, 3), TIME_LIMIT);
+    let read = read_natural(word(command, places, 3), TIME_LIMIT);
     let Natural::Value(n) = read else {
         return Parsed::Refused(16);
     };
-    let versioned = operands::versioning(
-        command,
-        starts,
-        sizes,
-        count,
-        given.options[2],
-        given.operands[2],
-    );
+    let said = given.said[VERSION_GROUP];
+    let operand = given.operands[VERSION_GROUP];
+    let versioned = operands::versioning(command, places, said, operand);
     let Versioned::Value(versioning) = versioned else {
         return Parsed::Refused(16);
     };
@@ -116,11 +114,12 @@ fn parse_expire(
 }
 
 // EXHSETVER from its number on.
-fn parse_renumber(command: &[u8], starts: &[usize], sizes: &[usize], count: usize) -> Parsed
-    requires { ⌜ Split (now command) (now starts) (now sizes) count ⌝ }
-    ensures { λ r. ⌜ ((time : ℕ) → meant (wordsIn count (now (command .entry)) (now (starts .entry)) (now (sizes .entry))) r ≡ parseRest time 8 (wordsIn count (now (command .entry)) (now (starts .entry)) (now (sizes .entry)))) ⌝ }
+fn parse_renumber(command: &[u8], places: &[[usize; 2]]) -> Parsed
+    requires { ⌜ Inside (now command) (now places) ⌝ }
+    ensures { λ r. let ws = wordsIn (now (command .entry)) (now (places .entry)) in
+        ⌜ ((time : ℕ) → meant ws r ≡ parseRest time P.Form.renumberForm ws) ⌝ }
 {
-    let read = read_natural(word(command, starts, sizes, count, 3), VERSION_MOST);
+    let read = read_natural(word(command, places, 3), VERSION_MOST);
     let Natural::Value(n) = read else {
         return Parsed::Refused(16);
     };
@@ -128,139 +127,107 @@ fn parse_renumber(command: &[u8], starts: &[usize], sizes: &[usize], count: usiz
 }
 
 // EXHLEN from its options on.
-fn parse_count(command: &[u8], starts: &[usize], sizes: &[usize], count: usize) -> Parsed
-    requires { ⌜ Split (now command) (now starts) (now sizes) count ⌝ }
-    ensures { λ r. ⌜ ((time : ℕ) → meant (wordsIn count (now (command .entry)) (now (starts .entry)) (now (sizes .entry))) r ≡ parseRest time 19 (wordsIn count (now (command .entry)) (now (starts .entry)) (now (sizes .entry)))) ⌝ }
+fn parse_count(command: &[u8], places: &[[usize; 2]]) -> Parsed
+    requires { ⌜ Inside (now command) (now places) ⌝ }
+    ensures { λ r. let ws = wordsIn (now (command .entry)) (now (places .entry)) in
+        ⌜ ((time : ℕ) → meant ws r ≡ parseRest time P.Form.countForm ws) ⌝ }
 {
-    let given = scan(command, starts, sizes, count, 2, &[0, 0, 0, 0, 0, 1]);
+    let given = scan(command, places, 2, &[0, 0, 0, 0, 0, 1]);
     if !given.clean {
         return Parsed::Refused(15);
     }
-    if given.options[5] < 12 {
+    if given.said[NO_EXP_GROUP] < NOT_GIVEN {
         return Parsed::OnKey(KeyDeed::CountLive);
     }
     Parsed::OnKey(KeyDeed::CountHeld)
 }
 
-// What EXHPTTL (9), EXHTTL, EXHVER, EXHGET, EXHSTRLEN, EXHEXISTS or EXHGETWITHVER (15) asks.
-fn question(row: usize) -> Question
-    requires { ⌜ (9 ≤ row) × (row < 16) ⌝ }
-    ensures { λ r. ⌜ commandOf row .form ≡ P.Form.askForm r ⌝ }
+// A question by its number.
+fn question(n: usize) -> Question
+    ensures { λ r. ⌜ r ≡ questionOf n ⌝ }
 {
-    match row {
-        9 => Question::Milliseconds,
-        10 => Question::Seconds,
-        11 => Question::Version,
-        12 => Question::Value,
-        13 => Question::Length,
-        14 => Question::Exists,
-        _ => Question::Versioned,
+    match n {
+        0 => Question::Value,
+        1 => Question::Length,
+        2 => Question::Exists,
+        3 => Question::Versioned,
+        4 => Question::Version,
+        5 => Question::Seconds,
+        _ => Question::Milliseconds,
     }
 }
 
-// What EXHKEYS (20), EXHVALS or EXHGETALL (22) lists.
-fn listing(row: usize) -> Listing
-    requires { ⌜ (20 ≤ row) × (row < 23) ⌝ }
-    ensures { λ r. ⌜ commandOf row .form ≡ P.Form.listForm r ⌝ }
+// A listing by its number.
+fn listing(n: usize) -> Listing
+    ensures { λ r. ⌜ r ≡ listingOf n ⌝ }
 {
-    match row {
-        20 => Listing::Fields,
-        21 => Listing::Values,
+    match n {
+        0 => Listing::Fields,
+        1 => Listing::Values,
         _ => Listing::Both,
     }
 }
 
-// What EXHMGET (16), EXHMGETWITHVER, EXHDEL, EXHKEYS (20), EXHVALS or EXHGETALL does.
-fn key_deed(row: usize) -> KeyDeed
-    requires { ⌜ (16 ≤ row) × (row < 23) × (row ≡ 19 → ⊥) ⌝ }
-    ensures { λ r. ⌜ ((time : ℕ) (ws : List Word) → meant ws (parses.OnKey r) ≡ parseRest time row ws) ⌝ }
-{
-    if row == 16 {
-        return KeyDeed::GetMany(Question::Value);
-    }
-    if row == 17 {
-        return KeyDeed::GetMany(Question::Versioned);
-    }
-    if row == 18 {
-        return KeyDeed::Delete;
-    }
-    KeyDeed::List(listing(row))
-}
-
-// The commands with neither options nor a number, from EXHPERSIST on.
-fn parse_fixed(row: usize) -> Parsed
-    requires { ⌜ (7 ≤ row) × (row < 23) × (row ≡ 8 → ⊥) × (row ≡ 19 → ⊥) ⌝ }
-    ensures { λ r. ⌜ ((time : ℕ) (ws : List Word) → meant ws r ≡ parseRest time row ws) ⌝ }
-{
-    if row == 7 {
-        return Parsed::OnField(FieldDeed::Persist);
-    }
-    if row < 16 {
-        return Parsed::OnField(FieldDeed::Ask(question(row)));
-    }
-    Parsed::OnKey(key_deed(row))
-}
-
 // A command of a row from its options on: checks 15 to 18.
-fn parse_row(
-    command: &[u8],
-    starts: &[usize],
-    sizes: &[usize],
-    count: usize,
-    row: usize,
-    time: u64,
-) -> Parsed
-    requires { ⌜ (Split (now command) (now starts) (now sizes) count) × (row < 23) × (time < timeLimit) ⌝ }
-    ensures { λ r. ⌜ meant (wordsIn count (now (command .entry)) (now (starts .entry)) (now (sizes .entry))) r ≡ parseRest time row (wordsIn count (now (command .entry)) (now (starts .entry)) (now (sizes .entry))) ⌝ }
+fn parse_row(command: &[u8], places: &[[usize; 2]], row: usize, time: u64) -> Parsed
+    requires { ⌜ (Inside (now command) (now places)) × (row < commandCount) × (time < timeLimit) ⌝ }
+    ensures { λ r. let ws = wordsIn (now (command .entry)) (now (places .entry)) in ⌜ meant ws r ≡ parseRest time (commandOf row .form) ws ⌝ }
 {
-    if row == 0 {
-        return parse_set(command, starts, sizes, count, time);
+    let family = command_datum(row, FAMILY_AT);
+    let argument = command_datum(row, ARGUMENT_AT);
+    if family == SET_FAMILY {
+        return parse_set(command, places, time);
     }
-    if row == 1 {
+    if family == SET_MANY_FAMILY {
         return Parsed::OnKey(KeyDeed::SetMany);
     }
-    if row == 2 {
-        return parse_increment(command, starts, sizes, count, time);
+    if family == INCREMENT_FAMILY {
+        return parse_increment(command, places, time);
     }
-    if row < 7 {
-        return parse_expire(command, starts, sizes, count, row - 3, time);
+    if family == EXPIRE_FAMILY {
+        return parse_expire(command, places, argument, time);
     }
-    if row == 8 {
-        return parse_renumber(command, starts, sizes, count);
+    if family == PERSIST_FAMILY {
+        return Parsed::OnField(FieldDeed::Persist);
     }
-    if row == 19 {
-        return parse_count(command, starts, sizes, count);
+    if family == RENUMBER_FAMILY {
+        return parse_renumber(command, places);
     }
-    parse_fixed(row)
+    if family == ASK_FAMILY {
+        return Parsed::OnField(FieldDeed::Ask(question(argument)));
+    }
+    if family == GET_MANY_FAMILY {
+        return Parsed::OnKey(KeyDeed::GetMany(question(argument)));
+    }
+    if family == DELETE_FAMILY {
+        return Parsed::OnKey(KeyDeed::Delete);
+    }
+    if family == COUNT_FAMILY {
+        return parse_count(command, places);
+    }
+    Parsed::OnKey(KeyDeed::List(listing(argument)))
 }
 
-// What a command says, or the lowest of the refusals 10 to 18; a count of 0 is that its bytes are damaged.
-pub fn parse(
-    command: &[u8],
-    starts: &[usize],
-    sizes: &[usize],
-    count: usize,
-    clock: u64,
-    time: u64,
-) -> Parsed
-    requires { ⌜ (Places (now command) (now starts) (now sizes) count) × (64 ≤ length (now starts)) × (64 ≤ length (now sizes)) × (clock < timeLimit → time < timeLimit) ⌝ }
-    ensures { λ r. ⌜ meant (wordsIn count (now (command .entry)) (now (starts .entry)) (now (sizes .entry))) r ≡ P.parse time clock (now (command .entry)) ⌝ }
+// What a command says, or the lowest of the refusals 10 to 18; no places at all are that its bytes are damaged.
+pub fn parse(command: &[u8], places: &[[usize; 2]], clock: u64, time: u64) -> Parsed
+    requires { ⌜ (Divided (now command) (now places)) × (clock < timeLimit → time < timeLimit) ⌝ }
+    ensures { λ r. let ws = wordsIn (now (command .entry)) (now (places .entry)) in ⌜ meant ws r ≡ P.parse time clock (now (command .entry)) ⌝ }
 {
-    if count == 0 {
+    if places.len() == 0 {
         return Parsed::Refused(10);
     }
     if TIME_LIMIT <= clock {
         return Parsed::Refused(11);
     }
-    let found = command_named(word(command, starts, sizes, count, 0));
-    let Row::At(row) = found else {
+    let found = command_named(word(command, places, 0));
+    let RowFound::At(row) = found else {
         return Parsed::Refused(12);
     };
-    if !count_fits(row, count) {
+    if !count_fits(row, places.len()) {
         return Parsed::Refused(13);
     }
-    if too_long(command, starts, sizes, count, row) {
+    if too_long(command, places, row) {
         return Parsed::Refused(14);
     }
-    parse_row(command, starts, sizes, count, row, time)
+    parse_row(command, places, row, time)
 }

@@ -177,6 +177,21 @@ pub length-padded : (n : ℕ) (s : List ℕ) → length s ≤ n → length (padd
 unfolding padded
 length-padded n s h = simp (length-append, length-replicate) (omega arith)
 
+-- past a list there is 0 either way
+pub padded-at : (n : ℕ) (s : List ℕ) (k : ℕ) → getD (padded n s) k 0 ≡ getD s k 0
+unfolding padded
+padded-at n s = go s (n - length s)
+  where
+    zeros : (m k : ℕ) → getD {A = ℕ} (replicate m 0) k 0 ≡ 0
+    zeros zero k = refl
+    zeros (suc m) zero = refl
+    zeros (suc m) (suc k) = zeros m k
+
+    go : (s : List ℕ) (m k : ℕ) → getD (s ++ replicate m 0) k 0 ≡ getD s k 0
+    go [] m k = zeros m k
+    go (b ∷ s) m zero = refl
+    go (b ∷ s) m (suc k) = go s m k
+
 pub take-padded : (n : ℕ) (s : List ℕ) → take (length s) (padded n s) ≡ s
 unfolding padded
 take-padded n s = take-append-seam s (replicate (n - length s) 0)

@@ -8,12 +8,14 @@ use native.Mathlib.Numerals.{add-one}
 use native.Mathlib.Nat.{not-suc-le-zero, sub-zero}
 use native.Mathlib.Omega.{arith}
 use borrow.Author.Count.{below-more}
-use borrow.Author.Tests.{le-leb, ne-eqb, eq-eqb}
-use lib.Dec.{leb, eqb}
+use borrow.Author.Tests.{le-leb, ltb-true, ltb-false, ne-eqb, eq-eqb}
+use lib.Dec.{leb, ltb, eqb}
 use lib.ListN.{length, getD, take, drop, set, length-append, length-take, length-drop, length-map, drop-of-length-le, List·getD-map, List·getD-eq-default}
 use lib.Seq.{drop-cons, drop-drop, drop-length, take-at, take-append-seam, drop-append-seam, getD-set-same, getD-set-other, getD-take, take-suc-set, length-take-le, append-snoc}
 use Rattle.wire.proofs.Lists.{impossible}
 use Rattle.wire.specs.declared.integers.Natural.the-variants as naturals
+use Rattle.wire.specs.declared.places.Next.{Next}
+use Rattle.wire.specs.declared.places.Next.the-variants as nexts
 use Rattle.wire.specs.declared.places.Counted.the-variants as counts
 use Rattle.wire.specs.declared.places.Placed.the-variants as placed
 use Rattle.wire.specs.Lists.{onlyIf, orElse, isEmpty}
@@ -21,7 +23,7 @@ use Rattle.wire.specs.Bytes.{part, same, text}
 use Rattle.wire.specs.Integer.{naturalText, readNatural}
 use Rattle.wire.specs.Words.{Word, Read, crlf, beforeCR, fromCR, readCount, readWord, readWords, wordsOf, wordsMost, wordAt}
 use Rattle.wire.specs.Reply.{bulk}
-use Rattle.wire.specs.Promises.{naturalFor, countedFor, placedFor, wordIn, wordsIn, placeEnd, Inside, Places}
+use Rattle.wire.specs.Promises.{naturalFor, countedFor, placedFor, wordIn, wordsIn, placeEnd, Inside, Places, nextOf}
 use Rattle.wire.proofs.Words.{split-CR, count-is, word-is}
 
 -- ---- lines
@@ -435,3 +437,20 @@ word-part s places i =
 pub word-past : (s : List ℕ) (places : List (List ℕ)) (i : ℕ) → length places ≤ i → [] ≡ wordAt i (wordsIn s places)
 unfolding wordIn part
 word-past s places i l = rw (word-of-place s places i, List·getD-eq-default places [] l)
+
+-- there is no word n, or it is there
+pub next-end : (count n : ℕ) {r : Next} → r ≡ nextOf count n → r ≡ nexts.End → count ≤ n
+unfolding nextOf
+next-end count n {r} e q = go (ltb n count) refl e
+  where
+    go : (t : Bool) → ltb n count ≡ t → r ≡ cond t (nexts.Word n) nexts.End → count ≤ n
+    go true p d = impossible cc
+    go false p d = ltb-false n count p
+
+pub next-at : (count n k : ℕ) {r : Next} → r ≡ nextOf count n → r ≡ nexts.Word k → (k ≡ n) × (n < count)
+unfolding nextOf
+next-at count n k {r} e q = go (ltb n count) refl e
+  where
+    go : (t : Bool) → ltb n count ≡ t → r ≡ cond t (nexts.Word n) nexts.End → (k ≡ n) × (n < count)
+    go true p d = (cc, ltb-true n count p)
+    go false p d = impossible cc

@@ -1,15 +1,17 @@
 -- Names: capitals, and the rows of a table.
-use mathlib.Core.Path.{_≡_, _∙_}
+use mathlib.Core.Path.{_≡_, refl, _∙_}
 use mathlib.Core.Bool.{Bool, true, false, cond}
 use mathlib.Core.List.{List, map}
-use mathlib.Core.Option.{none, some}
+use mathlib.Core.Option.{Option, none, some}
 use Prim.Native.Nat.{ℕ, suc, _+_, _-_, _*_, _≤_, _<_}
 use native.Mathlib.Numerals.{add-one}
 use native.Mathlib.Omega.{arith}
 use borrow.Author.Tests.{le-leb, lt-leb}
 use lib.ListN.{length, getD, take, drop, length-map, List·getD-map}
 use Rattle.wire.specs.Bytes.{part, same, upper}
-use Rattle.wire.specs.Promises.{nameIn, rowFrom}
+use Rattle.wire.specs.declared.names.RowFound.the-variants as rows
+use Rattle.wire.specs.Promises.{rowSize, nameIn, rowFrom, rowFor}
+use Rattle.wire.proofs.Lists.{impossible}
 
 -- ---- capitals
 
@@ -38,15 +40,15 @@ upper-at word i = List·getD-map upper word i 0
 -- ---- rows
 
 -- the name of a row is the part of the table behind the row's length
-name-part : (table : List ℕ) (i : ℕ) → take (16 * i + 1 + getD table (16 * i) 0 - (16 * i + 1)) (drop (16 * i + 1) table) ≡ nameIn table i
+name-part : (table : List ℕ) (i : ℕ) → take (rowSize * i + 1 + getD table (rowSize * i) 0 - (rowSize * i + 1)) (drop (rowSize * i + 1) table) ≡ nameIn table i
 unfolding nameIn part
 name-part table i =
-    let e : 16 * i + 1 + getD table (16 * i) 0 - (16 * i + 1) ≡ getD table (16 * i) 0 = omega arith in
+    let e : rowSize * i + 1 + getD table (rowSize * i) 0 - (rowSize * i + 1) ≡ getD table (rowSize * i) 0 = omega arith in
     rw e
 
 module _ (table w : List ℕ) (rows i : ℕ) where
   module _ (l : i < rows) (r : Bool)
-      (test : r ≡ same (map upper w) (take (16 * i + 1 + getD table (16 * i) 0 - (16 * i + 1)) (drop (16 * i + 1) table))) where
+      (test : r ≡ same (map upper w) (take (rowSize * i + 1 + getD table (rowSize * i) 0 - (rowSize * i + 1)) (drop (rowSize * i + 1) table))) where
     -- the rows from row i on are that row and the later ones
     row-on : rowFrom (rows - i) i table w ≡ cond r (some i) (rowFrom (rows - (i + 1)) (i + 1) table w)
     unfolding rowFrom
@@ -67,3 +69,15 @@ module _ (table w : List ℕ) (rows i : ℕ) where
   row-end l =
       let e : rows - i ≡ 0 = omega arith in
       rw e
+
+-- ---- what a search found
+
+pub row-nothing : (o : Option ℕ) → rowFor o ≡ rows.Nothing → o ≡ none
+unfolding rowFor
+row-nothing none h = refl
+row-nothing (some k) h = impossible cc
+
+pub row-at : (o : Option ℕ) (k : ℕ) → rowFor o ≡ rows.At k → o ≡ some k
+unfolding rowFor
+row-at none k h = impossible cc
+row-at (some j) k h = cc

@@ -63,6 +63,12 @@ within-minus n = go (leb n 0x7fff_ffff_ffff_ffff) refl
     go true e = rw (e, le-leb (suc n) 0x8000_0000_0000_0000 (omega (arith, leb-true)))
     go false e = rw (e, lt-leb (suc n) 0x8000_0000_0000_0000 (omega (arith, leb-false)))
 
+-- An integer is what its sign and magnitude say.
+pub sign-said : (z : ℤ) → integerOf (signedFor z) ≡ z
+unfolding integerOf signedFor
+sign-said (pos n) = refl
+sign-said (negsuc n) = refl
+
 -- ---- what a number that was read says
 
 -- A number was read.

@@ -12,8 +12,8 @@ use Rattle.wire.specs.declared.integers.Natural.the-variants as naturals
 use Rattle.wire.specs.declared.integers.Integer.{Integer}
 use Rattle.wire.specs.declared.integers.Integer.the-variants as integers
 use Rattle.wire.specs.declared.integers.Signed.{Signed}
-use Rattle.wire.specs.declared.names.Row.{Row}
-use Rattle.wire.specs.declared.names.Row.the-variants as rows
+use Rattle.wire.specs.declared.names.RowFound.{RowFound}
+use Rattle.wire.specs.declared.names.RowFound.the-variants as rows
 use Rattle.wire.specs.declared.places.Next.{Next}
 use Rattle.wire.specs.declared.places.Next.the-variants as nexts
 use Rattle.wire.specs.declared.places.Counted.{Counted}
@@ -86,9 +86,15 @@ nextOf count i = cond (ltb i count) (nexts.Word i) nexts.End
 
 -- ---- names
 
--- A table of names has 16 bytes a row: the name's length, and the name in capitals.
+-- A row of a table of names: the name's length, the name in capitals, and numbers that the table's owner has beside it.
+abbrev pub nameSize : ℕ
+nameSize = 16
+
+abbrev pub dataSize : ℕ
+dataSize = 5
+
 abbrev pub rowSize : ℕ
-rowSize = 16
+rowSize = 21
 
 unfoldable pub nameIn : List ℕ → ℕ → List ℕ
 nameIn table i = part (rowSize * i + 1) (getD table (rowSize * i) 0) table
@@ -103,14 +109,18 @@ rowFrom (suc n) i table w =
 unfoldable pub rowNamed : List ℕ → Word → Option ℕ
 rowNamed table w = rowFrom (length table / rowSize) 0 table w
 
-unfoldable pub rowFor : Option ℕ → Row
+unfoldable pub rowFor : Option ℕ → RowFound
 rowFor none = rows.Nothing
 rowFor (some i) = rows.At i
+
+-- number k of the numbers of row i
+unfoldable pub datumIn : List ℕ → ℕ → ℕ → ℕ
+datumIn table i k = getD table (rowSize * i + nameSize + k) 0
 
 -- a table is whole rows, and no name is longer than its place
 pub record Table (table : List ℕ) : Type 0 where
   pub whole : length table ≡ rowSize * (length table / rowSize)
-  pub short : (i : ℕ) → getD table (rowSize * i) 0 < rowSize
+  pub short : (i : ℕ) → getD table (rowSize * i) 0 < nameSize
 
 -- ---- replies
 

@@ -1,13 +1,19 @@
-// Names in a table, compared without regard to case. A row of the table is 16 bytes: the name's length, and the name in capitals.
+// Names in a table, compared without regard to case. A row of the table is the name's length, the name in capitals in 15 bytes, and 5 numbers that say what the table's
+// owner has to know of what is named.
 ghost use mathlib.Core.Path.{_≡_};
 ghost use mathlib.Core.List.{map};
+ghost use Prim.Native.Nat.{_/_, _<_};
+ghost use lib.ListN.{length};
 ghost use Rattle.wire.specs.Bytes.{same, upper};
-ghost use Rattle.wire.specs.Promises.{Table, rowNamed, rowFor};
+ghost use Rattle.wire.specs.Promises.{Table, rowSize, dataSize, rowNamed, rowFor, datumIn};
 
-const ROW: usize = 16;
+// The bytes of a row: up to the end of its name, and in all.
+const NAME_SIZE: usize = 16;
+
+pub const ROW_SIZE: usize = 21;
 
 // The row of a name, or that there is none.
-pub enum Row {
+pub enum RowFound {
     At(usize),
     Nothing,
 }
@@ -40,20 +46,29 @@ pub fn spells(word: &[u8], name: &[u8]) -> bool
 }
 
 // The lowest row whose name a word spells.
-pub fn find(table: &[u8], word: &[u8]) -> Row
+pub fn find(table: &[u8], word: &[u8]) -> RowFound
     requires { ⌜ Table (now table) ⌝ }
     ensures { λ r. ⌜ r ≡ rowFor (rowNamed (now (table .entry)) (now (word .entry))) ⌝ }
 {
-    let rows = table.len() / ROW;
+    let rows = table.len() / ROW_SIZE;
     let mut i = 0;
     while i < rows {
-        let at = ROW * i;
+        let at = ROW_SIZE * i;
         let start = at + 1;
         let end = start + table[at] as usize;
         if spells(word, &table[start..end]) {
-            return Row::At(i);
+            return RowFound::At(i);
         }
         i += 1;
     }
-    Row::Nothing
+    RowFound::Nothing
+}
+
+// Number k of the numbers of a row.
+pub fn datum(table: &[u8], row: usize, k: usize) -> usize
+    requires { ⌜ (row < length (now table) / rowSize) × (k < dataSize) ⌝ }
+    ensures { λ r. ⌜ r ≡ datumIn (now (table .entry)) row k ⌝ }
+{
+    let at = ROW_SIZE * row + NAME_SIZE + k;
+    table[at] as usize
 }

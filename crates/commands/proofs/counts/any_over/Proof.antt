@@ -4,33 +4,37 @@ use Prim.Native.Nat.{_-_}
 use lib.Dec.{ltb}
 use lib.ListN.{length, drop}
 use native.Mathlib.Omega.{arith}
-use borrow.Author.Needs.{needs}
 use Rattle.wire.specs.Lists.{any}
 use Rattle.wire.specs.Promises.{wordsIn}
+use Rattle.wire.proofs.Cursor.{length-words}
 use Rattle.store.specs.Layout.{fieldMost}
 use Rattle.commands.specs.ParsePromises.{anyOver}
 use Rattle.commands.proofs.Tallies.{over-found, over-on, over-ends}
+use borrow.Author.Needs.{needs}
 use Rattle.commands.proofs.counts.any_over.Statement.{statement}
 use Rattle.commands.proofs.counts.any_over.Tie as tie
 
 abbrev Inv-loop : tie.InvT-loop
-Inv-loop command starts sizes count i₀ i = anyOver (wordsIn count command starts sizes) ≡ any (λ f. ltb fieldMost (length f)) (drop i (wordsIn count command starts sizes))
+Inv-loop command places i₀ i = anyOver (wordsIn command places) ≡ any (λ f. ltb fieldMost (length f)) (drop i (wordsIn command places))
 
 abbrev μ-loop : tie.MeasureT-loop
-μ-loop command starts sizes count i₀ i = count - i
+μ-loop command places i₀ i = length places - i
 
 loop-holds : tie.Need-loop-holds Inv-loop μ-loop
 unfolding anyOver
 loop-holds c = refl
 
-mul-if1 : tie.Need-mul-if1 Inv-loop μ-loop
-mul-if1 c = search needs
-
-shared-slice-read-if1 : tie.Need-shared-slice-read-if1 Inv-loop μ-loop
-shared-slice-read-if1 c = search needs
+word-requires : tie.Need-word-requires Inv-loop μ-loop
+word-requires c κs =
+    let a = c .before .before .before in
+    a .pre
 
 returns : tie.Need-returns Inv-loop μ-loop
-returns c = over-found (c .before .before .before .before .pre) (c .before .before .before .loop .i) (c .before .before .before .loop .inv) (c .before .before .loop-test .taken) (c .if1 .taken)
+returns c =
+    let a = c .before in
+    let b = a .before in
+    let d = b .before in
+    over-found _ (length-words _ _) (d .loop .i) (d .loop .inv) (b .loop-test .taken) (a .word .ensures) (c .if1 .taken)
 
 add-i : tie.Need-add-i Inv-loop μ-loop
 add-i c = search needs
@@ -39,10 +43,16 @@ loop-less : tie.Need-loop-less Inv-loop μ-loop
 loop-less c = omega arith
 
 loop-again : tie.Need-loop-again Inv-loop μ-loop
-loop-again c = over-on (c .before .before .before .before .pre) (c .before .before .before .loop .i) (c .before .before .before .loop .inv) (c .before .before .loop-test .taken) (c .if1 .left)
+loop-again c =
+    let a = c .before in
+    let b = a .before in
+    let d = b .before in
+    over-on _ (length-words _ _) (d .loop .i) (d .loop .inv) (b .loop-test .taken) (a .word .ensures) (c .if1 .left)
 
 returns-2 : tie.Need-returns-2 Inv-loop μ-loop
-returns-2 c = over-ends (c .before .before .pre) (c .before .loop .i) (c .before .loop .inv) (c .loop-test .left)
+returns-2 c =
+    let a = c .before in
+    over-ends _ (length-words _ _) (a .loop .i) (a .loop .inv) (c .loop-test .left)
 
 pub any-over-spec : {M : Type 1} → statement M
 any-over-spec =
@@ -51,8 +61,7 @@ any-over-spec =
     Inv-loop
     μ-loop
     loop-holds
-    mul-if1
-    shared-slice-read-if1
+    word-requires
     returns
     add-i
     loop-less

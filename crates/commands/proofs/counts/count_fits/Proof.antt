@@ -1,36 +1,52 @@
--- The tables of the code are those of the definition, computed.
-use Rattle.commands.specs.Parse.{commands}
-use Rattle.commands.proofs.Tallies.{leastOf, moreOf, leasts, mores, row-few, row-just, row-enough, row-paired}
+use Rattle.commands.proofs.Tallies.{row-few, row-just, row-enough, row-paired}
 use borrow.Author.Needs.{needs}
 use Rattle.commands.proofs.counts.count_fits.Statement.{statement}
 use Rattle.commands.proofs.counts.count_fits.Tie as tie
 
-mul-least : tie.Need-mul-least
-mul-least c = search needs
+command-datum-requires : tie.Need-command-datum-requires
+command-datum-requires c κs = search needs
 
-array-read-least : tie.Need-array-read-least
-array-read-least c = search needs
-
-array-read-more : tie.Need-array-read-more
-array-read-more c = search needs
+command-datum-requires-2 : tie.Need-command-datum-requires-2
+command-datum-requires-2 c κs = search needs
 
 returns : tie.Need-returns
-unfolding leasts mores leastOf moreOf commands
-returns c = row-few (c .before .args .row) (c .before .pre) (c .before .args .count) (c .if1 .taken)
+returns c =
+    let a = c .before in
+    let b = a .before in
+    let d = b .before in
+    row-few (d .args .row) (d .args .count) (b .command-datum .ensures) (a .command-datum2 .ensures) (c .if1 .taken)
 
 returns-2 : tie.Need-returns-2
-unfolding leasts mores leastOf moreOf commands
-returns-2 c = row-just (c .before .before .args .row) (c .before .before .pre) (c .before .before .args .count) (c .if2 .taken)
+returns-2 c =
+    let a = c .before .before in
+    let b = a .before in
+    let d = b .before in
+    row-just (d .args .row) (d .args .count) (b .command-datum .ensures) (a .command-datum2 .ensures) (c .if2 .taken)
 
 returns-3 : tie.Need-returns-3
-unfolding leasts mores leastOf moreOf commands
-returns-3 c = row-enough (c .before .before .before .args .row) (c .before .before .before .pre) (c .before .before .before .args .count) (c .before .before .if1 .left) (c .if3 .taken)
+returns-3 c =
+    let a = c .before .before in
+    let b = a .before in
+    let d = b .before in
+    let e = d .before in
+    row-enough (e .args .row) (e .args .count) (d .command-datum .ensures) (b .command-datum2 .ensures) (a .if1 .left) (c .if3 .taken)
 
 returns-4 : tie.Need-returns-4
-unfolding leasts mores leastOf moreOf commands
-returns-4 c = row-paired (c .before .before .before .args .row) (c .before .before .before .pre) (c .before .before .before .args .count) (c .before .before .if1 .left) (c .before .if2 .left) (c .if3 .left)
+returns-4 c =
+    let a = c .before in
+    let b = a .before in
+    let d = b .before in
+    let e = d .before in
+    let f = e .before in
+    row-paired (f .args .row) (f .args .count) (e .command-datum .ensures) (d .command-datum2 .ensures) (b .if1 .left) (a .if2 .left) (c .if3 .left)
 
 pub count-fits-spec : {M : Type 1} → statement M
 count-fits-spec =
     tie.close
-    (tie.spec mul-least array-read-least array-read-more returns returns-2 returns-3 returns-4)
+    (tie.spec
+    command-datum-requires
+    command-datum-requires-2
+    returns
+    returns-2
+    returns-3
+    returns-4)

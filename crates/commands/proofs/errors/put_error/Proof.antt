@@ -1,11 +1,8 @@
 -- The line is the part of all lines between two ends.
 use native.Mathlib.Omega.{arith}
 use denote.Ref.{now}
-use mathlib.Core.List.{flatMap}
 use lib.ListN.{length}
-use Rattle.wire.specs.Bytes.{text}
-use Rattle.commands.specs.Refusal.{table}
-use Rattle.commands.proofs.Lines.{lines, ends, lineOf, line-at, line-room, line-laid}
+use Rattle.commands.proofs.Lines.{placing, line-at, line-room, line-laid}
 use borrow.Author.Needs.{needs}
 use Rattle.commands.proofs.errors.put_error.Statement.{statement}
 use Rattle.commands.proofs.errors.put_error.Tie as tie
@@ -23,30 +20,35 @@ mul-end : tie.Need-mul-end
 mul-end c = search needs
 
 array-read-end : tie.Need-array-read-end
-array-read-end c = line-at (c .before .args .n) (c .before .pre .0) .last
+array-read-end c = omega (arith, line-at (c .before .args .n) (c .before .pre .0) .last)
 
 sub-put-line : tie.Need-sub-put-line
-unfolding ends
+unfolding placing
 sub-put-line c = line-at (c .before .args .n) (c .before .pre .0) .order
 
 part-put-line-start : tie.Need-part-put-line-start
-unfolding ends
+unfolding placing
 part-put-line-start c = line-at (c .before .before .args .n) (c .before .before .pre .0) .order
 
 part-put-line-end : tie.Need-part-put-line-end
-unfolding ends
+unfolding placing
 part-put-line-end c = line-at (c .before .before .args .n) (c .before .before .pre .0) .inside
 
 put-line-requires : tie.Need-put-line-requires
-unfolding lines ends lineOf flatMap text table
-put-line-requires c κs = line-room (c .before .before .before .before .args .n) (length (now (c .before .before .before .before .args .out))) (c .before .before .before .before .pre .0) (c .before .before .before .before .pre .1)
+unfolding placing
+put-line-requires c κs =
+    let a = c .before .before .before .before in
+    line-room (a .args .n) (length (now (a .args .out))) (a .pre .0) (a .pre .1)
 
 same-length : tie.Need-same-length
 same-length c = search needs
 
 returns : tie.Need-returns
-unfolding lines ends lineOf flatMap text table
-returns c = line-laid (c .before .before .before .before .before .before .before .args .n) (c .before .before .before .before .before .before .before .pre .0) (c .before .before .put-line .ensures)
+unfolding placing
+returns c =
+    let a = c .before .before in
+    let b = a .before .before .before .before .before in
+    line-laid (b .args .n) (b .pre .0) (a .put-line .ensures)
 
 pub put-error-spec : {M : Type 1} → statement M
 put-error-spec =

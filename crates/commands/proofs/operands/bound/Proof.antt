@@ -4,7 +4,9 @@ use Rattle.commands.proofs.operands.bound.Statement.{statement}
 use Rattle.commands.proofs.operands.bound.Tie as tie
 
 returns : tie.Need-returns
-returns c = bound-none (c .before .before .before .before .args .unbounded) (c .before .before .before .before .args .option) _ (c .if1 .taken)
+returns c =
+    let a = c .before .before in
+    bound-none (a .args .unbounded) (a .args .said) _ (c .if1 .taken)
 
 word-requires : tie.Need-word-requires
 word-requires c κs = search needs
@@ -13,7 +15,11 @@ read-integer-requires : tie.Need-read-integer-requires
 read-integer-requires c κs = search needs
 
 returns-2 : tie.Need-returns-2
-returns-2 c = bound-read (c .before .before .before .before .before .before .args .unbounded) (c .before .before .before .before .before .before .args .option) _ (c .before .before .if1 .left) (rw (c .before .word .ensures) at (c .read-integer .ensures))
+returns-2 c =
+    let a = c .before in
+    let b = a .before in
+    let d = b .before .before in
+    bound-read (d .args .unbounded) (d .args .said) _ (b .if1 .left) (rw (a .word .ensures) at (c .read-integer .ensures))
 
 pub bound-spec : {M : Type 1} → statement M
 bound-spec = tie.close (tie.spec returns word-requires read-integer-requires returns-2)

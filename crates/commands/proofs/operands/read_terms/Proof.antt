@@ -1,11 +1,10 @@
-use Rattle.commands.specs.ParsePromises.{givenAt}
 use Rattle.commands.proofs.Parsing.{terms-untimed, terms-unversioned, terms-zero, terms-beyond, terms-both}
 use borrow.Author.Needs.{needs}
 use Rattle.commands.proofs.operands.read_terms.Statement.{statement}
 use Rattle.commands.proofs.operands.read_terms.Tie as tie
 
-element-copy-out-option : tie.Need-element-copy-out-option
-element-copy-out-option c = search needs
+element-copy-out-said : tie.Need-element-copy-out-said
+element-copy-out-said c = search needs
 
 element-copy-out-operand : tie.Need-element-copy-out-operand
 element-copy-out-operand c = search needs
@@ -20,11 +19,13 @@ enum-told : tie.Need-enum-told
 enum-told c = search needs
 
 returns : tie.Need-returns
-unfolding givenAt
-returns c = terms-untimed (c .before .before .before .before .before .before .before .before .args .time) _ _ (c .before .before .lifetime .ensures) (c .enum-told .given .1)
+returns c =
+    let a = c .before .before in
+    let b = a .before .before .before .before in
+    terms-untimed (b .args .time) _ _ (a .lifetime .ensures) (c .enum-told .given .1)
 
-element-copy-out-option-2 : tie.Need-element-copy-out-option-2
-element-copy-out-option-2 c = search needs
+element-copy-out-said-2 : tie.Need-element-copy-out-said-2
+element-copy-out-said-2 c = search needs
 
 element-copy-out-operand-2 : tie.Need-element-copy-out-operand-2
 element-copy-out-operand-2 c = search needs
@@ -39,38 +40,64 @@ enum-told-2 : tie.Need-enum-told-2
 enum-told-2 c = search needs
 
 returns-2 : tie.Need-returns-2
-unfolding givenAt
-returns-2 c = terms-unversioned (c .before .before .before .before .before .before .before .before .before .before .before .before .before .before .args .time) _ _ (c .before .before .before .before .before .before .before .before .lifetime .ensures) (c .before .before .versioning .ensures) (c .before .before .before .before .before .before .timed .given .1) (c .enum-told2 .given .1)
+returns-2 c =
+    let a = c .before .before in
+    let b = a .before .before .before .before in
+    let d = b .before .before in
+    let e = d .before .before .before .before in
+    terms-unversioned (e .args .time) _ _ (d .lifetime .ensures) (a .versioning .ensures) (b .timed .given .1) (c .enum-told2 .given .1)
 
 is-zero-requires : tie.Need-is-zero-requires
 is-zero-requires c κs = search needs
 
 returns-3 : tie.Need-returns-3
-unfolding givenAt
-returns-3 c = terms-zero (c .before .before .before .before .before .before .before .before .before .before .before .before .before .before .before .before .before .args .time) _ _ (c .before .before .before .before .before .before .before .before .before .before .before .lifetime .ensures) (c .before .before .before .before .before .versioning .ensures) (c .before .before .before .before .before .before .before .before .before .timed .given .1) (c .before .before .before .versioned .given .1) (c .before .is-zero .ensures) (c .if1 .taken)
+returns-3 c =
+    let a = c .before in
+    let b = a .before .before in
+    let d = b .before .before in
+    let e = d .before .before .before .before in
+    let f = e .before .before in
+    let g = f .before .before .before .before in
+    terms-zero (g .args .time) _ _ (f .lifetime .ensures) (d .versioning .ensures) (e .timed .given .1) (b .versioned .given .1) (a .is-zero .ensures) (c .if1 .taken)
 
 is-beyond-requires : tie.Need-is-beyond-requires
 is-beyond-requires c κs = search needs
 
 returns-4 : tie.Need-returns-4
-unfolding givenAt
-returns-4 c = terms-beyond (c .before .before .before .before .before .before .before .before .before .before .before .before .before .before .before .before .before .before .before .args .time) _ _ (c .before .before .before .before .before .before .before .before .before .before .before .before .before .lifetime .ensures) (c .before .before .before .before .before .before .before .versioning .ensures) (c .before .before .before .before .before .before .before .before .before .before .before .timed .given .1) (c .before .before .before .before .before .versioned .given .1) (c .before .before .before .is-zero .ensures) (c .before .before .if1 .left) (c .before .is-beyond .ensures) (c .if2 .taken)
+returns-4 c =
+    let a = c .before in
+    let b = a .before in
+    let d = b .before in
+    let e = d .before .before in
+    let f = e .before .before in
+    let g = f .before .before .before .before in
+    let h = g .before .before in
+    let j = h .before .before .before .before in
+    terms-beyond (j .args .time) _ _ (h .lifetime .ensures) (f .versioning .ensures) (g .timed .given .1) (e .versioned .given .1) (d .is-zero .ensures) (b .if1 .left) (a .is-beyond .ensures) (c .if2 .taken)
 
 returns-5 : tie.Need-returns-5
-unfolding givenAt
-returns-5 c = terms-both (c .before .before .before .before .before .before .before .before .before .before .before .before .before .before .before .before .before .before .before .args .time) _ _ (c .before .before .before .before .before .before .before .before .before .before .before .before .before .lifetime .ensures) (c .before .before .before .before .before .before .before .versioning .ensures) (c .before .before .before .before .before .before .before .before .before .before .before .timed .given .1) (c .before .before .before .before .before .versioned .given .1) (c .before .before .before .is-zero .ensures) (c .before .before .if1 .left) (c .before .is-beyond .ensures) (c .if2 .left)
+returns-5 c =
+    let a = c .before in
+    let b = a .before in
+    let d = b .before in
+    let e = d .before .before in
+    let f = e .before .before in
+    let g = f .before .before .before .before in
+    let h = g .before .before in
+    let j = h .before .before .before .before in
+    terms-both (j .args .time) _ _ (h .lifetime .ensures) (f .versioning .ensures) (g .timed .given .1) (e .versioned .given .1) (d .is-zero .ensures) (b .if1 .left) (a .is-beyond .ensures) (c .if2 .left)
 
 pub read-terms-spec : {M : Type 1} → statement M
 read-terms-spec =
     tie.close
     (tie.spec
-    element-copy-out-option
+    element-copy-out-said
     element-copy-out-operand
     lifetime-requires
     enum-known-timed
     enum-told
     returns
-    element-copy-out-option-2
+    element-copy-out-said-2
     element-copy-out-operand-2
     versioning-requires
     enum-known-versioned

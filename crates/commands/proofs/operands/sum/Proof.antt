@@ -1,4 +1,5 @@
 use mathlib.Core.Path.{sym, _∙_}
+use Rattle.commands.specs.ParsePromises.{boundGiven, sumOf}
 use Rattle.commands.proofs.Families.{sum-0, sum-1, sum-2, sum-3}
 use borrow.Author.Needs.{needs}
 use Rattle.commands.proofs.operands.sum.Statement.{statement}
@@ -17,10 +18,13 @@ enum-told : tie.Need-enum-told
 enum-told c = search needs
 
 returns : tie.Need-returns
-returns c = sum-0 _ _ _ (sym (rw (c .before .before .before .word .ensures) at (c .before .before .read-integer .ensures)) ∙ c .enum-told .given .1)
+unfolding sumOf boundGiven
+returns c =
+    let a = c .before .before in
+    sum-0 _ _ _ (sym (rw (a .before .word .ensures) at (a .read-integer .ensures)) ∙ c .enum-told .given .1)
 
-element-copy-out-option : tie.Need-element-copy-out-option
-element-copy-out-option c = search needs
+element-copy-out-said : tie.Need-element-copy-out-said
+element-copy-out-said c = search needs
 
 element-copy-out-operand : tie.Need-element-copy-out-operand
 element-copy-out-operand c = search needs
@@ -35,13 +39,18 @@ enum-told-2 : tie.Need-enum-told-2
 enum-told-2 c = search needs
 
 returns-2 : tie.Need-returns-2
-returns-2 c = sum-1 _ _ _ (c .before .before .before .before .before .before .read .given .0 .0) (sym (rw (c .before .before .before .before .before .before .before .before .before .word .ensures) at (c .before .before .before .before .before .before .before .before .read-integer .ensures)) ∙ c .before .before .before .before .before .before .read .given .1) (sym (c .before .before .bound .ensures) ∙ c .enum-told2 .given .1)
+unfolding sumOf boundGiven
+returns-2 c =
+    let a = c .before .before in
+    let b = a .before .before .before .before in
+    let d = b .before .before in
+    sum-1 _ _ _ (b .read .given .0 .0) (sym (rw (d .before .word .ensures) at (d .read-integer .ensures)) ∙ b .read .given .1) (sym (a .bound .ensures) ∙ c .enum-told2 .given .1)
 
-sub-t25 : tie.Need-sub-t25
-sub-t25 c = search needs
+sub-t23 : tie.Need-sub-t23
+sub-t23 c = search needs
 
-element-copy-out-option-2 : tie.Need-element-copy-out-option-2
-element-copy-out-option-2 c = search needs
+element-copy-out-said-2 : tie.Need-element-copy-out-said-2
+element-copy-out-said-2 c = search needs
 
 element-copy-out-operand-2 : tie.Need-element-copy-out-operand-2
 element-copy-out-operand-2 c = search needs
@@ -56,10 +65,25 @@ enum-told-3 : tie.Need-enum-told-3
 enum-told-3 c = search needs
 
 returns-3 : tie.Need-returns-3
-returns-3 c = sum-2 _ _ _ (c .before .before .before .before .before .before .before .before .before .before .before .before .read .given .0 .0) (c .before .before .before .before .before .before .low .given .0 .0) (sym (rw (c .before .before .before .before .before .before .before .before .before .before .before .before .before .before .before .word .ensures) at (c .before .before .before .before .before .before .before .before .before .before .before .before .before .before .read-integer .ensures)) ∙ c .before .before .before .before .before .before .before .before .before .before .before .before .read .given .1) (sym (c .before .before .before .before .before .before .before .before .bound .ensures) ∙ c .before .before .before .before .before .before .low .given .1) (sym (c .before .before .bound2 .ensures) ∙ c .enum-told3 .given .1)
+unfolding sumOf boundGiven
+returns-3 c =
+    let a = c .before .before in
+    let b = a .before .before .before .before in
+    let d = b .before .before in
+    let e = d .before .before .before .before in
+    let f = e .before .before in
+    sum-2 _ _ _ (e .read .given .0 .0) (b .low .given .0 .0) (sym (rw (f .before .word .ensures) at (f .read-integer .ensures)) ∙ e .read .given .1) (sym (d .bound .ensures) ∙ b .low .given .1) (sym (a .bound2 .ensures) ∙ c .enum-told3 .given .1)
 
 returns-4 : tie.Need-returns-4
-returns-4 c = sum-3 _ _ _ (c .before .before .before .before .before .before .before .before .before .before .before .before .before .read .given .0 .0) (c .before .before .before .before .before .before .before .low .given .0 .0) (c .before .high .given .0 .0) (sym (rw (c .before .before .before .before .before .before .before .before .before .before .before .before .before .before .before .before .word .ensures) at (c .before .before .before .before .before .before .before .before .before .before .before .before .before .before .before .read-integer .ensures)) ∙ c .before .before .before .before .before .before .before .before .before .before .before .before .before .read .given .1) (sym (c .before .before .before .before .before .before .before .before .before .bound .ensures) ∙ c .before .before .before .before .before .before .before .low .given .1) (sym (c .before .before .before .bound2 .ensures) ∙ c .before .high .given .1)
+unfolding sumOf boundGiven
+returns-4 c =
+    let a = c .before in
+    let b = a .before .before in
+    let d = b .before .before .before .before in
+    let e = d .before .before in
+    let f = e .before .before .before .before in
+    let g = f .before .before in
+    sum-3 _ _ _ (f .read .given .0 .0) (d .low .given .0 .0) (a .high .given .0 .0) (sym (rw (g .before .word .ensures) at (g .read-integer .ensures)) ∙ f .read .given .1) (sym (e .bound .ensures) ∙ d .low .given .1) (sym (b .bound2 .ensures) ∙ a .high .given .1)
 
 pub sum-spec : {M : Type 1} → statement M
 sum-spec =
@@ -70,14 +94,14 @@ sum-spec =
     enum-known-read
     enum-told
     returns
-    element-copy-out-option
+    element-copy-out-said
     element-copy-out-operand
     bound-requires
     enum-known-low
     enum-told-2
     returns-2
-    sub-t25
-    element-copy-out-option-2
+    sub-t23
+    element-copy-out-said-2
     element-copy-out-operand-2
     bound-requires-2
     enum-known-high

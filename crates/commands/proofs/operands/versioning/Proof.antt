@@ -5,7 +5,9 @@ use Rattle.commands.proofs.operands.versioning.Statement.{statement}
 use Rattle.commands.proofs.operands.versioning.Tie as tie
 
 returns : tie.Need-returns
-returns c = versioning-none _ (c .before .before .before .before .args .option) (c .before .before .before .before .args .operand) (c .if1 .taken)
+returns c =
+    let a = c .before .before in
+    versioning-none _ (a .args .said) (a .args .operand) (c .if1 .taken)
 
 word-requires : tie.Need-word-requires
 word-requires c κs = search needs
@@ -20,13 +22,30 @@ enum-told : tie.Need-enum-told
 enum-told c = search needs
 
 returns-2 : tie.Need-returns-2
-returns-2 c = versioning-refused _ (c .before .before .before .before .before .before .before .before .args .option) (c .before .before .before .before .before .before .before .before .args .operand) (c .before .before .before .before .before .before .before .before .pre .1) (c .before .before .before .before .if1 .left) (natural-refused versionMost (c .before .before .before .word .ensures) (c .before .before .read-natural .ensures) (c .enum-told .given .1))
+returns-2 c =
+    let a = c .before .before in
+    let b = a .before in
+    let d = b .before in
+    let e = d .before .before in
+    versioning-refused _ (e .args .said) (e .args .operand) (d .if1 .left) (natural-refused versionMost (b .word .ensures) (a .read-natural .ensures) (c .enum-told .given .1))
 
 returns-3 : tie.Need-returns-3
-returns-3 c = versioning-match _ (c .before .before .before .before .before .before .before .before .before .before .args .option) (c .before .before .before .before .before .before .before .before .before .before .args .operand) (c .before .before .before .before .before .before .before .before .before .before .pre .1) (c .before .before .before .before .before .before .if1 .left) (c .before .before .read .given .0 .0) (natural-value versionMost (c .before .before .before .before .before .word .ensures) (c .before .before .before .before .read-natural .ensures) (c .before .before .read .given .0 .0) (c .before .before .read .given .1) .0) (c .if2 .taken)
+returns-3 c =
+    let a = c .before .before in
+    let b = a .before .before in
+    let d = b .before in
+    let e = d .before in
+    let f = e .before .before in
+    versioning-match _ (f .args .said) (f .args .operand) (e .if1 .left) (a .read .given .0 .0) (natural-value versionMost (d .word .ensures) (b .read-natural .ensures) (a .read .given .0 .0) (a .read .given .1) .0) (c .if2 .taken)
 
 returns-4 : tie.Need-returns-4
-returns-4 c = versioning-exactly _ (c .before .before .before .before .before .before .before .before .before .before .args .option) (c .before .before .before .before .before .before .before .before .before .before .args .operand) (c .before .before .before .before .before .before .before .before .before .before .pre .1) (c .before .before .before .before .before .before .if1 .left) (c .before .before .read .given .0 .0) (natural-value versionMost (c .before .before .before .before .before .word .ensures) (c .before .before .before .before .read-natural .ensures) (c .before .before .read .given .0 .0) (c .before .before .read .given .1) .0) (c .if2 .left)
+returns-4 c =
+    let a = c .before .before in
+    let b = a .before .before in
+    let d = b .before in
+    let e = d .before in
+    let f = e .before .before in
+    versioning-exactly _ (f .args .said) (f .args .operand) (e .if1 .left) (a .read .given .0 .0) (natural-value versionMost (d .word .ensures) (b .read-natural .ensures) (a .read .given .0 .0) (a .read .given .1) .0) (c .if2 .left)
 
 pub versioning-spec : {M : Type 1} → statement M
 versioning-spec =

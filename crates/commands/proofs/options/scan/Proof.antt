@@ -1,27 +1,27 @@
 -- What is left does the same; the measure is how many words are left.
 use Prim.Native.Nat.{_-_}
 use native.Mathlib.Omega.{arith}
-use borrow.Author.Needs.{needs}
+use lib.ListN.{length}
 use Rattle.wire.specs.Promises.{wordsIn}
-use Rattle.commands.proofs.WordPlaces.{length-words}
-use Rattle.commands.proofs.Scanning.{Scanning, scanning-begins, scanning-ends, turn-unknown, turn-below, turn-group, turn-barred, turn-again, turn-short, turn-last, turn-on, size-range}
+use Rattle.wire.proofs.Cursor.{length-words}
+use Rattle.commands.proofs.Scanning.{Scanning, scanning-begins, scanning-fails, scanning-again, scanning-on, scanning-ends}
+use borrow.Author.Needs.{needs}
 use Rattle.commands.proofs.options.scan.Statement.{statement}
 use Rattle.commands.proofs.options.scan.Tie as tie
 
 abbrev Inv-loop : tie.InvT-loop
-Inv-loop command starts sizes count from allowed given₀ i₀ given i = Scanning (wordsIn count command starts sizes) allowed from i given
+Inv-loop command places from allowed given₀ i₀ given i = Scanning (wordsIn command places) allowed from i given
 
 abbrev μ-loop : tie.MeasureT-loop
-μ-loop command starts sizes count from allowed given₀ i₀ given i = count - i
+μ-loop command places from allowed given₀ i₀ given i = length places - i
 
 loop-holds : tie.Need-loop-holds Inv-loop μ-loop
 loop-holds c = scanning-begins _ _ _
 
-word-requires : tie.Need-word-requires Inv-loop μ-loop
-word-requires c κs = c .before .before .before .before .before .before .pre .0
-
-option-named-requires : tie.Need-option-named-requires Inv-loop μ-loop
-option-named-requires c κs = tt
+option-at-requires : tie.Need-option-at-requires Inv-loop μ-loop
+option-at-requires c κs =
+    let a = c .before .before .before .before in
+    (a .pre .0, c .loop-test .taken, a .pre .1)
 
 enum-known-found : tie.Need-enum-known-found Inv-loop μ-loop
 enum-known-found c = search needs
@@ -30,70 +30,90 @@ enum-told : tie.Need-enum-told Inv-loop μ-loop
 enum-told c = search needs
 
 returns : tie.Need-returns Inv-loop μ-loop
-returns c = turn-unknown (c .before .before .before .before .before .loop .inv) (length-words _ _ _ _) (c .before .before .before .before .loop-test .taken) (c .before .before .before .word .ensures) (c .before .before .option-named .ensures) (c .enum-told .given .1)
+returns c =
+    let a = c .before .before in
+    let b = a .before .before in
+    scanning-fails (b .loop .inv) (rw (c .enum-told .given .1) at (a .option-at .ensures))
 
-group-requires : tie.Need-group-requires Inv-loop μ-loop
-group-requires c κs = turn-below (c .before .before .before .before .before .before .loop .inv) (length-words _ _ _ _) (c .before .before .before .before .before .loop-test .taken) (c .before .before .before .before .word .ensures) (c .before .before .before .option-named .ensures) (c .before .found .given .0 .0) (c .before .found .given .1)
+mul-if1 : tie.Need-mul-if1 Inv-loop μ-loop
+mul-if1 c =
+    let a = c .before in
+    let b = a .before .before in
+    let found = rw (a .found .given .1) at (b .option-at .ensures) in
+    omega (arith, found .grouped)
 
-shared-slice-read-if1 : tie.Need-shared-slice-read-if1 Inv-loop μ-loop
-shared-slice-read-if1 c = omega (arith, turn-group (c .before .before .before .before .before .before .before .before .loop .inv) (length-words _ _ _ _) (c .before .before .before .before .before .before .before .loop-test .taken) (c .before .before .before .before .before .before .word .ensures) (c .before .before .before .before .before .option-named .ensures) (c .before .before .before .found .given .0 .0) (c .before .before .before .found .given .1) (c .before .group .ensures))
+element-copy-out-if1 : tie.Need-element-copy-out-if1 Inv-loop μ-loop
+element-copy-out-if1 c =
+    let a = c .before in
+    let b = a .before .before in
+    let d = b .before .before in
+    let found = rw (a .found .given .1) at (b .option-at .ensures) in
+    omega (arith, found .grouped, d .loop .inv .saidSize)
 
 returns-2 : tie.Need-returns-2 Inv-loop μ-loop
-returns-2 c = turn-barred (c .before .before .before .before .before .before .before .before .before .loop .inv) (length-words _ _ _ _) (c .before .before .before .before .before .before .before .before .loop-test .taken) (c .before .before .before .before .before .before .before .word .ensures) (c .before .before .before .before .before .before .option-named .ensures) (c .before .before .before .before .found .given .0 .0) (c .before .before .before .before .found .given .1) (c .before .before .group .ensures) (c .if1 .taken)
-
-mul-if2 : tie.Need-mul-if2 Inv-loop μ-loop
-mul-if2 c = omega (arith, turn-group (c .before .before .before .before .before .before .before .before .before .loop .inv) (length-words _ _ _ _) (c .before .before .before .before .before .before .before .before .loop-test .taken) (c .before .before .before .before .before .before .before .word .ensures) (c .before .before .before .before .before .before .option-named .ensures) (c .before .before .before .before .found .given .0 .0) (c .before .before .before .before .found .given .1) (c .before .before .group .ensures))
-
-element-copy-out-if2 : tie.Need-element-copy-out-if2 Inv-loop μ-loop
-element-copy-out-if2 c = turn-group (c .before .before .before .before .before .before .before .before .before .loop .inv) (length-words _ _ _ _) (c .before .before .before .before .before .before .before .before .loop-test .taken) (c .before .before .before .before .before .before .before .word .ensures) (c .before .before .before .before .before .before .option-named .ensures) (c .before .before .before .before .found .given .0 .0) (c .before .before .before .before .found .given .1) (c .before .before .group .ensures)
-
-returns-3 : tie.Need-returns-3 Inv-loop μ-loop
-returns-3 c = turn-again (c .before .before .before .before .before .before .before .before .before .before .before .loop .inv) (length-words _ _ _ _) (c .before .before .before .before .before .before .before .before .before .before .loop-test .taken) (c .before .before .before .before .before .before .before .before .before .word .ensures) (c .before .before .before .before .before .before .before .before .option-named .ensures) (c .before .before .before .before .before .before .found .given .0 .0) (c .before .before .before .before .before .before .found .given .1) (c .before .before .before .before .group .ensures) (c .before .before .if1 .left) (c .if2 .taken)
-
-size-requires : tie.Need-size-requires Inv-loop μ-loop
-size-requires c κs = turn-below (c .before .before .before .before .before .before .before .before .before .before .before .loop .inv) (length-words _ _ _ _) (c .before .before .before .before .before .before .before .before .before .before .loop-test .taken) (c .before .before .before .before .before .before .before .before .before .word .ensures) (c .before .before .before .before .before .before .before .before .option-named .ensures) (c .before .before .before .before .before .before .found .given .0 .0) (c .before .before .before .before .before .before .found .given .1)
-
-add-next-word : tie.Need-add-next-word Inv-loop μ-loop
-add-next-word c = omega (arith, c .size .ensures, size-range (c .before .before .before .before .before .before .before .found .given .0 .0), c .before .before .before .before .before .before .before .before .before .before .before .before .before .before .before .before .before .pre .0 .most)
-
-sub-next-word : tie.Need-sub-next-word Inv-loop μ-loop
-sub-next-word c = omega (arith, c .size .ensures, size-range (c .before .before .before .before .before .before .before .found .given .0 .0))
-
-next-word-requires : tie.Need-next-word-requires Inv-loop μ-loop
-next-word-requires c κs = tt
-
-enum-known-end : tie.Need-enum-known-end Inv-loop μ-loop
-enum-known-end c = search needs
-
-enum-told-2 : tie.Need-enum-told-2 Inv-loop μ-loop
-enum-told-2 c = search needs
-
-returns-4 : tie.Need-returns-4 Inv-loop μ-loop
-returns-4 c = turn-short (c .before .before .before .before .before .before .before .before .before .before .before .before .before .before .before .loop .inv) (length-words _ _ _ _) (c .before .before .before .before .before .before .before .before .before .before .before .before .before .before .loop-test .taken) (c .before .before .before .before .before .before .before .before .before .before .before .before .before .word .ensures) (c .before .before .before .before .before .before .before .before .before .before .before .before .option-named .ensures) (c .before .before .before .before .before .before .before .before .before .before .found .given .0 .0) (c .before .before .before .before .before .before .before .before .before .before .found .given .1) (c .before .before .before .before .before .before .before .before .group .ensures) (c .before .before .before .before .before .before .if1 .left) (c .before .before .before .size .ensures) (c .before .before .next-word .ensures) (c .enum-told2 .given .1)
+returns-2 c =
+    let a = c .before .before .before in
+    let b = a .before .before in
+    let d = b .before .before in
+    let found = rw (a .found .given .1) at (b .option-at .ensures) in
+    scanning-again (d .loop .inv) found (c .if1 .taken)
 
 mul-given : tie.Need-mul-given Inv-loop μ-loop
-mul-given c = omega (arith, turn-group (c .before .before .before .before .before .before .before .before .before .before .before .before .before .before .before .before .loop .inv) (length-words _ _ _ _) (c .before .before .before .before .before .before .before .before .before .before .before .before .before .before .before .loop-test .taken) (c .before .before .before .before .before .before .before .before .before .before .before .before .before .before .word .ensures) (c .before .before .before .before .before .before .before .before .before .before .before .before .before .option-named .ensures) (c .before .before .before .before .before .before .before .before .before .before .before .found .given .0 .0) (c .before .before .before .before .before .before .before .before .before .before .before .found .given .1) (c .before .before .before .before .before .before .before .before .before .group .ensures))
+mul-given c =
+    let a = c .before .before .before in
+    let b = a .before .before in
+    let found = rw (a .found .given .1) at (b .option-at .ensures) in
+    omega (arith, found .grouped)
 
 element-write-given : tie.Need-element-write-given Inv-loop μ-loop
-element-write-given c = turn-group (c .before .before .before .before .before .before .before .before .before .before .before .before .before .before .before .before .loop .inv) (length-words _ _ _ _) (c .before .before .before .before .before .before .before .before .before .before .before .before .before .before .before .loop-test .taken) (c .before .before .before .before .before .before .before .before .before .before .before .before .before .before .word .ensures) (c .before .before .before .before .before .before .before .before .before .before .before .before .before .option-named .ensures) (c .before .before .before .before .before .before .before .before .before .before .before .found .given .0 .0) (c .before .before .before .before .before .before .before .before .before .before .before .found .given .1) (c .before .before .before .before .before .before .before .before .before .group .ensures)
+element-write-given c =
+    let a = c .before .before .before in
+    let b = a .before .before in
+    let d = b .before .before in
+    let found = rw (a .found .given .1) at (b .option-at .ensures) in
+    omega (arith, found .grouped, d .loop .inv .saidSize)
 
 mul-given-2 : tie.Need-mul-given-2 Inv-loop μ-loop
-mul-given-2 c = omega (arith, turn-group (c .before .before .before .before .before .before .before .before .before .before .before .before .before .before .before .before .loop .inv) (length-words _ _ _ _) (c .before .before .before .before .before .before .before .before .before .before .before .before .before .before .before .loop-test .taken) (c .before .before .before .before .before .before .before .before .before .before .before .before .before .before .word .ensures) (c .before .before .before .before .before .before .before .before .before .before .before .before .before .option-named .ensures) (c .before .before .before .before .before .before .before .before .before .before .before .found .given .0 .0) (c .before .before .before .before .before .before .before .before .before .before .before .found .given .1) (c .before .before .before .before .before .before .before .before .before .group .ensures))
+mul-given-2 c =
+    let a = c .before .before .before in
+    let b = a .before .before in
+    let found = rw (a .found .given .1) at (b .option-at .ensures) in
+    omega (arith, found .grouped)
 
 element-write-given-2 : tie.Need-element-write-given-2 Inv-loop μ-loop
-element-write-given-2 c = turn-group (c .before .before .before .before .before .before .before .before .before .before .before .before .before .before .before .before .loop .inv) (length-words _ _ _ _) (c .before .before .before .before .before .before .before .before .before .before .before .before .before .before .before .loop-test .taken) (c .before .before .before .before .before .before .before .before .before .before .before .before .before .before .word .ensures) (c .before .before .before .before .before .before .before .before .before .before .before .before .before .option-named .ensures) (c .before .before .before .before .before .before .before .before .before .before .before .found .given .0 .0) (c .before .before .before .before .before .before .before .before .before .before .before .found .given .1) (c .before .before .before .before .before .before .before .before .before .group .ensures)
+element-write-given-2 c =
+    let a = c .before .before .before in
+    let b = a .before .before in
+    let d = b .before .before in
+    let found = rw (a .found .given .1) at (b .option-at .ensures) in
+    omega (arith, found .grouped, d .loop .inv .operandsSize)
 
 add-i : tie.Need-add-i Inv-loop μ-loop
-add-i c = omega (arith, turn-last (c .before .before .before .before .before .before .before .before .before .before .before .before .before .before .before .before .loop .inv) (length-words _ _ _ _) (c .before .before .before .before .before .before .before .before .before .before .before .before .before .before .before .loop-test .taken) (c .before .before .before .before .before .before .before .before .before .before .before .before .before .before .word .ensures) (c .before .before .before .before .before .before .before .before .before .before .before .before .before .option-named .ensures) (c .before .before .before .before .before .before .before .before .before .before .before .found .given .0 .0) (c .before .before .before .before .before .before .before .before .before .before .before .found .given .1) (c .before .before .before .before .before .before .before .before .before .group .ensures) (c .before .before .before .before .before .before .before .if1 .left) (c .before .before .before .before .size .ensures) (c .before .before .before .next-word .ensures) (c .before .end .given .0 .0) (c .before .end .given .1), c .before .before .before .before .before .before .before .before .before .before .before .before .before .before .before .before .before .before .before .before .before .pre .0 .most)
+add-i c =
+    let a = c .before .before .before in
+    let b = a .before .before in
+    let d = b .before .before .before .before .before in
+    let found = rw (a .found .given .1) at (b .option-at .ensures) in
+    omega (arith, found .inside, length-words (d .args .command .now) (d .args .places .now), d .pre .0 .most)
 
 loop-less : tie.Need-loop-less Inv-loop μ-loop
-loop-less c = omega (arith, turn-last (c .before .before .before .before .before .before .before .before .before .before .before .before .before .before .before .before .loop .inv) (length-words _ _ _ _) (c .before .before .before .before .before .before .before .before .before .before .before .before .before .before .before .loop-test .taken) (c .before .before .before .before .before .before .before .before .before .before .before .before .before .before .word .ensures) (c .before .before .before .before .before .before .before .before .before .before .before .before .before .option-named .ensures) (c .before .before .before .before .before .before .before .before .before .before .before .found .given .0 .0) (c .before .before .before .before .before .before .before .before .before .before .before .found .given .1) (c .before .before .before .before .before .before .before .before .before .group .ensures) (c .before .before .before .before .before .before .before .if1 .left) (c .before .before .before .before .size .ensures) (c .before .before .before .next-word .ensures) (c .before .end .given .0 .0) (c .before .end .given .1), c .before .before .before .before .size .ensures, size-range (c .before .before .before .before .before .before .before .before .before .before .before .found .given .0 .0))
+loop-less c =
+    let a = c .before .before .before in
+    let b = a .before .before in
+    let d = b .before .before .before .before .before in
+    let found = rw (a .found .given .1) at (b .option-at .ensures) in
+    omega (arith, found .inside, found .after, length-words (d .args .command .now) (d .args .places .now))
 
 loop-again : tie.Need-loop-again Inv-loop μ-loop
-loop-again c = turn-on (c .before .before .before .before .before .before .before .before .before .before .before .before .before .before .before .before .loop .inv) (length-words _ _ _ _) (c .before .before .before .before .before .before .before .before .before .before .before .before .before .before .before .loop-test .taken) (c .before .before .before .before .before .before .before .before .before .before .before .before .before .before .word .ensures) (c .before .before .before .before .before .before .before .before .before .before .before .before .before .option-named .ensures) (c .before .before .before .before .before .before .before .before .before .before .before .found .given .0 .0) (c .before .before .before .before .before .before .before .before .before .before .before .found .given .1) (c .before .before .before .before .before .before .before .before .before .group .ensures) (c .before .before .before .before .before .before .before .if1 .left) (c .before .before .before .before .size .ensures) (c .before .before .before .next-word .ensures) (c .before .end .given .0 .0) (c .before .end .given .1) (c .before .before .before .before .before .if2 .left)
+loop-again c =
+    let a = c .before .before .before in
+    let b = a .before .before in
+    let d = b .before .before in
+    let found = rw (a .found .given .1) at (b .option-at .ensures) in
+    scanning-on (d .loop .inv) found (c .if1 .left)
 
-returns-5 : tie.Need-returns-5 Inv-loop μ-loop
-returns-5 c = scanning-ends (c .before .loop .inv) (length-words _ _ _ _) (c .loop-test .left)
+returns-3 : tie.Need-returns-3 Inv-loop μ-loop
+returns-3 c = scanning-ends (c .before .loop .inv) (length-words _ _) (c .loop-test .left)
 
 pub scan-spec : {M : Type 1} → statement M
 scan-spec =
@@ -102,24 +122,13 @@ scan-spec =
     Inv-loop
     μ-loop
     loop-holds
-    word-requires
-    option-named-requires
+    option-at-requires
     enum-known-found
     enum-told
     returns
-    group-requires
-    shared-slice-read-if1
+    mul-if1
+    element-copy-out-if1
     returns-2
-    mul-if2
-    element-copy-out-if2
-    returns-3
-    size-requires
-    add-next-word
-    sub-next-word
-    next-word-requires
-    enum-known-end
-    enum-told-2
-    returns-4
     mul-given
     element-write-given
     mul-given-2
@@ -127,4 +136,4 @@ scan-spec =
     add-i
     loop-less
     loop-again
-    returns-5)
+    returns-3)

@@ -1,9 +1,7 @@
-use Prim.Native.Nat.{_+_}
-use native.Mathlib.Omega.{arith}
 use Rattle.store.specs.Layout.{timeLimit}
 use Rattle.commands.proofs.OptionWords.{natural-value, natural-refused}
-use Rattle.commands.proofs.Parsing.{in-group}
-use Rattle.commands.proofs.Families.{expire-form, expire-unclean, expire-ready, expire-unread, expire-unversioned, expire-zero, expire-beyond, expire-done}
+use Rattle.commands.proofs.Parsing.{not-clean, ready}
+use Rattle.commands.proofs.Families.{expire-takes, expire-unread, expire-unversioned, expire-zero, expire-beyond, expire-done}
 use borrow.Author.Needs.{needs}
 use Rattle.commands.proofs.parse.parse_expire.Statement.{statement}
 use Rattle.commands.proofs.parse.parse_expire.Tie as tie
@@ -15,7 +13,10 @@ scan-requires : tie.Need-scan-requires
 scan-requires c κs = search needs
 
 returns : tie.Need-returns
-returns c = expire-unclean (c .before .before .before .before .before .before .args .time) (3 + c .before .before .before .before .before .before .args .unit) (c .before .before .before .before .before .before .args .unit) (expire-form (c .before .before .before .before .before .before .args .unit) (c .before .before .before .before .before .before .pre .1)) (c .before .scan .ensures) (c .if1 .taken)
+returns c =
+    let a = c .before in
+    let b = a .before .before .before in
+    not-clean (expire-takes (b .args .unit)) (a .scan .ensures) (b .args .time) (c .if1 .taken)
 
 word-requires : tie.Need-word-requires
 word-requires c κs = search needs
@@ -30,16 +31,22 @@ enum-told : tie.Need-enum-told
 enum-told c = search needs
 
 returns-2 : tie.Need-returns-2
-returns-2 c = expire-unread (c .before .before .before .before .before .before .before .before .before .before .args .time) (3 + c .before .before .before .before .before .before .before .before .before .before .args .unit) (c .before .before .before .before .before .before .before .before .before .before .args .unit) (expire-form (c .before .before .before .before .before .before .before .before .before .before .args .unit) (c .before .before .before .before .before .before .before .before .before .before .pre .1)) (c .before .before .before .before .before .scan .ensures) (c .before .before .before .before .if1 .left) (natural-refused timeLimit (c .before .before .before .word .ensures) (c .before .before .read-natural .ensures) (c .enum-told .given .1))
+returns-2 c =
+    let a = c .before .before in
+    let b = a .before in
+    let d = b .before in
+    let e = d .before in
+    let f = e .before .before .before in
+    expire-unread (f .args .time) (f .args .unit) (ready (expire-takes (f .args .unit)) (e .scan .ensures) (d .if1 .left)) (natural-refused timeLimit (b .word .ensures) (a .read-natural .ensures) (c .enum-told .given .1))
 
-element-copy-out-versioning : tie.Need-element-copy-out-versioning
-element-copy-out-versioning c = search needs
+element-copy-out-said : tie.Need-element-copy-out-said
+element-copy-out-said c = search needs
 
-element-copy-out-versioning-2 : tie.Need-element-copy-out-versioning-2
-element-copy-out-versioning-2 c = search needs
+element-copy-out-operand : tie.Need-element-copy-out-operand
+element-copy-out-operand c = search needs
 
 versioning-requires : tie.Need-versioning-requires
-versioning-requires c κs = (c .before .before .before .before .before .before .before .before .before .before .before .before .before .pre .0, in-group (expire-ready (c .before .before .before .before .before .before .before .before .before .before .before .before .before .args .time) (3 + c .before .before .before .before .before .before .before .before .before .before .before .before .before .args .unit) (c .before .before .before .before .before .before .before .before .before .before .before .before .before .args .unit) (expire-form (c .before .before .before .before .before .before .before .before .before .before .before .before .before .args .unit) (c .before .before .before .before .before .before .before .before .before .before .before .before .before .pre .1)) (c .before .before .before .before .before .before .before .before .scan .ensures) (c .before .before .before .before .before .before .before .if1 .left)) 2 (omega arith))
+versioning-requires c κs = search needs
 
 enum-known-versioned : tie.Need-enum-known-versioned
 enum-known-versioned c = search needs
@@ -48,22 +55,66 @@ enum-told-2 : tie.Need-enum-told-2
 enum-told-2 c = search needs
 
 returns-3 : tie.Need-returns-3
-returns-3 c = expire-unversioned (c .before .before .before .before .before .before .before .before .before .before .before .before .before .before .before .before .args .time) (3 + c .before .before .before .before .before .before .before .before .before .before .before .before .before .before .before .before .args .unit) (c .before .before .before .before .before .before .before .before .before .before .before .before .before .before .before .before .args .unit) (expire-form (c .before .before .before .before .before .before .before .before .before .before .before .before .before .before .before .before .args .unit) (c .before .before .before .before .before .before .before .before .before .before .before .before .before .before .before .before .pre .1)) (c .before .before .before .before .before .before .before .before .before .before .before .scan .ensures) (c .before .before .before .before .before .before .before .before .before .before .if1 .left) (c .before .before .versioning .ensures) (c .enum-told2 .given .1)
+returns-3 c =
+    let a = c .before .before in
+    let b = a .before .before .before .before .before .before .before .before in
+    let d = b .before in
+    let e = d .before .before .before in
+    expire-unversioned (e .args .time) (e .args .unit) (ready (expire-takes (e .args .unit)) (d .scan .ensures) (b .if1 .left)) (a .versioning .ensures) (c .enum-told2 .given .1)
 
 is-zero-requires : tie.Need-is-zero-requires
 is-zero-requires c κs = search needs
 
 returns-4 : tie.Need-returns-4
-returns-4 c = expire-zero (c .before .before .before .before .before .before .before .before .before .before .before .before .before .before .before .before .before .before .before .args .time) (3 + c .before .before .before .before .before .before .before .before .before .before .before .before .before .before .before .before .before .before .before .args .unit) (c .before .before .before .before .before .before .before .before .before .before .before .before .before .before .before .before .before .before .before .args .unit) (expire-form (c .before .before .before .before .before .before .before .before .before .before .before .before .before .before .before .before .before .before .before .args .unit) (c .before .before .before .before .before .before .before .before .before .before .before .before .before .before .before .before .before .before .before .pre .1)) (c .before .before .before .before .before .before .before .before .before .before .before .before .before .before .scan .ensures) (c .before .before .before .before .before .before .before .before .before .before .before .before .before .if1 .left) (c .before .before .before .before .before .versioning .ensures) (natural-value timeLimit (c .before .before .before .before .before .before .before .before .before .before .before .before .word .ensures) (c .before .before .before .before .before .before .before .before .before .before .before .read-natural .ensures) (c .before .before .before .before .before .before .before .before .before .read .given .0 .0) (c .before .before .before .before .before .before .before .before .before .read .given .1) .0) (c .before .before .before .versioned .given .1) (c .before .is-zero .ensures) (c .if2 .taken)
+returns-4 c =
+    let a = c .before in
+    let b = a .before .before in
+    let d = b .before .before in
+    let e = d .before .before .before .before in
+    let f = e .before .before in
+    let g = f .before in
+    let h = g .before in
+    let j = h .before in
+    let k = j .before .before .before in
+    expire-zero (k .args .time) (k .args .unit) (ready (expire-takes (k .args .unit)) (j .scan .ensures) (h .if1 .left)) (d .versioning .ensures) (natural-value timeLimit (g .word .ensures) (f .read-natural .ensures) (e .read .given .0 .0) (e .read .given .1) .0) (b .versioned .given .1) (a .is-zero .ensures) (c .if2 .taken)
 
 instant-requires : tie.Need-instant-requires
-instant-requires c κs = (c .before .before .before .before .before .before .before .before .before .before .before .before .before .before .before .before .before .before .before .pre .1, (natural-value timeLimit (c .before .before .before .before .before .before .before .before .before .before .before .before .word .ensures) (c .before .before .before .before .before .before .before .before .before .before .before .read-natural .ensures) (c .before .before .before .before .before .before .before .before .before .read .given .0 .0) (c .before .before .before .before .before .before .before .before .before .read .given .1) .1), c .before .before .before .before .before .before .before .before .before .before .before .before .before .before .before .before .before .before .before .pre .2)
+instant-requires c κs =
+    let a = c .before .before .before .before .before .before .before .before .before in
+    let b = a .before .before in
+    let d = b .before in
+    let e = d .before .before .before .before .before in
+    (natural-value timeLimit (d .word .ensures) (b .read-natural .ensures) (a .read .given .0 .0) (a .read .given .1) .1, e .pre .1)
 
 returns-5 : tie.Need-returns-5
-returns-5 c = expire-beyond (c .before .before .before .before .before .before .before .before .before .before .before .before .before .before .before .before .before .before .before .before .before .args .time) (3 + c .before .before .before .before .before .before .before .before .before .before .before .before .before .before .before .before .before .before .before .before .before .args .unit) (c .before .before .before .before .before .before .before .before .before .before .before .before .before .before .before .before .before .before .before .before .before .args .unit) (expire-form (c .before .before .before .before .before .before .before .before .before .before .before .before .before .before .before .before .before .before .before .before .before .args .unit) (c .before .before .before .before .before .before .before .before .before .before .before .before .before .before .before .before .before .before .before .before .before .pre .1)) (c .before .before .before .before .before .before .before .before .before .before .before .before .before .before .before .before .scan .ensures) (c .before .before .before .before .before .before .before .before .before .before .before .before .before .before .before .if1 .left) (c .before .before .before .before .before .before .before .versioning .ensures) (natural-value timeLimit (c .before .before .before .before .before .before .before .before .before .before .before .before .before .before .word .ensures) (c .before .before .before .before .before .before .before .before .before .before .before .before .before .read-natural .ensures) (c .before .before .before .before .before .before .before .before .before .before .before .read .given .0 .0) (c .before .before .before .before .before .before .before .before .before .before .before .read .given .1) .0) (c .before .before .before .before .before .versioned .given .1) (c .before .before .before .is-zero .ensures) (c .before .before .if2 .left) (c .before .instant .ensures) (c .if3 .taken)
+returns-5 c =
+    let a = c .before in
+    let b = a .before in
+    let d = b .before in
+    let e = d .before .before in
+    let f = e .before .before in
+    let g = f .before .before .before .before in
+    let h = g .before .before in
+    let j = h .before in
+    let k = j .before in
+    let l = k .before in
+    let m = l .before .before .before in
+    expire-beyond (m .args .time) (m .args .unit) (ready (expire-takes (m .args .unit)) (l .scan .ensures) (k .if1 .left)) (f .versioning .ensures) (natural-value timeLimit (j .word .ensures) (h .read-natural .ensures) (g .read .given .0 .0) (g .read .given .1) .0) (e .versioned .given .1) (d .is-zero .ensures) (b .if2 .left) (a .instant .ensures) (c .if3 .taken)
 
 returns-6 : tie.Need-returns-6
-returns-6 c = expire-done (c .before .before .before .before .before .before .before .before .before .before .before .before .before .before .before .before .before .before .before .before .before .args .time) (3 + c .before .before .before .before .before .before .before .before .before .before .before .before .before .before .before .before .before .before .before .before .before .args .unit) (c .before .before .before .before .before .before .before .before .before .before .before .before .before .before .before .before .before .before .before .before .before .args .unit) (expire-form (c .before .before .before .before .before .before .before .before .before .before .before .before .before .before .before .before .before .before .before .before .before .args .unit) (c .before .before .before .before .before .before .before .before .before .before .before .before .before .before .before .before .before .before .before .before .before .pre .1)) (c .before .before .before .before .before .before .before .before .before .before .before .before .before .before .before .before .scan .ensures) (c .before .before .before .before .before .before .before .before .before .before .before .before .before .before .before .if1 .left) (c .before .before .before .before .before .before .before .versioning .ensures) (natural-value timeLimit (c .before .before .before .before .before .before .before .before .before .before .before .before .before .before .word .ensures) (c .before .before .before .before .before .before .before .before .before .before .before .before .before .read-natural .ensures) (c .before .before .before .before .before .before .before .before .before .before .before .read .given .0 .0) (c .before .before .before .before .before .before .before .before .before .before .before .read .given .1) .0) (c .before .before .before .before .before .versioned .given .1) (c .before .before .before .is-zero .ensures) (c .before .before .if2 .left) (c .before .instant .ensures) (c .if3 .left)
+returns-6 c =
+    let a = c .before in
+    let b = a .before in
+    let d = b .before in
+    let e = d .before .before in
+    let f = e .before .before in
+    let g = f .before .before .before .before in
+    let h = g .before .before in
+    let j = h .before in
+    let k = j .before in
+    let l = k .before in
+    let m = l .before .before .before in
+    expire-done (m .args .time) (m .args .unit) (ready (expire-takes (m .args .unit)) (l .scan .ensures) (k .if1 .left)) (f .versioning .ensures) (natural-value timeLimit (j .word .ensures) (h .read-natural .ensures) (g .read .given .0 .0) (g .read .given .1) .0) (e .versioned .given .1) (d .is-zero .ensures) (b .if2 .left) (a .instant .ensures) (c .if3 .left)
 
 pub parse-expire-spec : {M : Type 1} → statement M
 parse-expire-spec =
@@ -77,8 +128,8 @@ parse-expire-spec =
     enum-known-read
     enum-told
     returns-2
-    element-copy-out-versioning
-    element-copy-out-versioning-2
+    element-copy-out-said
+    element-copy-out-operand
     versioning-requires
     enum-known-versioned
     enum-told-2

@@ -1,6 +1,5 @@
-use native.Mathlib.Omega.{arith}
-use Rattle.commands.proofs.Parsing.{in-group}
-use Rattle.commands.proofs.Families.{increment-unclean, increment-ready, increment-unread, increment-done, increment-refused}
+use Rattle.commands.proofs.Parsing.{not-clean, ready}
+use Rattle.commands.proofs.Families.{increment-takes, increment-unread, increment-done, increment-refused}
 use borrow.Author.Needs.{needs}
 use Rattle.commands.proofs.parse.parse_increment.Statement.{statement}
 use Rattle.commands.proofs.parse.parse_increment.Tie as tie
@@ -12,7 +11,10 @@ scan-requires : tie.Need-scan-requires
 scan-requires c κs = search needs
 
 returns : tie.Need-returns
-returns c = increment-unclean (c .before .before .before .before .before .before .before .args .time) (c .before .before .scan .ensures) (c .if1 .taken)
+returns c =
+    let a = c .before .before in
+    let b = a .before .before .before in
+    not-clean increment-takes (a .scan .ensures) (b .args .time) (c .if1 .taken)
 
 sum-requires : tie.Need-sum-requires
 sum-requires c κs = search needs
@@ -24,10 +26,15 @@ enum-told : tie.Need-enum-told
 enum-told c = search needs
 
 returns-2 : tie.Need-returns-2
-returns-2 c = increment-unread (c .before .before .before .before .before .before .before .before .before .before .args .time) (c .before .before .before .before .before .scan .ensures) (c .before .before .before .if1 .left) (c .before .before .sum .ensures) (c .enum-told .given .1)
+returns-2 c =
+    let a = c .before .before in
+    let b = a .before in
+    let d = b .before .before in
+    let e = d .before .before .before in
+    increment-unread (e .args .time) (ready increment-takes (d .scan .ensures) (b .if1 .left)) (a .sum .ensures) (c .enum-told .given .1)
 
 read-terms-requires : tie.Need-read-terms-requires
-read-terms-requires c κs = (c .before .before .before .before .before .before .before .before .before .before .before .pre .0, in-group (increment-ready (c .before .before .before .before .before .before .before .before .before .before .before .args .time) (c .before .before .before .before .before .before .scan .ensures) (c .before .before .before .before .if1 .left)) 0 (omega arith), in-group (increment-ready (c .before .before .before .before .before .before .before .before .before .before .before .args .time) (c .before .before .before .before .before .before .scan .ensures) (c .before .before .before .before .if1 .left)) 2 (omega arith), c .before .before .before .before .before .before .before .before .before .before .before .pre .1)
+read-terms-requires c κs = search needs
 
 enum-known-read : tie.Need-enum-known-read
 enum-known-read c = search needs
@@ -36,10 +43,26 @@ enum-known-read-2 : tie.Need-enum-known-read-2
 enum-known-read-2 c = search needs
 
 returns-3 : tie.Need-returns-3
-returns-3 c = increment-done (c .before .before .before .before .before .before .before .before .before .before .before .before .before .before .before .args .time) (c .before .before .before .before .before .before .before .before .before .before .scan .ensures) (c .before .before .before .before .before .before .before .before .if1 .left) (c .before .before .before .before .before .before .before .sum .ensures) (c .before .before .before .before .before .added .given .1) (c .before .before .before .read-terms .ensures) (c .before .read .given .1)
+returns-3 c =
+    let a = c .before in
+    let b = a .before .before in
+    let d = b .before .before in
+    let e = d .before .before in
+    let f = e .before in
+    let g = f .before .before in
+    let h = g .before .before .before in
+    increment-done (h .args .time) (ready increment-takes (g .scan .ensures) (f .if1 .left)) (e .sum .ensures) (d .added .given .1) (b .read-terms .ensures) (a .read .given .1)
 
 returns-4 : tie.Need-returns-4
-returns-4 c = increment-refused (c .before .before .before .before .before .before .before .before .before .before .before .before .before .before .before .args .time) (c .before .before .before .before .before .before .before .before .before .before .scan .ensures) (c .before .before .before .before .before .before .before .before .if1 .left) (c .before .before .before .before .before .before .before .sum .ensures) (c .before .before .before .before .before .added .given .1) (c .before .before .before .read-terms .ensures) (c .before .read2 .given .0 .0) (c .before .read2 .given .1)
+returns-4 c =
+    let a = c .before in
+    let b = a .before .before in
+    let d = b .before .before in
+    let e = d .before .before in
+    let f = e .before in
+    let g = f .before .before in
+    let h = g .before .before .before in
+    increment-refused (h .args .time) (ready increment-takes (g .scan .ensures) (f .if1 .left)) (e .sum .ensures) (d .added .given .1) (b .read-terms .ensures) (a .read2 .given .0 .0) (a .read2 .given .1)
 
 pub parse-increment-spec : {M : Type 1} → statement M
 parse-increment-spec =

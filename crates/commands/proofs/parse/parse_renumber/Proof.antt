@@ -18,10 +18,15 @@ enum-told : tie.Need-enum-told
 enum-told c = search needs
 
 returns : tie.Need-returns
-returns c = λ time. renumber-unread time _ (natural-refused versionMost (c .before .before .before .word .ensures) (c .before .before .read-natural .ensures) (c .enum-told .given .1))
+returns c =
+    let a = c .before .before in
+    λ time. renumber-unread time _ (natural-refused versionMost (a .before .word .ensures) (a .read-natural .ensures) (c .enum-told .given .1))
 
 returns-2 : tie.Need-returns-2
-returns-2 c = λ time. renumber-done time _ (c .before .read .given .0 .0) (natural-value versionMost (c .before .before .before .before .word .ensures) (c .before .before .before .read-natural .ensures) (c .before .read .given .0 .0) (c .before .read .given .1) .0)
+returns-2 c =
+    let a = c .before in
+    let b = a .before .before in
+    λ time. renumber-done time _ (a .read .given .0 .0) (natural-value versionMost (b .before .word .ensures) (b .read-natural .ensures) (a .read .given .0 .0) (a .read .given .1) .0)
 
 pub parse-renumber-spec : {M : Type 1} → statement M
 parse-renumber-spec =

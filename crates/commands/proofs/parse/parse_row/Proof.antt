@@ -1,67 +1,168 @@
-use mathlib.Core.Path.{_≡_}
-use Prim.Native.Nat.{_+_, _-_}
+use mathlib.Core.Path.{sym, ap, _∙_}
 use native.Mathlib.Omega.{arith}
-use Rattle.commands.proofs.Families.{fixed-pairs}
+use Rattle.commands.specs.Parse.Form.{setForm, setManyForm, incrementForm, expireForm, persistForm, renumberForm, askForm, getManyForm, deleteForm, countForm, listForm}
+use Rattle.commands.specs.Tables.{unitOf, formOf}
+use Rattle.commands.proofs.Families.{fixed-pairs, fixed-persist, fixed-ask, fixed-many, fixed-delete, fixed-list, behind, list-form, row-parsed}
+use borrow.Author.Needs.{needs}
 use Rattle.commands.proofs.parse.parse_row.Statement.{statement}
 use Rattle.commands.proofs.parse.parse_row.Tie as tie
 
+command-datum-requires : tie.Need-command-datum-requires
+command-datum-requires c κs = search needs
+
+command-datum-requires-2 : tie.Need-command-datum-requires-2
+command-datum-requires-2 c κs = search needs
+
 parse-set-requires : tie.Need-parse-set-requires
-parse-set-requires c κs = (c .before .before .before .before .pre .0, c .before .before .before .before .pre .2)
+parse-set-requires c κs = search needs
 
 returns : tie.Need-returns
-returns c = rw (c .before .if1 .taken) (c .parse-set .ensures)
+unfolding formOf
+returns c =
+    let a = c .before in
+    let b = a .before in
+    let d = b .before in
+    let e = d .before .before in
+    row-parsed (e .args .time) (e .args .row) _ (d .command-datum .ensures) (b .command-datum2 .ensures) setForm (rw (a .if1 .taken)) _ (c .parse-set .ensures)
 
 returns-2 : tie.Need-returns-2
-returns-2 c = fixed-pairs (c .before .before .before .before .before .args .time) (c .before .before .before .before .before .args .row) _ (c .if2 .taken)
+unfolding formOf
+returns-2 c =
+    let a = c .before .before in
+    let b = a .before in
+    let d = b .before .before in
+    row-parsed (d .args .time) (d .args .row) _ (b .command-datum .ensures) (a .command-datum2 .ensures) setManyForm (rw (c .if2 .taken)) _ (fixed-pairs (d .args .time) _)
 
 parse-increment-requires : tie.Need-parse-increment-requires
-parse-increment-requires c κs = (c .before .before .before .before .before .before .pre .0, c .before .before .before .before .before .before .pre .2)
+parse-increment-requires c κs = search needs
 
 returns-3 : tie.Need-returns-3
-returns-3 c = rw (c .before .if3 .taken) (c .parse-increment .ensures)
-
-sub-parse-expire : tie.Need-sub-parse-expire
-sub-parse-expire c = omega (arith, c .before .before .before .if1 .left, c .before .before .if2 .left, c .before .if3 .left)
+unfolding formOf
+returns-3 c =
+    let a = c .before in
+    let b = a .before .before .before in
+    let d = b .before in
+    let e = d .before .before in
+    row-parsed (e .args .time) (e .args .row) _ (d .command-datum .ensures) (b .command-datum2 .ensures) incrementForm (rw (a .if3 .taken)) _ (c .parse-increment .ensures)
 
 parse-expire-requires : tie.Need-parse-expire-requires
-parse-expire-requires c κs = (c .before .before .before .before .before .before .before .pre .0, omega (arith, c .if4 .taken), c .before .before .before .before .before .before .before .pre .2)
+parse-expire-requires c κs = search needs
 
 returns-4 : tie.Need-returns-4
-returns-4 c = let e : 3 + (c .before .before .before .before .before .before .before .before .args .row - 3) ≡ c .before .before .before .before .before .before .before .before .args .row = omega (arith, c .before .before .before .before .if1 .left, c .before .before .before .if2 .left, c .before .before .if3 .left) in rw e at (c .parse-expire .ensures)
-
-parse-renumber-requires : tie.Need-parse-renumber-requires
-parse-renumber-requires c κs = c .before .before .before .before .before .before .before .before .pre .0
+unfolding formOf
+returns-4 c =
+    let a = c .before in
+    let b = a .before .before .before .before in
+    let d = b .before in
+    let e = d .before .before in
+    row-parsed (e .args .time) (e .args .row) _ (d .command-datum .ensures) (b .command-datum2 .ensures) (expireForm (unitOf (b .command-datum2 .result))) (rw (a .if4 .taken)) _ (c .parse-expire .ensures)
 
 returns-5 : tie.Need-returns-5
-returns-5 c = rw (c .before .if5 .taken) (c .parse-renumber .ensures (c .before .before .before .before .before .before .before .before .before .args .time))
+unfolding formOf
+returns-5 c =
+    let a = c .before .before .before .before .before in
+    let b = a .before in
+    let d = b .before .before in
+    row-parsed (d .args .time) (d .args .row) _ (b .command-datum .ensures) (a .command-datum2 .ensures) persistForm (rw (c .if5 .taken)) _ (fixed-persist (d .args .time) _)
 
-parse-count-requires : tie.Need-parse-count-requires
-parse-count-requires c κs = c .before .before .before .before .before .before .before .before .before .pre .0
+parse-renumber-requires : tie.Need-parse-renumber-requires
+parse-renumber-requires c κs = search needs
 
 returns-6 : tie.Need-returns-6
-returns-6 c = rw (c .before .if6 .taken) (c .parse-count .ensures (c .before .before .before .before .before .before .before .before .before .before .args .time))
+unfolding formOf
+returns-6 c =
+    let a = c .before in
+    let b = a .before .before .before .before .before .before in
+    let d = b .before in
+    let e = d .before .before in
+    row-parsed (e .args .time) (e .args .row) _ (d .command-datum .ensures) (b .command-datum2 .ensures) renumberForm (rw (a .if6 .taken)) _ (c .parse-renumber .ensures (e .args .time))
 
-parse-fixed-requires : tie.Need-parse-fixed-requires
-parse-fixed-requires c κs = (c .before .before .if4 .left, c .before .before .before .before .before .before .before .before .before .pre .1, c .before .if5 .left, c .if6 .left)
+question-requires : tie.Need-question-requires
+question-requires c κs = search needs
 
 returns-7 : tie.Need-returns-7
-returns-7 c = c .parse-fixed .ensures (c .before .before .before .before .before .before .before .before .before .before .args .time) _
+unfolding formOf
+returns-7 c =
+    let a = c .before in
+    let b = a .before .before .before .before .before .before .before in
+    let d = b .before in
+    let e = d .before .before in
+    row-parsed (e .args .time) (e .args .row) _ (d .command-datum .ensures) (b .command-datum2 .ensures) (askForm (c .question .result)) (rw (a .if7 .taken, c .question .ensures)) _ (fixed-ask (e .args .time) _ (c .question .result))
+
+question-requires-2 : tie.Need-question-requires-2
+question-requires-2 c κs = search needs
+
+returns-8 : tie.Need-returns-8
+unfolding formOf
+returns-8 c =
+    let a = c .before in
+    let b = a .before .before .before .before .before .before .before .before in
+    let d = b .before in
+    let e = d .before .before in
+    row-parsed (e .args .time) (e .args .row) _ (d .command-datum .ensures) (b .command-datum2 .ensures) (getManyForm (c .question2 .result)) (rw (a .if8 .taken, c .question2 .ensures)) _ (fixed-many (e .args .time) _ (c .question2 .result))
+
+returns-9 : tie.Need-returns-9
+unfolding formOf
+returns-9 c =
+    let a = c .before .before .before .before .before .before .before .before .before in
+    let b = a .before in
+    let d = b .before .before in
+    row-parsed (d .args .time) (d .args .row) _ (b .command-datum .ensures) (a .command-datum2 .ensures) deleteForm (rw (c .if9 .taken)) _ (fixed-delete (d .args .time) _)
+
+parse-count-requires : tie.Need-parse-count-requires
+parse-count-requires c κs = search needs
+
+returns-10 : tie.Need-returns-10
+unfolding formOf
+returns-10 c =
+    let a = c .before in
+    let b = a .before .before .before .before .before .before .before .before .before .before in
+    let d = b .before in
+    let e = d .before .before in
+    row-parsed (e .args .time) (e .args .row) _ (d .command-datum .ensures) (b .command-datum2 .ensures) countForm (rw (a .if10 .taken)) _ (c .parse-count .ensures (e .args .time))
+
+listing-requires : tie.Need-listing-requires
+listing-requires c κs = search needs
+
+returns-11 : tie.Need-returns-11
+returns-11 c =
+    let a = c .before in
+    let b = a .before in
+    let d = b .before in
+    let e = d .before in
+    let f = e .before in
+    let g = f .before in
+    let h = g .before in
+    let j = h .before in
+    let k = j .before in
+    let l = k .before in
+    let m = l .before in
+    let n = m .before in
+    let o = n .before .before in
+    row-parsed (o .args .time) (o .args .row) _ (n .command-datum .ensures) (m .command-datum2 .ensures) (listForm (c .listing .result)) (list-form (n .command-datum .result) (m .command-datum2 .result) (behind 9 (behind 8 (behind 7 (behind 6 (behind 5 (behind 4 (behind 3 (behind 2 (behind 1 (behind 0 (omega arith) (l .if1 .left)) (k .if2 .left)) (j .if3 .left)) (h .if4 .left)) (g .if5 .left)) (f .if6 .left)) (e .if7 .left)) (d .if8 .left)) (b .if9 .left)) (a .if10 .left)) ∙ ap listForm (sym (c .listing .ensures))) _ (fixed-list (o .args .time) _ (c .listing .result))
 
 pub parse-row-spec : {M : Type 1} → statement M
 parse-row-spec =
     tie.close
     (tie.spec
+    command-datum-requires
+    command-datum-requires-2
     parse-set-requires
     returns
     returns-2
     parse-increment-requires
     returns-3
-    sub-parse-expire
     parse-expire-requires
     returns-4
-    parse-renumber-requires
     returns-5
-    parse-count-requires
+    parse-renumber-requires
     returns-6
-    parse-fixed-requires
-    returns-7)
+    question-requires
+    returns-7
+    question-requires-2
+    returns-8
+    returns-9
+    parse-count-requires
+    returns-10
+    listing-requires
+    returns-11)

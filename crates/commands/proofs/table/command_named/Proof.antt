@@ -1,7 +1,6 @@
 -- The bytes of the code are those of the definition, computed.
-use Rattle.commands.specs.ParsePromises.{nameRow, commandTable}
-use Rattle.commands.proofs.Computing.{computing}
-use Rattle.commands.proofs.RowNumbers.{command-table}
+use Rattle.commands.specs.Tables.{commandTable}
+use Rattle.commands.proofs.RowNumbers.{tables, command-table}
 use borrow.Author.Needs.{needs}
 use Rattle.commands.proofs.table.command_named.Statement.{statement}
 use Rattle.commands.proofs.table.command_named.Tie as tie
@@ -10,11 +9,11 @@ slice-aggregate-find : tie.Need-slice-aggregate-find
 slice-aggregate-find c = search needs
 
 find-requires : tie.Need-find-requires
-unfolding computing nameRow commandTable
+unfolding tables commandTable
 find-requires c κs = command-table
 
 returns : tie.Need-returns
-unfolding computing nameRow commandTable
+unfolding tables commandTable
 returns c = c .find .ensures
 
 pub command-named-spec : {M : Type 1} → statement M

@@ -1,7 +1,6 @@
 -- The bytes of the code are those of the definition, computed.
-use Rattle.commands.specs.ParsePromises.{nameRow, optionTable}
-use Rattle.commands.proofs.Computing.{computing}
-use Rattle.commands.proofs.RowNumbers.{option-table}
+use Rattle.commands.specs.Tables.{optionTable}
+use Rattle.commands.proofs.RowNumbers.{tables, option-table}
 use borrow.Author.Needs.{needs}
 use Rattle.commands.proofs.table.option_named.Statement.{statement}
 use Rattle.commands.proofs.table.option_named.Tie as tie
@@ -10,11 +9,11 @@ slice-aggregate-find : tie.Need-slice-aggregate-find
 slice-aggregate-find c = search needs
 
 find-requires : tie.Need-find-requires
-unfolding computing nameRow optionTable
+unfolding tables optionTable
 find-requires c κs = option-table
 
 returns : tie.Need-returns
-unfolding computing nameRow optionTable
+unfolding tables optionTable
 returns c = c .find .ensures
 
 pub option-named-spec : {M : Type 1} → statement M

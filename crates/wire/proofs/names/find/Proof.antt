@@ -5,7 +5,7 @@ use native.Mathlib.Nat.{sub-zero}
 use native.Mathlib.Omega.{arith}
 use borrow.Author.Needs.{needs}
 use lib.ListN.{length}
-use Rattle.wire.specs.Promises.{rowFor, rowFrom, rowNamed}
+use Rattle.wire.specs.Promises.{rowSize, rowFor, rowFrom, rowNamed}
 use Rattle.wire.proofs.Rows.{row-hit, row-skip, row-end}
 use Rattle.wire.proofs.names.find.Statement.{statement}
 use Rattle.wire.proofs.names.find.Tie as tie
@@ -18,7 +18,7 @@ abbrev μ-loop : tie.MeasureT-loop
 
 loop-holds : tie.Need-loop-holds Inv-loop μ-loop
 unfolding rowNamed
-loop-holds c = (omega arith, rw (sub-zero (length (c .before .before .args .table .now) / 16)))
+loop-holds c = (omega arith, rw (sub-zero (length (c .before .before .args .table .now) / rowSize)))
 
 cast-end : tie.Need-cast-end Inv-loop μ-loop
 cast-end c = omega (arith, c .before .before .before .before .before .pre .short (c .before .before .loop .i))

@@ -1,0 +1,23 @@
+-- The bytes of the code are those of the definition, computed.
+use mathlib.Core.Path.{_∙_}
+use Rattle.commands.specs.Tables.{commandTable}
+use Rattle.commands.proofs.RowNumbers.{tables, command-inside, command-datum}
+use borrow.Author.Needs.{needs}
+use Rattle.commands.proofs.table.command_datum.Statement.{statement}
+use Rattle.commands.proofs.table.command_datum.Tie as tie
+
+slice-aggregate-datum : tie.Need-slice-aggregate-datum
+slice-aggregate-datum c = search needs
+
+datum-requires : tie.Need-datum-requires
+unfolding tables commandTable
+datum-requires c κs = (command-inside (c .before .args .row) (c .before .args .place) (c .before .pre .0), c .before .pre .1)
+
+returns : tie.Need-returns
+unfolding tables commandTable
+returns c =
+    let a = c .before .before in
+    c .datum .ensures ∙ command-datum (a .args .row) (a .args .place) (a .pre .0) (a .pre .1)
+
+pub command-datum-spec : {M : Type 1} → statement M
+command-datum-spec = tie.close (tie.spec slice-aggregate-datum datum-requires returns)
