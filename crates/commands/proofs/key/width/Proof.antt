@@ -26,4 +26,6 @@ unfolding widthOf
 returns-3 c = rw (c .enum-told3 .given .1) refl
 
 pub width-spec : {M : Type 1} → statement M
-width-spec = tie.close (tie.spec enum-told enum-told-2 enum-told-3 returns returns-2 returns-3)
+width-spec =
+    tie.close
+    (tie.spec enum-told enum-told-2 enum-told-3 returns returns-2 returns-3)
