@@ -63,7 +63,8 @@ module _ {total rest d e : List ℕ} {at : ℕ} (g : Going total rest d e at) wh
   going-spare n h = rw (length-take, length-drop) (omega (arith, going-at, going-length))
 
 -- Where a buffer has room for x and y and k bytes more, the part after x has room for y and k more.
-pub tail-spare : {x d e : List ℕ} {a : ℕ} (k : ℕ) (y : List ℕ) → Laid x d e a → k + length (x ++ y) ≤ length d → k + length y ≤ length (take (length e - a) (drop a e))
+pub tail-spare : {x d e : List ℕ} {a : ℕ} (k : ℕ) (y : List ℕ) → Laid x d e a → k + length (x ++ y) ≤ length d
+    → k + length y ≤ length (take (length e - a) (drop a e))
 tail-spare {x} k y l h =
     let n : length (x ++ y) ≡ length x + length y = length-append x y in
     rw (length-take, length-drop) (omega (arith, l .size, laid-length l (omega arith)))

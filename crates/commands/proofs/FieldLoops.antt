@@ -10,9 +10,10 @@ use lib.Seq.{drop-cons, take-all, getD-drop}
 use Rattle.wire.specs.Lists.{keep, orElse}
 use Rattle.wire.specs.Words.{Word, wordAt}
 use Rattle.wire.specs.Reply.{header, array}
-use Rattle.wire.specs.Promises.{wordIn, wordsIn, Inside}
+use Rattle.wire.specs.Promises.{wordIn, wordsIn, Inside, Laid}
 use Rattle.wire.proofs.Lists.{length-keep}
-use Rattle.wire.proofs.Laying.{front-room}
+use Rattle.wire.proofs.Laying.{laid-length}
+use Rattle.wire.proofs.Reply.{length-header}
 use Rattle.wire.proofs.Cursor.{length-words}
 use Rattle.store.specs.Layout.{slotsMost}
 use Rattle.store.specs.Store.{Slot, Store, decode, wellFormed}
@@ -90,7 +91,8 @@ pub record Sweeping (now : ℕ) (k : Word) (fields left : List Word) (before aft
   pub same : swept now k left (decode after) ≡ swept now k fields (decode before)
 
 module _ {now : ℕ} {k : Word} {fields left : List Word} {b d : List ℕ} (s : Sweeping now k fields left b d) where
-  pub sweeping-on : {f : Word} {more : List Word} → left ≡ f ∷ more → {e : List ℕ} → Holds e (swept now k (f ∷ []) (decode d)) → Sweeping now k fields more b e
+  pub sweeping-on : {f : Word} {more : List Word} → left ≡ f ∷ more → {e : List ℕ} → Holds e (swept now k (f ∷ []) (decode d))
+      → Sweeping now k fields more b e
   sweeping-on {f} {more} q h =
       record {
         well = h .well;
@@ -125,7 +127,8 @@ module _ {k : Word} {fields left : List Word} {b d : List ℕ} {m : ℕ} (s : De
   pub deleting-few : wellFormed b ≡ true → m ≤ slotsMost
   deleting-few w = omega (arith, s .total, length-keep (named k fields) (decode b .slots), decode-valid b w .most)
 
-  pub deleting-on : {f : Word} {more : List Word} → left ≡ f ∷ more → {e : List ℕ} {r : ℕ} → Removes k f (decode d) e r → Deleting k fields more b e (m + r)
+  pub deleting-on : {f : Word} {more : List Word} → left ≡ f ∷ more → {e : List ℕ} {r : ℕ} → Removes k f (decode d) e r
+      → Deleting k fields more b e (m + r)
   unfolding changeAll
   deleting-on {f} {more} q {e} h =
       let after : (now : ℕ) → decode e .slots ≡ _ = λ now. ap (λ (t : Store). t .slots) (h .store now .means) in
@@ -168,6 +171,16 @@ module _ {k : Word} {fields left : List Word} {b d : List ℕ} {m : ℕ} (s : De
             );
       }
 
+-- ---- the header of an array
+
+module _ {n : ℕ} (few : n ≤ 1000) where
+  pub header-room : {m : ℕ} → bufferLeast ≤ m → length (header n) ≤ m
+  header-room big = omega (arith, length-header 4 n (omega arith) (omega arith))
+
+  -- what follows it begins within the buffer
+  pub header-inside : {d e : List ℕ} {a : ℕ} → bufferLeast ≤ length d → Laid (header n) d e a → a ≤ length e
+  header-inside big l = omega (arith, l .size, header-room big, laid-length l (header-room big))
+
 -- ---- an answer about each field
 
 -- the answers from place i on
@@ -175,7 +188,8 @@ unfoldable pub answersFrom : (Word → List ℕ) → List ℕ → List (List ℕ
 answersFrom g s places i = flatten (map g (wordsFrom s places i))
 
 module _ (g : Word → List ℕ) (s : List ℕ) (places : List (List ℕ)) where
-  pub answers-next : (i : ℕ) → i < length places → {f : Word} → f ≡ wordAt i (wordsIn s places) → Next (answersFrom g s places i) (g f) (answersFrom g s places (i + 1))
+  pub answers-next : (i : ℕ) → i < length places → {f : Word} → f ≡ wordAt i (wordsIn s places)
+      → Next (answersFrom g s places i) (g f) (answersFrom g s places (i + 1))
   unfolding answersFrom flatten
   answers-next i l q = record { parts = rw (next-word s places i l q) }
 
@@ -189,22 +203,20 @@ module _ (g : Word → List ℕ) (s : List ℕ) (places : List (List ℕ)) where
   answers-begin = rw (length-map (wordsIn s places) g, length-words s places)
 
 -- have room, and then there is room for one answer more
-module _ (now : ℕ) (b : List ℕ) (k : Word) (q : Question) (s : List ℕ) (places : List (List ℕ)) (w : wellFormed b ≡ true) (few : length places ≤ fieldsMost)
-    {n : ℕ} (big : bufferLeast ≤ n) where
+module _ (now : ℕ) (b : List ℕ) (k : Word) (q : Question) (s : List ℕ) (places : List (List ℕ))
+    (w : wellFormed b ≡ true) (few : length places ≤ fieldsMost) {n : ℕ} (big : bufferLeast ≤ n) where
   pub answers-spare : answerMost + length (header (length places) ++ flatten (answersOf now b k q (wordsIn s places))) ≤ n
   unfolding effect fieldsOf answerAbout
   answers-spare =
       rw (answers-begin (answerAbout now b k q) s places)
       (omega (
         arith,
-        effect-short now (getMany k (wordsIn s places) q) (decode b .slots) (decode-valid b w .fits) (decode-valid b w .most) (rw (length-words s places) few) refl .short,
+        effect-short now (getMany k (wordsIn s places) q) (decode b .slots) (decode-valid b w .fits) (decode-valid b w .most)
+            (rw (length-words s places) few) refl .short,
       ))
 
   pub answers-room : length (header (length places) ++ flatten (answersOf now b k q (wordsIn s places))) ≤ n
   answers-room = omega (arith, answers-spare)
-
-  pub answers-header : length (header (length places)) ≤ n
-  answers-header = front-room (header (length places)) (flatten (answersOf now b k q (wordsIn s places))) answers-room
 
 -- ---- what a listing shows
 
@@ -220,9 +232,6 @@ module _ (now : ℕ) (b : List ℕ) (k : Word) (l : Listing) {m w : ℕ} (p : m 
   entries-room v big =
       rw entries-begin
       (omega (arith, effect-short now (list k l) (decode b .slots) (decode-valid b v .fits) (decode-valid b v .most) (omega arith) refl .short))
-
-  pub entries-header : wellFormed b ≡ true → {n : ℕ} → bufferLeast ≤ n → length (header (m * w)) ≤ n
-  entries-header v big = front-room (header (m * w)) (flatten (listedOf now b k l)) (entries-room v big)
 
   -- and are few
   pub entries-few : wellFormed b ≡ true → m * w ≤ 1000

@@ -1,7 +1,7 @@
 -- What a command on the fields of a key comes to.
 use mathlib.Core.Path.{_≡_, refl, sym, ap, subst, _∙_}
 use mathlib.Core.Bool.{Bool, true, false}
-use mathlib.Core.List.{List, [], _∷_, map, flatMap}
+use mathlib.Core.List.{List, [], _∷_, map}
 use Prim.Native.Nat.{ℕ, _≤_}
 use native.Mathlib.Omega.{arith}
 use borrow.Author.Tests.{le-ltb}
@@ -22,7 +22,7 @@ use Rattle.commands.specs.declared.KeyDeed.{KeyDeed}
 use Rattle.commands.specs.Command.{Command, keyOf, fieldsOf}
 use Rattle.commands.specs.Command.Command.{getMany, delete, countHeld, countLive, list}
 use Rattle.commands.specs.Refusal.{lowest}
-use Rattle.commands.specs.Effect.{answer, listedSlot, effect}
+use Rattle.commands.specs.Effect.{answer, effect}
 use Rattle.commands.specs.Effect.Change.{remove}
 use Rattle.commands.specs.Execute.{swept, passes, adds, added, room, lateChecks, settle, runOn}
 use Rattle.commands.specs.ParsePromises.{commandFor}
@@ -33,7 +33,8 @@ use Rattle.commands.proofs.FieldLoops.{placesFrom, from-words}
 
 -- what settles on bytes that hold the swept store settles on that store
 module _ (now : ℕ) (c : Command) (s : Store) {b : List ℕ} (h : Holds b (swept now (keyOf c) (fieldsOf c) s)) where
-  pub swept-does : {after d x : List ℕ} {r : ℕ} → Does (settle now (effect now c (decode b .slots)) (decode b)) after d x r → Does (runOn now c s) after d x r
+  pub swept-does : {after d x : List ℕ} {r : ℕ} → Does (settle now (effect now c (decode b .slots)) (decode b)) after d x r
+      → Does (runOn now c s) after d x r
   unfolding runOn
   swept-does {after} {d} {x} {r} w = subst (λ (t : Store). Does (settle now (effect now c (t .slots)) t) after d x r) (h .means) w
 
@@ -63,14 +64,16 @@ does-delete now k fs s {b} h w l =
     (rw (removes-pass k fs, removes-add k fs (decode b .slots), le-ltb (room now (decode b .slots)) 0 (omega arith))
     (record { laid = rw (← (w .count)) l; holds = w .store now }))
 
-pub few-deleted : (b : List ℕ) {k : Word} {fs : List Word} {after : List ℕ} {n : ℕ} → wellFormed b ≡ true → Deletes k fs (decode b) after n → n ≤ slotsMost
+pub few-deleted : (b : List ℕ) {k : Word} {fs : List Word} {after : List ℕ} {n : ℕ} → wellFormed b ≡ true → Deletes k fs (decode b) after n
+    → n ≤ slotsMost
 few-deleted b {k} {fs} w h = omega (arith, h .count, length-keep (λ x. any (λ f. holds k f x) fs) (decode b .slots), decode-valid b w .most)
 
 -- ---- commands that name no field
 
 module _ (now : ℕ) (k : Word) (b : List ℕ) (w : wellFormed b ≡ true) {d x : List ℕ} {r : ℕ} where
   -- nothing is swept
-  unswept : (c : Command) (y : List ℕ) → keyOf c ≡ k → fieldsOf c ≡ [] → effect now c (decode b .slots) ≡ answer y → Laid y d x r → Does (runOn now c (decode b)) b d x r
+  unswept : (c : Command) (y : List ℕ) → keyOf c ≡ k → fieldsOf c ≡ [] → effect now c (decode b .slots) ≡ answer y → Laid y d x r
+      → Does (runOn now c (decode b)) b d x r
   unswept c y p q e l =
       swept-does now c (decode b)
       (record { means = sym (ap (λ (fs : List Word). swept now (keyOf c) fs (decode b)) q ∙ dead-none now (keyOf c) (decode b)); well = w })
@@ -80,7 +83,8 @@ module _ (now : ℕ) (k : Word) (b : List ℕ) (w : wellFormed b ≡ true) {d x 
   unfolding effect keyOf fieldsOf
   does-held q l = unswept (countHeld k) (number (length (keep (ofKey k) (decode b .slots)))) refl refl refl (rw (← q) l)
 
-  pub does-live : {n : ℕ} → n ≡ length (keep (liveOfKey now k) (decode b .slots)) → Laid (number n) d x r → Does (runOn now (countLive k) (decode b)) b d x r
+  pub does-live : {n : ℕ} → n ≡ length (keep (liveOfKey now k) (decode b .slots)) → Laid (number n) d x r
+      → Does (runOn now (countLive k) (decode b)) b d x r
   unfolding effect keyOf fieldsOf
   does-live q l = unswept (countLive k) (number (length (keep (liveOfKey now k) (decode b .slots)))) refl refl refl (rw (← q) l)
 
@@ -106,9 +110,11 @@ module _ (s : List ℕ) (places : List (List ℕ)) {k : Word} (p : k ≡ wordAt 
   words-same : commandFor k (wordsIn s (placesFrom places 2)) deed ≡ commandFor (wordAt 1 (wordsIn s places)) (drop 2 (wordsIn s places)) deed
   words-same = rw (p, from-words s places 2)
 
-  pub does-words : (now : ℕ) (t : Store) {after d x : List ℕ} {r : ℕ} → Does (runOn now (commandFor k (wordsIn s (placesFrom places 2)) deed) t) after d x r
+  pub does-words : (now : ℕ) (t : Store) {after d x : List ℕ} {r : ℕ}
+      → Does (runOn now (commandFor k (wordsIn s (placesFrom places 2)) deed) t) after d x r
       → Does (runOn now (commandFor (wordAt 1 (wordsIn s places)) (drop 2 (wordsIn s places)) deed) t) after d x r
   does-words now t w = rw words-same at w
 
-  pub words-within : WithinLimits (commandFor (wordAt 1 (wordsIn s places)) (drop 2 (wordsIn s places)) deed) → WithinLimits (commandFor k (wordsIn s (placesFrom places 2)) deed)
+  pub words-within : WithinLimits (commandFor (wordAt 1 (wordsIn s places)) (drop 2 (wordsIn s places)) deed)
+      → WithinLimits (commandFor k (wordsIn s (placesFrom places 2)) deed)
   words-within w = rw (← words-same) at w

@@ -1,6 +1,6 @@
 -- The slots of which a test holds, found one after the other, and what a listing shows of them.
 use mathlib.Core.Path.{_≡_, refl, sym, ap, _∙_}
-use mathlib.Core.Bool.{Bool, true, false, cond, _&&_, false≢true}
+use mathlib.Core.Bool.{Bool, true, false, cond, _&&_}
 use mathlib.Core.List.{List, [], _∷_, _++_, flatten, flatMap, append-nil}
 use mathlib.Core.Option.{Option, none, some, Option·map}
 use Prim.Native.Nat.{ℕ, suc, _+_, _*_, _≤_, _<_}
@@ -14,6 +14,7 @@ use Rattle.wire.specs.Lists.{keep, orElse}
 use Rattle.wire.specs.Bytes.{same}
 use Rattle.wire.specs.Words.{Word}
 use Rattle.wire.specs.Reply.{bulk}
+use Rattle.wire.proofs.Lists.{both-ways}
 use Rattle.wire.proofs.Laying.{front-room}
 use Rattle.store.specs.declared.Found.{Found}
 use Rattle.store.specs.declared.Found.the-variants as founds
@@ -65,7 +66,8 @@ keep-nothing p (s ∷ ss) h = keep-none p s ss (p s) (lowestSlot p ss) h (keep-n
 
 module _ (p : Slot → Bool) (ss : List Slot) (from : ℕ) where
   -- from a slot on
-  pub keep-from : (i : ℕ) → founds.At i ≡ foundFor (lowestFrom from p ss) → (from ≤ i) × (keep p (drop from ss) ≡ getD ss i none ∷ keep p (drop (i + 1) ss))
+  pub keep-from : (i : ℕ) → founds.At i ≡ foundFor (lowestFrom from p ss)
+      → (from ≤ i) × (keep p (drop from ss) ≡ getD ss i none ∷ keep p (drop (i + 1) ss))
   unfolding lowestFrom
   keep-from i h = go (lowestSlot p (drop from ss)) refl (found-at (Option·map (λ j. from + j) (lowestSlot p (drop from ss))) i h)
     where
@@ -152,7 +154,8 @@ module _ {now : ℕ} {b : List ℕ} {k : Word} {from i : ℕ} (n : NextLive now 
 
 module _ (now : ℕ) (b : List ℕ) (k : Word) (l : Listing) (from : ℕ) where
   -- there is none
-  pub shown-end : {r : Found} → r ≡ founds.Nothing → r ≡ foundFor (lowestFrom from (liveOfKey now k) (decode b .slots)) → shownFrom now b k l from ≡ []
+  pub shown-end : {r : Found} → r ≡ founds.Nothing → r ≡ foundFor (lowestFrom from (liveOfKey now k) (decode b .slots))
+      → shownFrom now b k l from ≡ []
   unfolding shownFrom flatMap flatten
   shown-end q h = rw (keep-over (liveOfKey now k) (decode b .slots) from (sym q ∙ h))
 
@@ -167,7 +170,8 @@ width-entry Values e = refl
 width-entry Both e = refl
 
 -- as many elements as the kept slots have
-pub shown-count : (l : Listing) (p : Slot → Bool) (ss : List Slot) → p none ≡ false → length (flatMap (listedSlot l) (keep p ss)) ≡ length (keep p ss) * widthOf l
+pub shown-count : (l : Listing) (p : Slot → Bool) (ss : List Slot) → p none ≡ false
+    → length (flatMap (listedSlot l) (keep p ss)) ≡ length (keep p ss) * widthOf l
 unfolding keep flatMap listedSlot orElse
 shown-count l p [] z = omega arith
 shown-count l p (none ∷ ss) z = rw z (shown-count l p ss z)
@@ -176,7 +180,8 @@ shown-count l p (some e ∷ ss) z = go (p (some e)) (shown-count l p ss z)
     go : (t : Bool) → length (flatMap (listedSlot l) (keep p ss)) ≡ length (keep p ss) * widthOf l
         → length (flatMap (listedSlot l) (cond t (some e ∷ keep p ss) (keep p ss))) ≡ length (cond t (some e ∷ keep p ss) (keep p ss)) * widthOf l
     go true q =
-        rw (length-append (listed l e) (flatMap (listedSlot l) (keep p ss)), width-entry l e, q) (add-comm (widthOf l) (length (keep p ss) * widthOf l) ∙ sym (suc-mul (length (keep p ss)) (widthOf l)))
+        rw (length-append (listed l e) (flatMap (listedSlot l) (keep p ss)), width-entry l e, q)
+        (add-comm (widthOf l) (length (keep p ss) * widthOf l) ∙ sym (suc-mul (length (keep p ss)) (widthOf l)))
     go false q = q
 
 -- ---- one entry taken out
@@ -214,14 +219,16 @@ module _ (k f : Word) (now : ℕ) (ss : List Slot) where
 
     -- no other slot is kept
     pub kept-one : length (keep (holds k f) ss) ≡ 1
-    kept-one = rw (keep-lowest (holds k f) ss i h) (ap suc (ap length (keep-nothing (holds k f) (drop (suc i) ss) (nothing (lowestSlot (holds k f) (drop (suc i) ss)) refl))))
+    kept-one =
+        rw (keep-lowest (holds k f) ss i h)
+        (ap suc (ap length (keep-nothing (holds k f) (drop (suc i) ss) (nothing (lowestSlot (holds k f) (drop (suc i) ss)) refl))))
       where
         nothing : (o : Option ℕ) → lowestSlot (holds k f) (drop (suc i) ss) ≡ o → o ≡ none
         nothing none q = refl
         nothing (some j) q =
             let t = lowest-some (holds k f) (drop (suc i) ss) j q in
             let away : holds k f (getD ss (suc i + j) none) ≡ false = holds-once k f ss a i (suc i + j) (λ e. omega arith) (found .here) in
-            absurd (false≢true (sym away ∙ rw (getD-drop (suc i) ss j none) at (t .here)))
+            both-ways (rw (getD-drop (suc i) ss j none) at (t .here)) away
 
 -- what removing the entry that was looked for leaves, and how many that was
 module _ (k f : Word) (b : List ℕ) (w : wellFormed b ≡ true) {r : Found} (h : r ≡ foundFor (lowestSlot (holds k f) (decode b .slots))) where

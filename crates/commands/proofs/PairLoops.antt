@@ -8,16 +8,15 @@ use native.Mathlib.Omega.{arith}
 use borrow.Author.Tests.{ltb-false, lt-ltb, le-ltb, ne-eqb}
 use lib.Dec.{ltb, eqb}
 use lib.ListN.{length, drop, length-map}
-use Rattle.wire.specs.Lists.{any, keep, orElse, isSome}
+use Rattle.wire.specs.Lists.{any, keep, isSome}
 use Rattle.wire.specs.Bytes.{same}
 use Rattle.wire.specs.Words.{Word, wordsMost, wordAt}
 use Rattle.wire.specs.Promises.{wordsIn, Inside}
 use Rattle.wire.proofs.Lists.{or-left, or-right, or-neither, length-keep}
 use Rattle.store.specs.Layout.{keyMost, fieldMost, valueMost, versionMost}
 use Rattle.store.specs.declared.Found.{Found}
-use Rattle.store.specs.declared.Found.the-variants as founds
-use Rattle.store.specs.Store.{Entry, entry, Slot, Store, decode, wellFormed, holds}
-use Rattle.store.specs.Time.{entryOf, lowestSlot, put}
+use Rattle.store.specs.Store.{Entry, entry, Slot, Store, decode, holds}
+use Rattle.store.specs.Time.{lowestSlot, put}
 use Rattle.store.specs.declared.Expiry.the-variants.{Never}
 use Rattle.store.specs.Promises.{Holds, foundFor}
 use Rattle.store.specs.Valid.{Short}
@@ -29,7 +28,8 @@ use Rattle.commands.specs.Parse.{pairsOf, tooLong}
 use Rattle.commands.specs.Effect.{change, changeAll, nextExpiry, written, writesOf}
 use Rattle.commands.specs.Effect.Change.{write}
 use Rattle.commands.specs.Execute.{passes}
-use Rattle.commands.specs.Promises.{Sought, entryFor, withPut, heldVersion, fieldsIn, timesIn, versionIn, overflowing, missing, newField, surveyOf, pairEntry, Pairing, Placing, withAll}
+use Rattle.commands.specs.Promises.{Sought, entryFor, withPut, heldVersion}
+use Rattle.commands.specs.Promises.{fieldsIn, timesIn, versionIn, overflowing, missing, newField, surveyOf, pairEntry, Pairing, Placing, withAll}
 use Rattle.commands.proofs.FieldDeeds.{sought-entry}
 use Rattle.commands.proofs.FieldLoops.{wordsFrom, next-word, length-from}
 use Rattle.commands.proofs.Sound.{pair-count}
@@ -143,7 +143,8 @@ named-times f (g ∷ gs) = go (same g f) (named-times f gs)
     go false q = q
 
 -- one more field that is missing, or not
-missing-more : (k f : Word) (fs : List Word) (ss : List Slot) {found : Found} {again : ℕ} → found ≡ foundFor (lowestSlot (holds k f) ss) → again ≡ timesIn f fs
+missing-more : (k f : Word) (fs : List Word) (ss : List Slot) {found : Found} {again : ℕ} → found ≡ foundFor (lowestSlot (holds k f) ss)
+    → again ≡ timesIn f fs
     → missing k (f ∷ fs) ss ≡ newField found again + missing k fs ss
 unfolding missing newField foundFor isSome
 missing-more k f fs ss h q = rw (h, q, any-lowest (holds k f) ss, named-times f fs) (go (lowestSlot (holds k f) ss) (eqb (timesIn f fs) 0) refl)
@@ -192,7 +193,8 @@ module _ {k : Word} {fields rest : List Word} {ss : List Slot} {n : ℕ} (s : Su
     surveying-over h = rw (← passes-here, lt-ltb versionMost (held + (again + 1)) h)
 
     -- or not
-    pub surveying-on : held + (again + 1) ≤ versionMost → {found : Found} {r : ℕ} → found ≡ foundFor (lowestSlot (holds k f) ss) → r ≡ newField found again
+    pub surveying-on : held + (again + 1) ≤ versionMost → {found : Found} {r : ℕ} → found ≡ foundFor (lowestSlot (holds k f) ss)
+        → r ≡ newField found again
         → Surveying k fields more ss (n + r)
     surveying-on h g w =
         record {
@@ -249,7 +251,13 @@ module _ {now : ℕ} {k : Word} {pairs left : List Pair} {b d : List ℕ} (w : W
     parts : Short k f v × (tooLong (setMany k more) ≡ false)
     parts = short-parts k one more (ap (λ (ps : List Pair). tooLong (setMany k ps)) (sym q) ∙ w .placing .short)
 
-    numbers : (passes (write (pairEntry k f v (decode d .slots))) || any passes (writesOf now k more (put now (pairEntry k f v (decode d .slots)) (decode d .slots)))) ≡ false
+    abbrev own : Entry
+    own = pairEntry k f v (decode d .slots)
+
+    abbrev others : Bool
+    others = any passes (writesOf now k more (put now own (decode d .slots)))
+
+    numbers : (passes (write own) || others) ≡ false
     unfolding writesOf any
     numbers = ap (λ (ps : List Pair). any passes (writesOf now k ps (decode d .slots))) (sym q) ∙ w .placing .numbered
 
@@ -263,13 +271,13 @@ module _ {now : ℕ} {k : Word} {pairs left : List Pair} {b d : List ℕ} (w : W
           version =
               omega (
                 arith,
-                ltb-false versionMost (pairEntry k f v (decode d .slots) .version) (or-left _ _ numbers),
+                ltb-false versionMost (own .version) (or-left (passes (write own)) others numbers),
                 next-is k one (decode d .slots),
               );
         }
 
     -- it is written
-    pub writing-on : {e : List ℕ} → Holds e (withPut now (pairEntry k f v (decode d .slots)) (decode d)) → Writing now k pairs more b e
+    pub writing-on : {e : List ℕ} → Holds e (withPut now own (decode d)) → Writing now k pairs more b e
     unfolding withAll writesOf changeAll change withPut
     writing-on h =
         record {
@@ -278,7 +286,7 @@ module _ {now : ℕ} {k : Word} {pairs left : List Pair} {b d : List ℕ} (w : W
                 well = h .well;
                 short = parts .1;
                 numbered = ap (λ (s : Store). any passes (writesOf now k more (s .slots))) (h .means)
-                    ∙ or-right (passes (write (pairEntry k f v (decode d .slots)))) (any passes (writesOf now k more (put now (pairEntry k f v (decode d .slots)) (decode d .slots)))) numbers;
+                    ∙ or-right (passes (write own)) others numbers;
               };
           same = ap (withAll now k more) (h .means) ∙ ap (λ (ps : List Pair). withAll now k ps (decode d)) (sym q) ∙ w .same;
         }
@@ -286,7 +294,8 @@ module _ {now : ℕ} {k : Word} {pairs left : List Pair} {b d : List ℕ} (w : W
 -- ---- one pair
 
 -- the version that is held in the slot that was found
-pub version-sought : {b k f : List ℕ} {r : Found} {n : ℕ} → Sought b k f r → n ≡ heldVersion (entryFor (decode b .slots) r) → n ≡ versionIn k (decode b .slots) f
+pub version-sought : {b k f : List ℕ} {r : Found} {n : ℕ} → Sought b k f r → n ≡ heldVersion (entryFor (decode b .slots) r)
+    → n ≡ versionIn k (decode b .slots) f
 unfolding versionIn
 version-sought s q = q ∙ ap heldVersion (sym (sought-entry s))
 

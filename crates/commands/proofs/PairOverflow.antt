@@ -151,7 +151,8 @@ slot-missing now k f ss h = lowest-entry-none k f ss (go (lowestSlot (holds k f)
     go none q = refl
     go (some i) q = cc
 
-module _ (now : ℕ) (k : Word) (p : Pair) (ps : List Pair) (ss : List Slot) (version : Word → ℕ) (few : length ps ≤ wordsMost) (s : Tracks now k (p ∷ ps) ss version) where
+module _ (now : ℕ) (k : Word) (p : Pair) (ps : List Pair) (ss : List Slot) (version : Word → ℕ)
+    (few : length ps ≤ wordsMost) (s : Tracks now k (p ∷ ps) ss version) where
   own : Entry
   own = pairEntry k (p .field) (p .value) ss
 
@@ -195,7 +196,8 @@ module _ (now : ℕ) (k : Word) (p : Pair) (ps : List Pair) (ss : List Slot) (ve
         near = λ g n. near-at g n (same (p .field) g) refl;
       }
     where
-      alive-at : (g : Word) → named g (fieldsOf ps) ≡ true → (t : Bool) → same (p .field) g ≡ t → (x : Entry) → entryOf k g (put now own ss) ≡ some x → live now x ≡ true
+      alive-at : (g : Word) → named g (fieldsOf ps) ≡ true → (t : Bool) → same (p .field) g ≡ t → (x : Entry)
+          → entryOf k g (put now own ss) ≡ some x → live now x ≡ true
       alive-at g n true q x h =
           let e : p .field ≡ g = same-true (p .field) g q in
           itself (λ o. o ≡ some x → live now x ≡ true) (λ z. let m : own ≡ x = cc in rw (← m) refl) (λ u z. cc)

@@ -50,7 +50,8 @@ module _ (now : ℕ) (k : Word) (ws : List Word) (s : Store) {b : List ℕ} (h :
       (ap (λ (t : Store). entryOf k g (t .slots)) (sym (h .means)) ∙ q)
 
   -- what settles on the bytes is what the command does with the store
-  settles : {after d x : List ℕ} {r : ℕ} → Does (settle now (effect now (setMany k pairs) slots) (decode b)) after d x r → Does (runOn now (setMany k pairs) s) after d x r
+  settles : {after d x : List ℕ} {r : ℕ} → Does (settle now (effect now (setMany k pairs) slots) (decode b)) after d x r
+      → Does (runOn now (setMany k pairs) s) after d x r
   unfolding keyOf fieldsOf fieldsIn
   settles = swept-does now (setMany k pairs) s h
 
@@ -63,7 +64,8 @@ module _ (now : ℕ) (k : Word) (ws : List Word) (s : Store) {b : List ℕ} (h :
     -- 23
     pub many-over : v ≡ surveys.Overflow → {d x : List ℕ} {r : ℕ} → Laid (errorLine 23) d x r → Does (runOn now (setMany k pairs) s) b d x r
     unfolding settle orElse lateChecks lowest effect surveyOf
-    many-over q l = settles (rw (passing-is ∙ go (overflowing (versionIn k slots) (fieldsIn ws)) (sym q ∙ survey)) (record { laid = l; holds = holds-self (h .well) }))
+    many-over q l =
+        settles (rw (passing-is ∙ go (overflowing (versionIn k slots) (fieldsIn ws)) (sym q ∙ survey)) (record { laid = l; holds = holds-self (h .well) }))
       where
         go : (t : Bool) → surveys.Overflow ≡ cond t surveys.Overflow (surveys.Added (missing k (fieldsIn ws) slots)) → t ≡ true
         go true e = refl
@@ -75,7 +77,8 @@ module _ (now : ℕ) (k : Word) (ws : List Word) (s : Store) {b : List ℕ} (h :
       told = go (overflowing (versionIn k slots) (fieldsIn ws)) refl (sym q ∙ survey)
         where
           go : (t : Bool) → overflowing (versionIn k slots) (fieldsIn ws) ≡ t
-              → surveys.Added n ≡ cond t surveys.Overflow (surveys.Added (missing k (fieldsIn ws) slots)) → (any passes changes ≡ false) × (added changes slots ≡ n)
+              → surveys.Added n ≡ cond t surveys.Overflow (surveys.Added (missing k (fieldsIn ws) slots))
+              → (any passes changes ≡ false) × (added changes slots ≡ n)
           go true w e = (cc, cc)
           go false w e = let m : missing k (fieldsIn ws) slots ≡ n = cc in (passing-is ∙ w, added-missing now k pairs slots slots ∙ m)
 

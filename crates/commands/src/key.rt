@@ -101,9 +101,8 @@ fn get_many(
 ) -> usize
     requires { ⌜ FieldsReady (now command) (now fields) (now bytes) (now out) ⌝ }
     ensures { λ r.
-        let fs = wordsIn (now (command .entry)) (now (fields .entry)) in
-        let outcome = runOn time (getMany (now (key .entry)) fs question) (decode (now (bytes .entry))) in
-        ⌜ Does outcome (now (bytes .exit)) (now (out .entry)) (now (out .exit)) r ⌝ }
+        let c = getMany (now (key .entry)) (wordsIn (now (command .entry)) (now (fields .entry))) question in
+        ⌜ Does (runOn time c (decode (now (bytes .entry)))) (now (bytes .exit)) (now (out .entry)) (now (out .exit)) r ⌝ }
 {
     sweep_fields(command, fields, bytes, key, time);
     let at = put_header(fields.len() as u64, out);
@@ -150,9 +149,8 @@ fn delete(
 ) -> usize
     requires { ⌜ FieldsReady (now command) (now fields) (now bytes) (now out) ⌝ }
     ensures { λ r.
-        let fs = wordsIn (now (command .entry)) (now (fields .entry)) in
-        let outcome = runOn time (delete (now (key .entry)) fs) (decode (now (bytes .entry))) in
-        ⌜ Does outcome (now (bytes .exit)) (now (out .entry)) (now (out .exit)) r ⌝ }
+        let c = delete (now (key .entry)) (wordsIn (now (command .entry)) (now (fields .entry))) in
+        ⌜ Does (runOn time c (decode (now (bytes .entry)))) (now (bytes .exit)) (now (out .entry)) (now (out .exit)) r ⌝ }
 {
     sweep_fields(command, fields, bytes, key, time);
     let n = remove_fields(command, fields, bytes, key);
@@ -231,12 +229,11 @@ pub fn on_key(
     time: u64,
     out: &mut [u8],
 ) -> usize
-    requires { let fs = wordsIn (now command) (now fields) in
-        ⌜ (FieldsReady (now command) (now fields) (now bytes) (now out)) × (WithinLimits (commandFor (now key) fs deed)) ⌝ }
+    requires { let c = commandFor (now key) (wordsIn (now command) (now fields)) deed in
+        ⌜ (FieldsReady (now command) (now fields) (now bytes) (now out)) × (WithinLimits c) ⌝ }
     ensures { λ r.
-        let fs = wordsIn (now (command .entry)) (now (fields .entry)) in
-        let outcome = runOn time (commandFor (now (key .entry)) fs deed) (decode (now (bytes .entry))) in
-        ⌜ Does outcome (now (bytes .exit)) (now (out .entry)) (now (out .exit)) r ⌝ }
+        let c = commandFor (now (key .entry)) (wordsIn (now (command .entry)) (now (fields .entry))) deed in
+        ⌜ Does (runOn time c (decode (now (bytes .entry)))) (now (bytes .exit)) (now (out .entry)) (now (out .exit)) r ⌝ }
 {
     match deed {
         KeyDeed::SetMany => set_many(command, fields, bytes, key, time, out),

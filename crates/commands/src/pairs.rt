@@ -136,12 +136,11 @@ pub fn set_many(
     time: u64,
     out: &mut [u8],
 ) -> usize
-    requires { let ps = pairsOf (wordsIn (now command) (now pairs)) in
-        ⌜ (FieldsReady (now command) (now pairs) (now bytes) (now out)) × (WithinLimits (setMany (now key) ps)) ⌝ }
+    requires { let c = setMany (now key) (pairsOf (wordsIn (now command) (now pairs))) in
+        ⌜ (FieldsReady (now command) (now pairs) (now bytes) (now out)) × (WithinLimits c) ⌝ }
     ensures { λ r.
-        let ps = pairsOf (wordsIn (now (command .entry)) (now (pairs .entry))) in
-        let outcome = runOn time (setMany (now (key .entry)) ps) (decode (now (bytes .entry))) in
-        ⌜ Does outcome (now (bytes .exit)) (now (out .entry)) (now (out .exit)) r ⌝ }
+        let c = setMany (now (key .entry)) (pairsOf (wordsIn (now (command .entry)) (now (pairs .entry)))) in
+        ⌜ Does (runOn time c (decode (now (bytes .entry)))) (now (bytes .exit)) (now (out .entry)) (now (out .exit)) r ⌝ }
 {
     sweep_pairs(command, pairs, bytes, key, time);
     let survey = survey_pairs(command, pairs, bytes, key);

@@ -1,39 +1,30 @@
 use mathlib.Core.Path.{sym}
 use native.Mathlib.Omega.{arith}
 use denote.Ref.{now}
-use Rattle.wire.proofs.Laying.{laid-tail, laid-within, tail-inside}
+use Rattle.wire.proofs.Laying.{laid-tail, laid-within}
 use Rattle.commands.specs.Promises.{answerMost}
 use Rattle.commands.proofs.Answers.{laid-reply}
 use Rattle.commands.proofs.Elements.{tail-spare}
-use Rattle.commands.proofs.FieldLoops.{answers-begin, answers-spare, answers-room, answers-header}
+use Rattle.commands.proofs.FieldLoops.{header-room, header-inside, answers-begin, answers-spare, answers-room}
 use Rattle.commands.proofs.KeyDone.{does-many}
 use borrow.Author.Needs.{needs}
 use Rattle.commands.proofs.key.get_many.Statement.{statement}
 use Rattle.commands.proofs.key.get_many.Tie as tie
 
-sweep-fields-requires : tie.Need-sweep-fields-requires
-sweep-fields-requires c κs = search needs
-
 put-header-requires : tie.Need-put-header-requires
 put-header-requires c κs =
     let start = c .before .before .before .before .before .before .before .before .before in
-    let a = start .args in
-    answers-header (a .time) _ (now (a .key)) (a .question) (now (a .command)) (now (a .fields)) (c .before .before .before .sweep-fields .ensures .well) (start .pre .few) (start .pre .room)
+    header-room (omega (arith, start .pre .few)) (start .pre .room)
 
 sub-put-answers : tie.Need-sub-put-answers
 sub-put-answers c =
     let start = c .before .before .before .before .before .before .before .before .before .before .before .before .before in
-    let a = start .args in
-    tail-inside _ (c .before .before .before .put-header .ensures) (answers-room (a .time) _ (now (a .key)) (a .question) (now (a .command)) (now (a .fields)) (c .before .before .before .before .before .before .before .sweep-fields .ensures .well) (start .pre .few) (start .pre .room))
+    header-inside (omega (arith, start .pre .few)) (start .pre .room) (c .before .before .before .put-header .ensures)
 
 part-put-answers-start : tie.Need-part-put-answers-start
 part-put-answers-start c =
     let start = c .before .before .before .before .before .before .before .before .before .before .before .before .before in
-    let a = start .args in
-    tail-inside _ (c .before .before .before .put-header .ensures) (answers-room (a .time) _ (now (a .key)) (a .question) (now (a .command)) (now (a .fields)) (c .before .before .before .before .before .before .before .sweep-fields .ensures .well) (start .pre .few) (start .pre .room))
-
-part-put-answers-end : tie.Need-part-put-answers-end
-part-put-answers-end c = search needs
+    header-inside (omega (arith, start .pre .few)) (start .pre .room) (c .before .before .before .put-header .ensures)
 
 put-answers-requires : tie.Need-put-answers-requires
 put-answers-requires c κs =
@@ -48,12 +39,6 @@ add-result c =
     let a = start .args in
     omega (arith, laid-within (laid-tail (c .before .before .before .before .before .before .before .put-header .ensures) (c .before .before .put-answers .ensures)) (answers-room (a .time) _ (now (a .key)) (a .question) (now (a .command)) (now (a .fields)) (c .before .before .before .before .before .before .before .before .before .before .before .sweep-fields .ensures .well) (start .pre .few) (start .pre .room)))
 
-same-length : tie.Need-same-length
-same-length c = search needs
-
-same-length-2 : tie.Need-same-length-2
-same-length-2 c = search needs
-
 returns : tie.Need-returns
 returns c = does-many _ _ _ _ _ (c .before .before .before .before .before .before .before .before .before .before .before .sweep-fields .ensures) (laid-reply (sym (answers-begin _ _ _)) (laid-tail (c .before .before .before .before .before .before .before .put-header .ensures) (c .before .before .put-answers .ensures)))
 
@@ -61,13 +46,13 @@ pub get-many-spec : {M : Type 1} → statement M
 get-many-spec =
     tie.close
     (tie.spec
-    sweep-fields-requires
+    (λ c κs. search needs)
     put-header-requires
     sub-put-answers
     part-put-answers-start
-    part-put-answers-end
+    (λ c. search needs)
     put-answers-requires
     add-result
-    same-length
-    same-length-2
+    (λ c. search needs)
+    (λ c. search needs)
     returns)

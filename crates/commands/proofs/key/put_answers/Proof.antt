@@ -24,17 +24,11 @@ loop-holds : tie.Need-loop-holds Inv-loop μ-loop
 unfolding wordsFrom answersFrom
 loop-holds c = going-begins (laid-none _) refl (omega (arith, c .before .before .before .before .pre .2))
 
-word-requires : tie.Need-word-requires Inv-loop μ-loop
-word-requires c κs = c .before .before .before .before .before .before .pre .0
-
 sub-put-field : tie.Need-sub-put-field Inv-loop μ-loop
 sub-put-field c = going-start (c .before .before .loop .inv)
 
 part-put-field-start : tie.Need-part-put-field-start Inv-loop μ-loop
 part-put-field-start c = going-start (c .before .before .loop .inv)
-
-part-put-field-end : tie.Need-part-put-field-end Inv-loop μ-loop
-part-put-field-end c = search needs
 
 put-field-requires : tie.Need-put-field-requires Inv-loop μ-loop
 put-field-requires c κs =
@@ -43,12 +37,6 @@ put-field-requires c κs =
 
 add-at : tie.Need-add-at Inv-loop μ-loop
 add-at c = omega (arith, going-within (c .before .before .before .before .before .before .loop .inv) (answers-next _ _ _ _ (c .before .before .before .before .before .loop-test .taken) (c .before .before .before .before .word .ensures)) (c .before .before .put-field .ensures))
-
-add-i : tie.Need-add-i Inv-loop μ-loop
-add-i c = search needs
-
-loop-less : tie.Need-loop-less Inv-loop μ-loop
-loop-less c = omega arith
 
 loop-again : tie.Need-loop-again Inv-loop μ-loop
 loop-again c = going-on (c .before .before .before .before .before .before .loop .inv) (answers-next _ _ _ _ (c .before .before .before .before .before .loop-test .taken) (c .before .before .before .before .word .ensures)) (c .before .before .put-field .ensures)
@@ -66,14 +54,14 @@ put-answers-spec =
     Inv-loop
     μ-loop
     loop-holds
-    word-requires
+    (λ c κs. c .before .before .before .before .before .before .pre .0)
     sub-put-field
     part-put-field-start
-    part-put-field-end
+    (λ c. search needs)
     put-field-requires
     add-at
-    add-i
-    loop-less
+    (λ c. search needs)
+    (λ c. omega arith)
     loop-again
     same-length
     returns)

@@ -20,21 +20,9 @@ Inv-loop bytes listing key time out₀ count at₀ from₀ out at from =
 abbrev μ-loop : tie.MeasureT-loop
 μ-loop bytes listing key time out₀ count at₀ from₀ out at from = count - from
 
-slots-requires : tie.Need-slots-requires Inv-loop μ-loop
-slots-requires c κs = search needs
-
 loop-holds : tie.Need-loop-holds Inv-loop μ-loop
 unfolding shownFrom listedOf
 loop-holds c = (going-begins (laid-none _) refl (c .before .before .before .before .pre .1), c .slots .ensures)
-
-next-live-requires : tie.Need-next-live-requires Inv-loop μ-loop
-next-live-requires c κs = c .before .before .before .before .before .before .pre .0
-
-enum-known-found : tie.Need-enum-known-found Inv-loop μ-loop
-enum-known-found c = search needs
-
-enum-told : tie.Need-enum-told Inv-loop μ-loop
-enum-told c = search needs
 
 same-length : tie.Need-same-length Inv-loop μ-loop
 same-length c = going-length (c .before .before .before .before .loop .inv .0)
@@ -47,9 +35,6 @@ sub-put-entry c = going-start (c .before .before .before .before .before .loop .
 
 part-put-entry-start : tie.Need-part-put-entry-start Inv-loop μ-loop
 part-put-entry-start c = going-start (c .before .before .before .before .before .loop .inv .0)
-
-part-put-entry-end : tie.Need-part-put-entry-end Inv-loop μ-loop
-part-put-entry-end c = search needs
 
 put-entry-requires : tie.Need-put-entry-requires Inv-loop μ-loop
 put-entry-requires c κs =
@@ -89,16 +74,16 @@ put-listed-spec =
     (tie.spec
     Inv-loop
     μ-loop
-    slots-requires
+    (λ c κs. search needs)
     loop-holds
-    next-live-requires
-    enum-known-found
-    enum-told
+    (λ c κs. c .before .before .before .before .before .before .pre .0)
+    (λ c. search needs)
+    (λ c. search needs)
     same-length
     returns
     sub-put-entry
     part-put-entry-start
-    part-put-entry-end
+    (λ c. search needs)
     put-entry-requires
     add-at
     add-from

@@ -20,26 +20,11 @@ loop-holds : tie.Need-loop-holds Inv-loop μ-loop
 unfolding wordsFrom
 loop-holds c = (deleting-begins (c .before .before .before .pre .1), refl)
 
-word-requires : tie.Need-word-requires Inv-loop μ-loop
-word-requires c κs = c .before .before .before .before .before .before .pre .0
-
-remove-field-requires : tie.Need-remove-field-requires Inv-loop μ-loop
-remove-field-requires c κs = c .before .before .before .loop .inv .0 .well
-
 add-n : tie.Need-add-n Inv-loop μ-loop
 add-n c = omega (arith, deleting-few (deleting-on (c .before .before .before .before .before .before .loop .inv .0) (next-word _ _ _ (c .before .before .before .before .before .loop-test .taken) (c .before .before .before .word .ensures)) (c .before .before .remove-field .ensures)) (c .before .before .before .before .before .before .before .before .before .before .pre .1))
 
-add-i : tie.Need-add-i Inv-loop μ-loop
-add-i c = search needs
-
-loop-less : tie.Need-loop-less Inv-loop μ-loop
-loop-less c = omega arith
-
 loop-again : tie.Need-loop-again Inv-loop μ-loop
 loop-again c = (deleting-on (c .before .before .before .before .before .before .loop .inv .0) (next-word _ _ _ (c .before .before .before .before .before .loop-test .taken) (c .before .before .before .word .ensures)) (c .before .before .remove-field .ensures), search needs)
-
-same-length : tie.Need-same-length Inv-loop μ-loop
-same-length c = c .before .loop .inv .1
 
 returns : tie.Need-returns Inv-loop μ-loop
 returns c = deleting-ends (c .before .loop .inv .0) (no-word _ _ _ (c .loop-test .left))
@@ -51,11 +36,11 @@ remove-fields-spec =
     Inv-loop
     μ-loop
     loop-holds
-    word-requires
-    remove-field-requires
+    (λ c κs. c .before .before .before .before .before .before .pre .0)
+    (λ c κs. c .before .before .before .loop .inv .0 .well)
     add-n
-    add-i
-    loop-less
+    (λ c. search needs)
+    (λ c. omega arith)
     loop-again
-    same-length
+    (λ c. c .before .loop .inv .1)
     returns)

@@ -20,23 +20,8 @@ loop-holds : tie.Need-loop-holds Inv-loop μ-loop
 unfolding wordsFrom
 loop-holds c = (record { well = c .before .before .before .pre .1; same = refl }, refl)
 
-word-requires : tie.Need-word-requires Inv-loop μ-loop
-word-requires c κs = c .before .before .before .before .before .before .pre .0
-
-look-requires : tie.Need-look-requires Inv-loop μ-loop
-look-requires c κs = c .before .before .before .loop .inv .0 .well
-
-add-i : tie.Need-add-i Inv-loop μ-loop
-add-i c = search needs
-
-loop-less : tie.Need-loop-less Inv-loop μ-loop
-loop-less c = omega arith
-
 loop-again : tie.Need-loop-again Inv-loop μ-loop
 loop-again c = (sweeping-on (c .before .before .before .before .before .before .loop .inv .0) (next-word _ _ _ (c .before .before .before .before .before .loop-test .taken) (c .before .before .before .word .ensures)) (c .before .before .look .ensures .0), search needs)
-
-same-length : tie.Need-same-length Inv-loop μ-loop
-same-length c = c .before .loop .inv .1
 
 returns : tie.Need-returns Inv-loop μ-loop
 returns c = sweeping-ends (c .before .loop .inv .0) (no-word _ _ _ (c .loop-test .left))
@@ -48,10 +33,10 @@ sweep-fields-spec =
     Inv-loop
     μ-loop
     loop-holds
-    word-requires
-    look-requires
-    add-i
-    loop-less
+    (λ c κs. c .before .before .before .before .before .before .pre .0)
+    (λ c κs. c .before .before .before .loop .inv .0 .well)
+    (λ c. search needs)
+    (λ c. omega arith)
     loop-again
-    same-length
+    (λ c. c .before .loop .inv .1)
     returns)

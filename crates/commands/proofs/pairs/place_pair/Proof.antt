@@ -8,9 +8,6 @@ use borrow.Author.Needs.{needs}
 use Rattle.commands.proofs.pairs.place_pair.Statement.{statement}
 use Rattle.commands.proofs.pairs.place_pair.Tie as tie
 
-named-requires : tie.Need-named-requires
-named-requires c κs = search needs
-
 held-version-requires : tie.Need-held-version-requires
 held-version-requires c κs = sought-held (record { well = c .before .before .before .before .before .before .before .pre .well; looked = c .before .named .ensures })
 
@@ -24,8 +21,7 @@ unfolding instantOf
 place-requires c κs =
     let start = c .before .before .before .before .before .before .before .before .before in
     let named = c .before .before .before .named in
-    let a = start .args in
-    (
+    let a = start .args in (
       named .ensures,
       start .pre .well,
       record {
@@ -38,13 +34,16 @@ place-requires c κs =
       },
     )
 
-same-length : tie.Need-same-length
-same-length c = search needs
-
 returns : tie.Need-returns
 returns c = placed-pair _ _ _ _ _ (version-sought (record { well = c .before .before .before .before .before .before .before .before .before .before .before .before .pre .well; looked = c .before .before .before .before .before .before .named .ensures }) (c .before .before .before .before .held-version .ensures)) (c .before .before .place .ensures)
 
 pub place-pair-spec : {M : Type 1} → statement M
 place-pair-spec =
     tie.close
-    (tie.spec named-requires held-version-requires add-version place-requires same-length returns)
+    (tie.spec
+    (λ c κs. search needs)
+    held-version-requires
+    add-version
+    place-requires
+    (λ c. search needs)
+    returns)

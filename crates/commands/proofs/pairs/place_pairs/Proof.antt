@@ -23,34 +23,13 @@ loop-holds : tie.Need-loop-holds Inv-loop μ-loop
 unfolding wordsFrom pairsFrom
 loop-holds c = (record { placing = c .before .before .before .pre .1; same = refl }, omega arith, refl)
 
-add-loop : tie.Need-add-loop Inv-loop μ-loop
-add-loop c = omega (arith, c .loop .inv .1)
-
-word-requires : tie.Need-word-requires Inv-loop μ-loop
-word-requires c κs = c .before .before .before .before .before .pre .0
-
-add-word : tie.Need-add-word Inv-loop μ-loop
-add-word c = omega (arith, c .before .before .loop .inv .1)
-
-word-requires-2 : tie.Need-word-requires-2 Inv-loop μ-loop
-word-requires-2 c κs = c .before .before .before .before .before .before .pre .0
-
 place-pair-requires : tie.Need-place-pair-requires Inv-loop μ-loop
 place-pair-requires c κs = writing-next (c .before .before .before .before .loop .inv .0) (next-pair _ _ _ (c .before .before .before .loop-test .taken) (c .before .before .word .ensures) (c .before .word2 .ensures))
-
-add-i : tie.Need-add-i Inv-loop μ-loop
-add-i c = omega (arith, c .before .before .before .before .before .before .before .loop .inv .1)
-
-loop-less : tie.Need-loop-less Inv-loop μ-loop
-loop-less c = omega arith
 
 loop-again : tie.Need-loop-again Inv-loop μ-loop
 loop-again c =
     let loop-test = c .before .before .before .before .before .before .loop-test in
     (writing-on (c .before .before .before .before .before .before .before .loop .inv .0) (next-pair _ _ _ (loop-test .taken) (c .before .before .before .before .before .word .ensures) (c .before .before .before .before .word2 .ensures)) (c .before .before .place-pair .ensures), omega (arith, loop-test .taken, c .before .before .before .before .before .before .before .before .before .before .before .pre .0 .most), search needs)
-
-same-length : tie.Need-same-length Inv-loop μ-loop
-same-length c = c .before .loop .inv .2
 
 returns : tie.Need-returns Inv-loop μ-loop
 returns c = writing-ends (c .before .loop .inv .0) (no-pair _ _ _ (c .loop-test .left))
@@ -62,13 +41,13 @@ place-pairs-spec =
     Inv-loop
     μ-loop
     loop-holds
-    add-loop
-    word-requires
-    add-word
-    word-requires-2
+    (λ c. omega (arith, c .loop .inv .1))
+    (λ c κs. c .before .before .before .before .before .pre .0)
+    (λ c. omega (arith, c .before .before .loop .inv .1))
+    (λ c κs. c .before .before .before .before .before .before .pre .0)
     place-pair-requires
-    add-i
-    loop-less
+    (λ c. omega (arith, c .before .before .before .before .before .before .before .loop .inv .1))
+    (λ c. omega arith)
     loop-again
-    same-length
+    (λ c. c .before .loop .inv .2)
     returns)

@@ -9,7 +9,6 @@ use Rattle.wire.specs.Words.{wordsMost, wordAt}
 use Rattle.wire.specs.Promises.{wordsIn}
 use Rattle.commands.proofs.FieldLoops.{wordsFrom}
 use Rattle.commands.proofs.PairLoops.{namedFrom, next-named, none-named, few-named, Repeating, repeating-few, repeating-hit, repeating-skip, repeating-ends}
-use borrow.Author.Needs.{needs}
 use Rattle.commands.proofs.pairs.repeats.Statement.{statement}
 use Rattle.commands.proofs.pairs.repeats.Tie as tie
 
@@ -19,9 +18,6 @@ Inv-loop command pairs i field n₀ j₀ n j =
 
 abbrev μ-loop : tie.MeasureT-loop
 μ-loop command pairs i field n₀ j₀ n j = length pairs - j
-
-word-requires : tie.Need-word-requires Inv-loop μ-loop
-word-requires c κs = c .before .pre .0
 
 add-j : tie.Need-add-j Inv-loop μ-loop
 add-j c =
@@ -33,26 +29,11 @@ loop-holds c =
     let start = c .before .before in
     (record { sum = omega arith }, omega (arith, start .pre .1, start .pre .0 .most), c .word .ensures)
 
-add-loop : tie.Need-add-loop Inv-loop μ-loop
-add-loop c = omega (arith, c .loop .inv .1)
-
-word-requires-2 : tie.Need-word-requires-2 Inv-loop μ-loop
-word-requires-2 c κs = c .before .before .before .before .pre .0
-
-equal-requires : tie.Need-equal-requires Inv-loop μ-loop
-equal-requires c κs = tt
-
 add-n : tie.Need-add-n Inv-loop μ-loop
 add-n c =
     let start = c .before .before .before .before .before .before .before in
     let a = start .args in
     omega (arith, repeating-few (c .before .before .before .before .loop .inv .0), few-named (now (a .command)) (now (a .pairs)) (a .i + 2) (start .pre .0))
-
-add-j-2 : tie.Need-add-j-2 Inv-loop μ-loop
-add-j-2 c = omega (arith, c .before .before .before .before .loop .inv .1)
-
-loop-less : tie.Need-loop-less Inv-loop μ-loop
-loop-less c = omega arith
 
 loop-again : tie.Need-loop-again Inv-loop μ-loop
 loop-again c =
@@ -76,14 +57,14 @@ repeats-spec =
     (tie.spec
     Inv-loop
     μ-loop
-    word-requires
+    (λ c κs. c .before .pre .0)
     add-j
     loop-holds
-    add-loop
-    word-requires-2
-    equal-requires
+    (λ c. omega (arith, c .loop .inv .1))
+    (λ c κs. c .before .before .before .before .pre .0)
+    (λ c κs. tt)
     add-n
-    add-j-2
-    loop-less
+    (λ c. omega (arith, c .before .before .before .before .loop .inv .1))
+    (λ c. omega arith)
     loop-again
     returns)

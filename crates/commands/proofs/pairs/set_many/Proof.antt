@@ -14,26 +14,8 @@ use borrow.Author.Needs.{needs}
 use Rattle.commands.proofs.pairs.set_many.Statement.{statement}
 use Rattle.commands.proofs.pairs.set_many.Tie as tie
 
-sweep-pairs-requires : tie.Need-sweep-pairs-requires
-sweep-pairs-requires c κs = search needs
-
-survey-pairs-requires : tie.Need-survey-pairs-requires
-survey-pairs-requires c κs = search needs
-
-enum-known-survey : tie.Need-enum-known-survey
-enum-known-survey c = search needs
-
-enum-told : tie.Need-enum-told
-enum-told c = search needs
-
 put-error-requires : tie.Need-put-error-requires
 put-error-requires c κs = may-refuse 23 (known-late .3) (omega (arith, c .before .before .before .before .before .before .before .before .before .before .before .before .before .pre .0 .room))
-
-same-length : tie.Need-same-length
-same-length c = search needs
-
-same-length-2 : tie.Need-same-length-2
-same-length-2 c = search needs
 
 returns : tie.Need-returns
 returns c =
@@ -42,17 +24,8 @@ returns c =
     let few : length ws ≤ wordsMost = rw length-words (start .pre .0 .inside .most) in
     many-over _ _ ws _ (c .before .before .before .before .before .before .before .before .before .before .sweep-pairs .ensures) few (c .before .before .before .before .before .before .survey-pairs .ensures) (c .before .before .before .before .enum-told .given .1) (c .before .before .put-error .ensures)
 
-room-requires : tie.Need-room-requires
-room-requires c κs = search needs
-
 put-error-requires-2 : tie.Need-put-error-requires-2
 put-error-requires-2 c κs = may-refuse 24 (known-late .4) (omega (arith, c .before .before .before .before .before .before .before .before .before .before .before .before .before .before .before .before .before .pre .0 .room))
-
-same-length-3 : tie.Need-same-length-3
-same-length-3 c = search needs
-
-same-length-4 : tie.Need-same-length-4
-same-length-4 c = search needs
 
 returns-2 : tie.Need-returns-2
 unfolding room
@@ -69,18 +42,6 @@ place-pairs-requires c κs =
     let few : length ws ≤ wordsMost = rw length-words (start .pre .0 .inside .most) in
     (start .pre .0 .inside, many-placing _ _ ws _ (c .before .before .before .before .before .before .before .before .before .before .before .sweep-pairs .ensures) few (c .before .before .before .before .before .before .before .survey-pairs .ensures) (c .before .before .before .before .before .survey .given .1) (start .pre .1))
 
-slice-aggregate-put-line : tie.Need-slice-aggregate-put-line
-slice-aggregate-put-line c = search needs
-
-put-line-requires : tie.Need-put-line-requires
-put-line-requires c κs = search needs
-
-same-length-5 : tie.Need-same-length-5
-same-length-5 c = search needs
-
-same-length-6 : tie.Need-same-length-6
-same-length-6 c = search needs
-
 returns-3 : tie.Need-returns-3
 unfolding room line text
 returns-3 c =
@@ -93,22 +54,22 @@ pub set-many-spec : {M : Type 1} → statement M
 set-many-spec =
     tie.close
     (tie.spec
-    sweep-pairs-requires
-    survey-pairs-requires
-    enum-known-survey
-    enum-told
+    (λ c κs. search needs)
+    (λ c κs. search needs)
+    (λ c. search needs)
+    (λ c. search needs)
     put-error-requires
-    same-length
-    same-length-2
+    (λ c. search needs)
+    (λ c. search needs)
     returns
-    room-requires
+    (λ c κs. search needs)
     put-error-requires-2
-    same-length-3
-    same-length-4
+    (λ c. search needs)
+    (λ c. search needs)
     returns-2
     place-pairs-requires
-    slice-aggregate-put-line
-    put-line-requires
-    same-length-5
-    same-length-6
+    (λ c. search needs)
+    (λ c κs. search needs)
+    (λ c. search needs)
+    (λ c. search needs)
     returns-3)

@@ -11,7 +11,6 @@ use Rattle.commands.specs.Promises.{fieldsIn}
 use Rattle.commands.proofs.FieldDeeds.{sought-held, held-at-most}
 use Rattle.commands.proofs.FieldLoops.{wordsFrom}
 use Rattle.commands.proofs.PairLoops.{namedFrom, next-named, none-named, few-fields, again-is, again-few, version-sought, Surveying, surveying-few, surveying-ends, surveying-over, surveying-on}
-use borrow.Author.Needs.{needs}
 use Rattle.commands.proofs.pairs.survey_pairs.Statement.{statement}
 use Rattle.commands.proofs.pairs.survey_pairs.Tie as tie
 
@@ -25,15 +24,6 @@ abbrev μ-loop : tie.MeasureT-loop
 loop-holds : tie.Need-loop-holds Inv-loop μ-loop
 unfolding wordsFrom namedFrom
 loop-holds c = (record { sum = omega arith; same = refl }, omega arith)
-
-add-loop : tie.Need-add-loop Inv-loop μ-loop
-add-loop c = omega (arith, c .loop .inv .1)
-
-word-requires : tie.Need-word-requires Inv-loop μ-loop
-word-requires c κs = c .before .before .before .before .before .pre .0
-
-named-requires : tie.Need-named-requires Inv-loop μ-loop
-named-requires c κs = c .before .before .before .before .before .before .pre .1
 
 repeats-requires : tie.Need-repeats-requires Inv-loop μ-loop
 repeats-requires c κs = (c .before .before .before .before .before .before .before .pre .0, c .before .before .loop-test .taken)
@@ -57,9 +47,6 @@ returns c =
     let again = again-is _ _ _ (word .ensures) (c .before .before .repeats .ensures) in
     surveying-over (c .before .before .before .before .before .before .loop .inv .0) next held again (c .if1 .taken)
 
-new-field-requires : tie.Need-new-field-requires Inv-loop μ-loop
-new-field-requires c κs = tt
-
 add-n : tie.Need-add-n Inv-loop μ-loop
 add-n c =
     let start = c .before .before .before .before .before .before .before .before .before .before .before in
@@ -69,12 +56,6 @@ add-n c =
     let held = version-sought (record { well = start .pre .1; looked = named .ensures }) (c .before .before .held-version .ensures) in
     let again = again-is _ _ _ (word .ensures) (c .before .before .before .repeats .ensures) in
     omega (arith, surveying-few (surveying-on (c .before .before .before .before .before .before .before .loop .inv .0) next held again (c .before .if1 .left) (named .ensures) (c .new-field .ensures)), few-fields (now (start .args .command)) (now (start .args .pairs)) (start .pre .0))
-
-add-i : tie.Need-add-i Inv-loop μ-loop
-add-i c = omega (arith, c .before .before .before .before .before .before .before .loop .inv .1)
-
-loop-less : tie.Need-loop-less Inv-loop μ-loop
-loop-less c = omega arith
 
 loop-again : tie.Need-loop-again Inv-loop μ-loop
 loop-again c =
@@ -97,17 +78,17 @@ survey-pairs-spec =
     Inv-loop
     μ-loop
     loop-holds
-    add-loop
-    word-requires
-    named-requires
+    (λ c. omega (arith, c .loop .inv .1))
+    (λ c κs. c .before .before .before .before .before .pre .0)
+    (λ c κs. c .before .before .before .before .before .before .pre .1)
     repeats-requires
     held-version-requires
     add-if1
     add-if1-2
     returns
-    new-field-requires
+    (λ c κs. tt)
     add-n
-    add-i
-    loop-less
+    (λ c. omega (arith, c .before .before .before .before .before .before .before .loop .inv .1))
+    (λ c. omega arith)
     loop-again
     returns-2)

@@ -23,28 +23,10 @@ loop-holds : tie.Need-loop-holds Inv-loop μ-loop
 unfolding wordsFrom namedFrom
 loop-holds c = (record { well = c .before .before .before .pre .1; same = refl }, omega arith, refl)
 
-add-loop : tie.Need-add-loop Inv-loop μ-loop
-add-loop c = omega (arith, c .loop .inv .1)
-
-word-requires : tie.Need-word-requires Inv-loop μ-loop
-word-requires c κs = c .before .before .before .before .before .before .pre .0
-
-look-requires : tie.Need-look-requires Inv-loop μ-loop
-look-requires c κs = c .before .before .before .loop .inv .0 .well
-
-add-i : tie.Need-add-i Inv-loop μ-loop
-add-i c = omega (arith, c .before .before .before .before .before .before .loop .inv .1)
-
-loop-less : tie.Need-loop-less Inv-loop μ-loop
-loop-less c = omega arith
-
 loop-again : tie.Need-loop-again Inv-loop μ-loop
 loop-again c =
     let loop-test = c .before .before .before .before .before .loop-test in
     (sweeping-on (c .before .before .before .before .before .before .loop .inv .0) (next-named _ _ _ (loop-test .taken) (c .before .before .before .word .ensures)) (c .before .before .look .ensures .0), omega (arith, loop-test .taken, c .before .before .before .before .before .before .before .before .before .before .pre .0 .most), search needs)
-
-same-length : tie.Need-same-length Inv-loop μ-loop
-same-length c = c .before .loop .inv .2
 
 returns : tie.Need-returns Inv-loop μ-loop
 returns c = sweeping-ends (c .before .loop .inv .0) (none-named _ _ _ (c .loop-test .left))
@@ -56,11 +38,11 @@ sweep-pairs-spec =
     Inv-loop
     μ-loop
     loop-holds
-    add-loop
-    word-requires
-    look-requires
-    add-i
-    loop-less
+    (λ c. omega (arith, c .loop .inv .1))
+    (λ c κs. c .before .before .before .before .before .before .pre .0)
+    (λ c κs. c .before .before .before .loop .inv .0 .well)
+    (λ c. omega (arith, c .before .before .before .before .before .before .loop .inv .1))
+    (λ c. omega arith)
     loop-again
-    same-length
+    (λ c. c .before .loop .inv .2)
     returns)
