@@ -8,7 +8,11 @@ use lib.ListN.{length, take, drop, length-append, length-take, length-drop}
 use Rattle.wire.specs.Promises.{Laid}
 use Rattle.wire.proofs.Laying.{laid-tail, laid-within, laid-length, tail-room}
 
--- y is laid of a total, and rest is left
+-- of what is left, y comes next
+pub record Next (rest y more : List ℕ) : Type 0 where
+  pub parts : rest ≡ y ++ more
+
+-- a part of a total is laid, and rest is left
 pub record Going (total rest before after : List ℕ) (at : ℕ) : Type 0 where
   pub done : List ℕ
   pub laid : Laid done before after at
@@ -19,26 +23,25 @@ pub going-begins : {h rest total d e : List ℕ} {at : ℕ} → Laid h d e at �
 going-begins {h} l q r = record { done = h; laid = l; left = q; room = r }
 
 module _ {total rest d e : List ℕ} {at : ℕ} (g : Going total rest d e at) where
-  whole : (y more : List ℕ) → rest ≡ y ++ more → (g .done ++ y) ++ more ≡ total
-  whole y more q = append-assoc (g .done) y more ∙ ap (λ z. g .done ++ z) (sym q) ∙ g .left
+  module _ {y more : List ℕ} (n : Next rest y more) where
+    whole : (g .done ++ y) ++ more ≡ total
+    whole = append-assoc (g .done) y more ∙ ap (λ z. g .done ++ z) (sym (n .parts)) ∙ g .left
 
-  enough : (y more : List ℕ) → rest ≡ y ++ more → length (g .done ++ y) ≤ length d
-  enough y more q = omega (arith, length-append (g .done ++ y) more, ap length (whole y more q), g .room)
+    enough : length (g .done ++ y) ≤ length d
+    enough = omega (arith, length-append (g .done ++ y) more, ap length whole, g .room)
 
-  -- the next element has room in the tail
-  pub going-room : (y more : List ℕ) → rest ≡ y ++ more → length y ≤ length (take (length e - at) (drop at e))
-  going-room y more q = tail-room y (g .laid) (enough y more q)
+    -- the next element has room in the tail
+    pub going-room : length y ≤ length (take (length e - at) (drop at e))
+    going-room = tail-room y (g .laid) enough
 
-  -- it is laid there
-  pub going-on : {y u : List ℕ} {r : ℕ} (more : List ℕ) → rest ≡ y ++ more → Laid y (take (length e - at) (drop at e)) u r
-      → Going total more d (putMid at (length e - at) e u) (r + at)
-  going-on {y} more q l =
-      record { done = g .done ++ y; laid = laid-tail (g .laid) l; left = whole y more q; room = g .room }
+    module _ {u : List ℕ} {r : ℕ} (l : Laid y (take (length e - at) (drop at e)) u r) where
+      -- it is laid there
+      pub going-on : Going total more d (putMid at (length e - at) e u) (r + at)
+      going-on = record { done = g .done ++ y; laid = laid-tail (g .laid) l; left = whole; room = g .room }
 
-  -- and ends within the buffer
-  pub going-within : {y u : List ℕ} {r : ℕ} (more : List ℕ) → rest ≡ y ++ more → Laid y (take (length e - at) (drop at e)) u r
-      → r + at ≤ length d
-  going-within {y} more q l = laid-within (laid-tail (g .laid) l) (enough y more q)
+      -- and ends within the buffer
+      pub going-within : r + at ≤ length d
+      going-within = laid-within (laid-tail (g .laid) l) enough
 
   -- nothing is left
   pub going-ends : rest ≡ [] → Laid total d e at
@@ -60,7 +63,8 @@ module _ {total rest d e : List ℕ} {at : ℕ} (g : Going total rest d e at) wh
   going-spare n h = rw (length-take, length-drop) (omega (arith, going-at, going-length))
 
 -- Where a buffer has room for x and y and k bytes more, the part after x has room for y and k more.
-pub tail-spare : {x d e : List ℕ} {a : ℕ} (k : ℕ) (y : List ℕ) → Laid x d e a → k + length (x ++ y) ≤ length d → k + length y ≤ length (take (length e - a) (drop a e))
+pub tail-spare : {x d e : List ℕ} {a : ℕ} (k : ℕ) (y : List ℕ) → Laid x d e a → k + length (x ++ y) ≤ length d
+    → k + length y ≤ length (take (length e - a) (drop a e))
 tail-spare {x} k y l h =
     let n : length (x ++ y) ≡ length x + length y = length-append x y in
     rw (length-take, length-drop) (omega (arith, l .size, laid-length l (omega arith)))

@@ -1,16 +1,21 @@
--- Loops over the fields that the words of a command name, from word 2 on: what is left does the same.
+-- Loops over the fields that the words of a command name: what is left does the same.
 use mathlib.Core.Path.{_≡_, refl, sym, ap, _∙_}
 use mathlib.Core.Bool.{true}
-use mathlib.Core.List.{List, [], _∷_, _++_, map, flatten, flatMap}
-use Prim.Native.Nat.{ℕ, _+_, _-_, _*_, _≤_, _<_}
+use mathlib.Core.List.{List, [], _∷_, _++_, map, flatten}
+use Prim.Native.Nat.{ℕ, zero, suc, _+_, _-_, _*_, _≤_, _<_}
 use native.Mathlib.Numerals.{add-one}
 use native.Mathlib.Omega.{arith}
-use lib.ListN.{length, drop, length-map, length-drop, drop-of-length-le}
-use lib.Seq.{drop-cons}
-use Rattle.wire.specs.Lists.{any, keep, orElse}
+use lib.ListN.{length, take, drop, length-map, length-drop, drop-of-length-le}
+use lib.Seq.{drop-cons, take-all, getD-drop}
+use Rattle.wire.specs.Lists.{keep, orElse}
 use Rattle.wire.specs.Words.{Word, wordAt}
 use Rattle.wire.specs.Reply.{header, array}
+use Rattle.wire.specs.Promises.{wordIn, wordsIn, Inside, Laid}
 use Rattle.wire.proofs.Lists.{length-keep}
+use Rattle.wire.proofs.Laying.{laid-length}
+use Rattle.wire.proofs.Reply.{length-header}
+use Rattle.wire.proofs.Cursor.{length-words}
+use Rattle.store.specs.Layout.{slotsMost}
 use Rattle.store.specs.Store.{Slot, Store, decode, wellFormed}
 use Rattle.store.specs.Time.{liveOfKey}
 use Rattle.store.specs.Promises.{Holds}
@@ -18,99 +23,142 @@ use Rattle.store.proofs.Encode.{decode-valid}
 use Rattle.commands.specs.declared.Question.{Question}
 use Rattle.commands.specs.declared.Listing.{Listing}
 use Rattle.commands.specs.declared.Listing.the-variants.{Fields, Values, Both}
+use Rattle.commands.specs.Refusal.{bufferLeast}
 use Rattle.commands.specs.Command.{fieldsOf}
 use Rattle.commands.specs.Command.Command.{getMany, list}
-use Rattle.commands.specs.Effect.{changeAll, listedSlot, effect}
+use Rattle.commands.specs.Effect.{changeAll, effect}
 use Rattle.commands.specs.Effect.Change.{remove}
-use Rattle.commands.specs.Promises.{withSwept, withoutDead, answerAbout, widthOf, Removes, Deletes}
+use Rattle.commands.specs.Execute.{swept}
+use Rattle.commands.specs.Promises.{answerMost, answerAbout, answersOf, fieldsMost, listedOf, widthOf, Removes, Deletes}
 use Rattle.commands.proofs.Fit.{effect-short}
-use Rattle.commands.proofs.Kept.{shown, shown-count}
-use Rattle.commands.proofs.Sweeps.{named, dead-more, dead-none, count-more}
+use Rattle.commands.proofs.Elements.{Next}
+use Rattle.commands.proofs.ListedSlots.{shown-count}
+use Rattle.commands.proofs.FieldSweeps.{named, keep-unnamed, dead-more, dead-none, count-more}
 
-module _ (ws : List Word) (i : ℕ) {count : ℕ} (n : length ws ≡ count) where
-  -- the next field
-  pub next-field : i < count → drop i ws ≡ wordAt i ws ∷ drop (i + 1) ws
-  unfolding wordAt
-  next-field l = drop-cons ws i [] (rw n l) ∙ rw add-one
+-- ---- the words of a part of the places
 
-  pub next-word : i < count → {f : Word} → f ≡ wordAt i ws → drop i ws ≡ f ∷ drop (i + 1) ws
-  next-word l q = next-field l ∙ rw q
+map-drop : {A B : Type 0} (f : A → B) (n : ℕ) (l : List A) → map f (drop n l) ≡ drop n (map f l)
+map-drop f zero l = refl
+map-drop f (suc n) [] = refl
+map-drop f (suc n) (x ∷ l) = map-drop f n l
 
-  pub no-field : count ≤ i → drop i ws ≡ []
-  no-field l = drop-of-length-le ws {i = i} (rw n l)
+-- the places from place n on, as the code lends them
+abbrev pub placesFrom : List (List ℕ) → ℕ → List (List ℕ)
+placesFrom places n = take (length places - n) (drop n places)
+
+module _ (places : List (List ℕ)) (n : ℕ) where
+  from-drop : placesFrom places n ≡ drop n places
+  from-drop = take-all (length places - n) (drop n places) (rw length-drop (omega arith))
+
+  pub from-length : length (placesFrom places n) ≡ length places - n
+  from-length = rw (from-drop, length-drop)
+
+module _ (s : List ℕ) (places : List (List ℕ)) (n : ℕ) where
+  pub from-words : wordsIn s (placesFrom places n) ≡ drop n (wordsIn s places)
+  unfolding wordsIn
+  from-words = rw (from-drop places n) (map-drop (wordIn s) n places)
+
+  pub from-inside : Inside s places → Inside s (placesFrom places n)
+  from-inside w =
+      rw (from-drop places n)
+      (record {
+        most = rw length-drop (omega (arith, w .most));
+        inside = λ i l. rw (getD-drop n places i []) (w .inside (n + i) (omega (arith, length-drop n places)));
+      })
+
+-- the words from place i on
+unfoldable pub wordsFrom : List ℕ → List (List ℕ) → ℕ → List Word
+wordsFrom s places i = drop i (wordsIn s places)
+
+module _ (s : List ℕ) (places : List (List ℕ)) (i : ℕ) where
+  pub next-word : i < length places → {f : Word} → f ≡ wordAt i (wordsIn s places) → wordsFrom s places i ≡ f ∷ wordsFrom s places (i + 1)
+  unfolding wordsFrom wordAt
+  next-word l q = drop-cons (wordsIn s places) i [] (rw (length-words s places) l) ∙ rw (q, add-one)
+
+  pub no-word : length places ≤ i → wordsFrom s places i ≡ []
+  unfolding wordsFrom
+  no-word l = drop-of-length-le (wordsIn s places) {i = i} (rw (length-words s places) l)
+
+  pub length-from : length (wordsFrom s places i) ≡ length places - i
+  unfolding wordsFrom
+  length-from = rw (length-drop, length-words)
 
 -- ---- the dead entries are removed
 
 -- of fields, some are left
 pub record Sweeping (now : ℕ) (k : Word) (fields left : List Word) (before after : List ℕ) : Type 0 where
   pub well : wellFormed after ≡ true
-  pub same : withoutDead now k left (decode after) ≡ withoutDead now k fields (decode before)
+  pub same : swept now k left (decode after) ≡ swept now k fields (decode before)
 
 module _ {now : ℕ} {k : Word} {fields left : List Word} {b d : List ℕ} (s : Sweeping now k fields left b d) where
-  pub sweeping-on : {f : Word} {more : List Word} → left ≡ f ∷ more → {e : List ℕ} → Holds e (withSwept now k f (decode d)) → Sweeping now k fields more b e
+  pub sweeping-on : {f : Word} {more : List Word} → left ≡ f ∷ more → {e : List ℕ} → Holds e (swept now k (f ∷ []) (decode d))
+      → Sweeping now k fields more b e
   sweeping-on {f} {more} q h =
       record {
         well = h .well;
         same =
-            ap (withoutDead now k more) (h .means)
+            ap (swept now k more) (h .means)
             ∙ sym (dead-more now k f more (decode d))
-            ∙ ap (λ (fs : List Word). withoutDead now k fs (decode d)) (sym q)
+            ∙ ap (λ (fs : List Word). swept now k fs (decode d)) (sym q)
             ∙ s .same;
       }
 
-  pub sweeping-ends : left ≡ [] → Holds d (withoutDead now k fields (decode b))
+  pub sweeping-ends : left ≡ [] → Holds d (swept now k fields (decode b))
   sweeping-ends q =
       record {
-        means = sym (dead-none now k (decode d)) ∙ ap (λ (fs : List Word). withoutDead now k fs (decode d)) (sym q) ∙ s .same;
+        means = sym (dead-none now k (decode d)) ∙ ap (λ (fs : List Word). swept now k fs (decode d)) (sym q) ∙ s .same;
         well = s .well;
       }
 
 -- ---- the entries are removed
 
-pub record Deleting (ws : List Word) (k : Word) (before after : List ℕ) (m i : ℕ) : Type 0 where
+-- of fields, some are left, and m entries are gone
+pub record Deleting (k : Word) (fields left : List Word) (before after : List ℕ) (m : ℕ) : Type 0 where
   pub well : wellFormed after ≡ true
   pub clock : decode after .clock ≡ decode before .clock
-  pub left : (now : ℕ) → changeAll now (map (remove k) (drop i ws)) (decode after .slots) ≡ changeAll now (map (remove k) (drop 2 ws)) (decode before .slots)
-  pub total : m + length (keep (named k (drop i ws)) (decode after .slots)) ≡ length (keep (named k (drop 2 ws)) (decode before .slots))
+  pub slots : (now : ℕ) → changeAll now (map (remove k) left) (decode after .slots) ≡ changeAll now (map (remove k) fields) (decode before .slots)
+  pub total : m + length (keep (named k left) (decode after .slots)) ≡ length (keep (named k fields) (decode before .slots))
 
--- at most 500 are removed
-pub deleting-few : {ws : List Word} {k : Word} {b d : List ℕ} {m i : ℕ} → Deleting ws k b d m i → wellFormed b ≡ true → m ≤ 500
-deleting-few {ws} {k} {b} s w = omega (arith, s .total, length-keep (named k (drop 2 ws)) (decode b .slots), decode-valid b w .most)
+pub deleting-begins : {k : Word} {fields : List Word} {b : List ℕ} → wellFormed b ≡ true → Deleting k fields fields b b 0
+deleting-begins w = record { well = w; clock = refl; slots = λ now. refl; total = omega arith }
 
-module _ {ws : List Word} {count : ℕ} {k : Word} {b d : List ℕ} {m i : ℕ} (n : length ws ≡ count) (s : Deleting ws k b d m i) where
-  pub deleting-on : i < count → {f : Word} → f ≡ wordAt i ws → {e : List ℕ} {r : ℕ} → Removes k f (decode d) e r → Deleting ws k b e (m + r) (i + 1)
+module _ {k : Word} {fields left : List Word} {b d : List ℕ} {m : ℕ} (s : Deleting k fields left b d m) where
+  -- at most as many as there are slots
+  pub deleting-few : wellFormed b ≡ true → m ≤ slotsMost
+  deleting-few w = omega (arith, s .total, length-keep (named k fields) (decode b .slots), decode-valid b w .most)
+
+  pub deleting-on : {f : Word} {more : List Word} → left ≡ f ∷ more → {e : List ℕ} {r : ℕ} → Removes k f (decode d) e r
+      → Deleting k fields more b e (m + r)
   unfolding changeAll
-  deleting-on l {f} q {e} {r} h =
-      let after : drop i ws ≡ f ∷ drop (i + 1) ws = next-word ws i n l q in
-      let slots : (now : ℕ) → decode e .slots ≡ _ = λ now. ap (λ (t : Store). t .slots) (h .store now .means) in
+  deleting-on {f} {more} q {e} h =
+      let after : (now : ℕ) → decode e .slots ≡ _ = λ now. ap (λ (t : Store). t .slots) (h .store now .means) in
       record {
         well = h .store 0 .well;
         clock = ap (λ (t : Store). t .clock) (h .store 0 .means) ∙ s .clock;
-        left = λ now.
-            ap (changeAll now (map (remove k) (drop (i + 1) ws))) (slots now)
-            ∙ ap (λ (fs : List Word). changeAll now (map (remove k) fs) (decode d .slots)) (sym after)
-            ∙ s .left now;
+        slots = λ now.
+            ap (changeAll now (map (remove k) more)) (after now)
+            ∙ ap (λ (fs : List Word). changeAll now (map (remove k) fs) (decode d .slots)) (sym q)
+            ∙ s .slots now;
         total =
             omega (
               arith,
               h .count,
-              ap (λ (ss : List Slot). length (keep (named k (drop (i + 1) ws)) ss)) (slots 0),
-              count-more k f (drop (i + 1) ws) 0 (decode d .slots),
-              ap (λ (fs : List Word). length (keep (named k fs) (decode d .slots))) after,
+              ap (λ (ss : List Slot). length (keep (named k more) ss)) (after 0),
+              count-more k f more 0 (decode d .slots),
+              ap (λ (fs : List Word). length (keep (named k fs) (decode d .slots))) q,
               s .total,
             );
       }
 
-  pub deleting-ends : count ≤ i → Deletes k (drop 2 ws) (decode b) d m
-  unfolding changeAll any keep
-  deleting-ends l =
-      let over : drop i ws ≡ [] = no-field ws i n l in
+  pub deleting-ends : left ≡ [] → Deletes k fields (decode b) d m
+  unfolding changeAll
+  deleting-ends q =
       record {
         store = λ now.
             record {
               means = λ j. record {
                 clock = s .clock j;
-                slots = (ap (λ (fs : List Word). changeAll now (map (remove k) fs) (decode d .slots)) (sym over) ∙ s .left now) j;
+                slots = (ap (λ (fs : List Word). changeAll now (map (remove k) fs) (decode d .slots)) (sym q) ∙ s .slots now) j;
               };
               well = s .well;
             };
@@ -118,71 +166,79 @@ module _ {ws : List Word} {count : ℕ} {k : Word} {b d : List ℕ} {m i : ℕ} 
             omega (
               arith,
               s .total,
-              ap (λ (fs : List Word). length (keep (named k fs) (decode d .slots))) over,
-              ap length (kept-none (decode d .slots)),
+              ap (λ (fs : List Word). length (keep (named k fs) (decode d .slots))) q,
+              ap length (keep-unnamed k (decode d .slots)),
             );
       }
-    where
-      kept-none : (ss : List Slot) → keep (named k []) ss ≡ []
-      kept-none [] = refl
-      kept-none (x ∷ ss) = kept-none ss
+
+-- ---- the header of an array
+
+module _ {n : ℕ} (few : n ≤ 1000) where
+  pub header-room : {m : ℕ} → bufferLeast ≤ m → length (header n) ≤ m
+  header-room big = omega (arith, length-header 4 n (omega arith) (omega arith))
+
+  -- what follows it begins within the buffer
+  pub header-inside : {d e : List ℕ} {a : ℕ} → bufferLeast ≤ length d → Laid (header n) d e a → a ≤ length e
+  header-inside big l = omega (arith, l .size, header-room big, laid-length l (header-room big))
 
 -- ---- an answer about each field
 
-abbrev pub answers : (Word → List ℕ) → List Word → List ℕ
-answers g fs = flatten (map g fs)
+-- the answers from place i on
+unfoldable pub answersFrom : (Word → List ℕ) → List ℕ → List (List ℕ) → ℕ → List ℕ
+answersFrom g s places i = flatten (map g (wordsFrom s places i))
 
-module _ (g : Word → List ℕ) (ws : List Word) {count : ℕ} (n : length ws ≡ count) where
+module _ (g : Word → List ℕ) (s : List ℕ) (places : List (List ℕ)) where
+  pub answers-next : (i : ℕ) → i < length places → {f : Word} → f ≡ wordAt i (wordsIn s places)
+      → Next (answersFrom g s places i) (g f) (answersFrom g s places (i + 1))
+  unfolding answersFrom flatten
+  answers-next i l q = record { parts = rw (next-word s places i l q) }
+
+  pub answers-over : (i : ℕ) → length places ≤ i → answersFrom g s places i ≡ []
+  unfolding answersFrom flatten
+  answers-over i l = rw (no-word s places i l)
+
   -- the header, and then the answers
-  pub answers-begin : header (count - 2) ++ answers g (drop 2 ws) ≡ array (map g (drop 2 ws))
+  pub answers-begin : header (length places) ++ flatten (map g (wordsIn s places)) ≡ array (map g (wordsIn s places))
   unfolding array
-  answers-begin = rw (length-map (drop 2 ws) g, length-drop 2 ws, n)
+  answers-begin = rw (length-map (wordsIn s places) g, length-words s places)
 
-  pub answers-next : (i : ℕ) → i < count → {f : Word} → f ≡ wordAt i ws → answers g (drop i ws) ≡ g f ++ answers g (drop (i + 1) ws)
-  unfolding flatten
-  answers-next i l q = rw (q, next-field ws i n l)
+-- have room, and then there is room for one answer more
+module _ (now : ℕ) (b : List ℕ) (k : Word) (q : Question) (s : List ℕ) (places : List (List ℕ))
+    (w : wellFormed b ≡ true) (few : length places ≤ fieldsMost) {n : ℕ} (big : bufferLeast ≤ n) where
+  pub answers-spare : answerMost + length (header (length places) ++ flatten (answersOf now b k q (wordsIn s places))) ≤ n
+  unfolding effect fieldsOf answerAbout
+  answers-spare =
+      rw (answers-begin (answerAbout now b k q) s places)
+      (omega (
+        arith,
+        effect-short now (getMany k (wordsIn s places) q) (decode b .slots) (decode-valid b w .fits) (decode-valid b w .most)
+            (rw (length-words s places) few) refl .short,
+      ))
 
-  pub answers-over : (i : ℕ) → count ≤ i → answers g (drop i ws) ≡ []
-  unfolding flatten
-  answers-over i l = rw (no-field ws i n l)
-
--- the whole array has room
-pub answers-short : (now : ℕ) (b : List ℕ) (k : Word) (q : Question) (ws : List Word) → wellFormed b ≡ true → length ws ≤ 64
-    → length (array (map (answerAbout now b k q) (drop 2 ws))) ≤ 55007
-unfolding effect fieldsOf answerAbout
-answers-short now b k q ws w n =
-    effect-short now (getMany k (drop 2 ws) q) (decode b .slots) (decode-valid b w .fits) (decode-valid b w .most)
-    (rw (length-drop 2 ws) (omega arith)) refl .short
-
-pub entries-short : (now : ℕ) (b : List ℕ) (k : Word) (l : Listing) → wellFormed b ≡ true
-    → length (array (flatMap (listedSlot l) (keep (liveOfKey now k) (decode b .slots)))) ≤ 55007
-unfolding effect fieldsOf
-entries-short now b k l w =
-    effect-short now (list k l) (decode b .slots) (decode-valid b w .fits) (decode-valid b w .most) (omega arith) refl .short
-
--- the header and the answers have room
-pub answers-room : (now : ℕ) (b : List ℕ) (k : Word) (q : Question) (ws : List Word) {count : ℕ} → length ws ≡ count → wellFormed b ≡ true → count ≤ 64
-    → length (header (count - 2) ++ answers (answerAbout now b k q) (drop 2 ws)) ≤ 55007
-answers-room now b k q ws n w m = rw (answers-begin (answerAbout now b k q) ws n) (answers-short now b k q ws w (rw n m))
+  pub answers-room : length (header (length places) ++ flatten (answersOf now b k q (wordsIn s places))) ≤ n
+  answers-room = omega (arith, answers-spare)
 
 -- ---- what a listing shows
 
 module _ (now : ℕ) (b : List ℕ) (k : Word) (l : Listing) {m w : ℕ} (p : m ≡ length (keep (liveOfKey now k) (decode b .slots))) (q : w ≡ widthOf l) where
   -- the header, and then the elements
-  pub entries-begin : header (m * w) ++ shown l (keep (liveOfKey now k) (decode b .slots)) ≡ array (flatMap (listedSlot l) (keep (liveOfKey now k) (decode b .slots)))
-  unfolding array liveOfKey orElse
+  pub entries-begin : header (m * w) ++ flatten (listedOf now b k l) ≡ array (listedOf now b k l)
+  unfolding array listedOf liveOfKey orElse
   entries-begin = rw (p, q, ← shown-count l (liveOfKey now k) (decode b .slots) refl)
 
   -- have room
-  pub entries-room : wellFormed b ≡ true → length (header (m * w) ++ shown l (keep (liveOfKey now k) (decode b .slots))) ≤ 55007
-  entries-room v = rw entries-begin (entries-short now b k l v)
+  pub entries-room : wellFormed b ≡ true → {n : ℕ} → bufferLeast ≤ n → length (header (m * w) ++ flatten (listedOf now b k l)) ≤ n
+  unfolding effect fieldsOf listedOf
+  entries-room v big =
+      rw entries-begin
+      (omega (arith, effect-short now (list k l) (decode b .slots) (decode-valid b v .fits) (decode-valid b v .most) (omega arith) refl .short))
 
   -- and are few
   pub entries-few : wellFormed b ≡ true → m * w ≤ 1000
   unfolding widthOf
   entries-few v = go l q
     where
-      few : m ≤ 500
+      few : m ≤ slotsMost
       few = omega (arith, p, length-keep (liveOfKey now k) (decode b .slots), decode-valid b v .most)
 
       go : (x : Listing) → w ≡ widthOf x → m * w ≤ 1000

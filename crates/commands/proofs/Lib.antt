@@ -27,10 +27,10 @@ pub mod Deeds
 pub mod OneField
 pub mod Answers
 pub mod Elements
-pub mod Sweeps
-pub mod Kept
+pub mod FieldSweeps
+pub mod ListedSlots
 pub mod FieldLoops
-pub mod Overflow
+pub mod PairOverflow
 pub mod PairLoops
 pub mod Tallies
 pub mod OptionWords
@@ -39,4 +39,5 @@ pub mod Parsing
 pub mod Families
 pub mod FromBytes
 pub mod KeyDone
+pub mod PairsDone
 pub mod Executed

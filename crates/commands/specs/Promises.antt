@@ -1,42 +1,45 @@
 -- What the functions that do a command ask and answer, in the terms of the other definitions.
 use mathlib.Core.Path.{_≡_}
 use mathlib.Core.Bool.{Bool, true, false, cond, not, _&&_, _||_}
-use mathlib.Core.List.{List, [], _∷_, map}
+use mathlib.Core.List.{List, [], _∷_, map, flatMap}
 use mathlib.Core.Option.{Option, none, some}
-use Prim.Native.Nat.{ℕ, suc, _+_, _≤_, _<_}
+use Prim.Native.Nat.{ℕ, suc, _+_, _-_, _≤_, _<_}
 use lib.Dec.{ltb, eqb}
 use lib.IntN.{negsuc}
 use lib.ListN.{length}
 use Rattle.wire.specs.Lists.{any, keep, orElse}
 use Rattle.wire.specs.Bytes.{same}
 use Rattle.wire.specs.Integer.{lowest64, highest64, within}
-use Rattle.wire.specs.Words.{Word}
+use Rattle.wire.specs.Words.{Word, wordsMost}
 use Rattle.wire.specs.declared.integers.Signed.{Signed}
 use Rattle.wire.specs.Reply.{laidOver}
-use Rattle.wire.specs.Promises.{signedFor, integerOf, Laid}
+use Rattle.wire.specs.Promises.{signedFor, integerOf, Inside, Laid}
 use Rattle.store.specs.declared.Expiry.{Expiry}
 use Rattle.store.specs.declared.Expiry.the-variants.{Never}
 use Rattle.store.specs.declared.Found.{Found}
 use Rattle.store.specs.declared.Found.the-variants as founds
 use Rattle.store.specs.Layout.{versionMost}
 use Rattle.store.specs.Store.{Entry, entry, Slot, Store, withSlots, decode, wellFormed, holds}
-use Rattle.store.specs.Time.{keyExists, lowestSlot, entryOf, slotFor, put, emptySlot, deadSlot}
+use Rattle.store.specs.Time.{keyExists, liveOfKey, lowestSlot, entryOf, slotFor, put, emptySlot, deadSlot}
 use Rattle.store.specs.Valid.{Short}
 use Rattle.store.specs.Promises.{foundFor, entryAt, Held, Holds}
 use Rattle.commands.specs.declared.FieldDeed.{FieldDeed}
 use Rattle.commands.specs.declared.FieldDeed.the-variants as fieldDeeds
 use Rattle.commands.specs.declared.Lifetime.{Lifetime}
+use Rattle.commands.specs.declared.Lifetime.the-variants.{Clear}
+use Rattle.commands.specs.declared.Versioning.the-variants.{Next}
 use Rattle.commands.specs.declared.field.Written.{Written}
 use Rattle.commands.specs.declared.field.Written.the-variants as writes
 use Rattle.commands.specs.declared.pairs.Survey.{Survey}
 use Rattle.commands.specs.declared.pairs.Survey.the-variants as surveys
+use Rattle.commands.specs.Refusal.{bufferLeast}
 use Rattle.commands.specs.Command.{Pair, Command}
 use Rattle.commands.specs.Command.Command.{setMany}
 use Rattle.commands.specs.Parse.{pairsOf, tooLong, onDeed, beyond, deedLifetime}
 use Rattle.commands.specs.declared.Listing.{Listing}
 use Rattle.commands.specs.declared.Listing.the-variants.{Fields, Values, Both}
 use Rattle.commands.specs.declared.Question.{Question}
-use Rattle.commands.specs.Effect.{change, changeAll, timeLeft, reply, writesOf, writing}
+use Rattle.commands.specs.Effect.{change, changeAll, timeLeft, reply, listedSlot, written, writesOf, writing}
 use Rattle.commands.specs.Effect.Change.{remove}
 use Rattle.commands.specs.declared.Executed.{Executed}
 use Rattle.commands.specs.Execute.{Outcome, Done, passes, settle}
@@ -103,6 +106,24 @@ entryFor ss founds.Nothing = none
 unfoldable pub answerAbout : ℕ → List ℕ → Word → Question → Word → List ℕ
 answerAbout now b k q f = reply now (decode b .slots) k q (entryOf k f (decode b .slots))
 
+abbrev pub answersOf : ℕ → List ℕ → Word → Question → List Word → List (List ℕ)
+answersOf now b k q fs = map (answerAbout now b k q) fs
+
+-- a command names at most so many fields: its first words are its name and the key
+abbrev pub fieldsMost : ℕ
+fieldsMost = wordsMost - 2
+
+-- what a command on fields asks: their places in the command, a well-formed store, and a buffer for any reply
+pub record FieldsReady (command : List ℕ) (fields : List (List ℕ)) (bytes out : List ℕ) : Type 0 where
+  pub inside : Inside command fields
+  pub few : length fields ≤ fieldsMost
+  pub well : wellFormed bytes ≡ true
+  pub room : bufferLeast ≤ length out
+
+-- what a listing shows of the live entries of a key, in slot order
+unfoldable pub listedOf : ℕ → List ℕ → Word → Listing → List (List ℕ)
+listedOf now b k l = flatMap (listedSlot l) (keep (liveOfKey now k) (decode b .slots))
+
 -- how many elements a listing shows of an entry
 unfoldable pub widthOf : Listing → ℕ
 widthOf Fields = 1
@@ -165,6 +186,10 @@ newField founds.Nothing again = cond (eqb again 0) 1 0
 -- what writing fields one after the other would do
 unfoldable pub surveyOf : Word → List Word → List Slot → Survey
 surveyOf k fs ss = cond (overflowing (versionIn k ss) fs) surveys.Overflow (surveys.Added (missing k fs ss))
+
+-- the entry that a pair of a field and a value writes
+abbrev pub pairEntry : Word → Word → Word → List Slot → Entry
+pairEntry k f v ss = written k f v Next Clear (entryOf k f ss)
 
 -- a pair that can be written
 pub record Pairing (b : List ℕ) (k f v : Word) : Type 0 where

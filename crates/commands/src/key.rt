@@ -1,50 +1,44 @@
-// What is done with the fields of a key.
+// What is done with the fields of a key. `fields` are the places of the words that name them.
 use crate::KeyDeed;
 use crate::Listing;
 use crate::Question;
 use crate::act::look;
 use crate::answer::put_answer;
 use crate::pairs::set_many;
-use crate::words::word;
 use store::Found;
 use store::change;
 use store::find;
 use store::read;
+use wire::places::word;
 use wire::replies::put_bulk;
 use wire::replies::put_header;
 use wire::replies::put_number;
 ghost use mathlib.Core.Path.{_≡_};
 ghost use mathlib.Core.Bool.{true};
-ghost use mathlib.Core.List.{map, flatMap, flatten};
+ghost use mathlib.Core.List.{flatten};
 ghost use Prim.Native.Nat.{_+_, _≤_};
-ghost use lib.ListN.{length, drop};
-ghost use Rattle.wire.specs.Lists.{keep};
+ghost use lib.ListN.{length};
 ghost use Rattle.wire.specs.Reply.{array};
-ghost use Rattle.wire.specs.Promises.{wordsIn, Laid};
+ghost use Rattle.wire.specs.Promises.{wordsIn, Inside, Laid};
 ghost use Rattle.store.specs.Store.{decode, wellFormed};
-ghost use Rattle.store.specs.Time.{entryOf, liveOfKey};
 ghost use Rattle.store.specs.Promises.{Held, Holds, entryAt};
+ghost use Rattle.commands.specs.Refusal.{bufferLeast};
 ghost use Rattle.commands.specs.Command.Command.{getMany, delete};
-ghost use Rattle.commands.specs.Effect.{reply, listed, listedSlot};
-ghost use Rattle.commands.specs.ParsePromises.{Split, commandFor};
-ghost use Rattle.commands.specs.Promises.{Passed, Does, runOn, withoutDead, answerAbout, Removes, Deletes, widthOf};
+ghost use Rattle.commands.specs.Effect.{listed};
+ghost use Rattle.commands.specs.Execute.{swept, runOn};
+ghost use Rattle.commands.specs.ParsePromises.{commandFor};
+ghost use Rattle.commands.specs.Promises.{WithinLimits, Does, FieldsReady, answerMost, answerAbout, answersOf, listedOf, Removes, Deletes, widthOf};
 
-// Removes the dead entries of a key and the fields that the words from word 2 on name.
-fn sweep_fields(
-    command: &[u8],
-    starts: &[usize],
-    sizes: &[usize],
-    count: usize,
-    bytes: &mut [u8],
-    key: &[u8],
-    time: u64,
-)
-    requires { ⌜ (Split (now command) (now starts) (now sizes) count) × (wellFormed (now bytes) ≡ true) ⌝ }
-    ensures { λ _. ⌜ Holds (now (bytes .exit)) (withoutDead time (now (key .entry)) (drop 2 (wordsIn count (now (command .entry)) (now (starts .entry)) (now (sizes .entry)))) (decode (now (bytes .entry)))) ⌝ }
+// Removes the dead entries of a key and some fields.
+fn sweep_fields(command: &[u8], fields: &[[usize; 2]], bytes: &mut [u8], key: &[u8], time: u64)
+    requires { ⌜ (Inside (now command) (now fields)) × (wellFormed (now bytes) ≡ true) ⌝ }
+    ensures { λ _.
+        let fs = wordsIn (now (command .entry)) (now (fields .entry)) in
+        ⌜ Holds (now (bytes .exit)) (swept time (now (key .entry)) fs (decode (now (bytes .entry)))) ⌝ }
 {
-    let mut i = 2;
-    while i < count {
-        look(bytes, key, word(command, starts, sizes, count, i), time);
+    let mut i = 0;
+    while i < fields.len() {
+        look(bytes, key, word(command, fields, i), time);
         i += 1;
     }
 }
@@ -58,66 +52,61 @@ fn put_field(
     time: u64,
     out: &mut [u8],
 ) -> usize
-    requires { ⌜ (wellFormed (now bytes) ≡ true) × (146 ≤ length (now out)) ⌝ }
-    ensures { λ r. ⌜ Laid (reply time (decode (now (bytes .entry)) .slots) (now (key .entry)) question (entryOf (now (key .entry)) (now (field .entry)) (decode (now (bytes .entry)) .slots))) (now (out .entry)) (now (out .exit)) r ⌝ }
+    requires { ⌜ (wellFormed (now bytes) ≡ true) × (answerMost ≤ length (now out)) ⌝ }
+    ensures { λ r.
+        let answer = answerAbout time (now (bytes .entry)) (now (key .entry)) question (now (field .entry)) in
+        ⌜ Laid answer (now (out .entry)) (now (out .exit)) r ⌝ }
 {
     let found = find::named(bytes, key, field);
     put_answer(bytes, question, key, field, found, time, out)
 }
 
-// The answer about each field that the words from word 2 on name.
+// The answer about each of some fields.
 fn put_answers(
     command: &[u8],
-    starts: &[usize],
-    sizes: &[usize],
-    count: usize,
+    fields: &[[usize; 2]],
     bytes: &[u8],
     question: Question,
     key: &[u8],
     time: u64,
     out: &mut [u8],
 ) -> usize
-    requires { ⌜ (Split (now command) (now starts) (now sizes) count) × (wellFormed (now bytes) ≡ true) × (146 + length (flatten (map (answerAbout time (now bytes) (now key) question) (drop 2 (wordsIn count (now command) (now starts) (now sizes))))) ≤ length (now out)) ⌝ }
-    ensures { λ r. ⌜ Laid (flatten (map (answerAbout time (now (bytes .entry)) (now (key .entry)) question) (drop 2 (wordsIn count (now (command .entry)) (now (starts .entry)) (now (sizes .entry)))))) (now (out .entry)) (now (out .exit)) r ⌝ }
+    requires { let answers = answersOf time (now bytes) (now key) question (wordsIn (now command) (now fields)) in
+        ⌜ (Inside (now command) (now fields)) × (wellFormed (now bytes) ≡ true)
+        × (answerMost + length (flatten answers) ≤ length (now out)) ⌝ }
+    ensures { λ r.
+        let fs = wordsIn (now (command .entry)) (now (fields .entry)) in
+        let answers = answersOf time (now (bytes .entry)) (now (key .entry)) question fs in
+        ⌜ Laid (flatten answers) (now (out .entry)) (now (out .exit)) r ⌝ }
 {
     let mut at = 0;
-    let mut i = 2;
-    while i < count {
-        let field = word(command, starts, sizes, count, i);
+    let mut i = 0;
+    while i < fields.len() {
+        let field = word(command, fields, i);
         at = put_field(bytes, question, key, field, time, &mut out[at..]) + at;
         i += 1;
     }
     at
 }
 
-// An array of these answers.
-fn put_fields(
+// EXHMGET and EXHMGETWITHVER: an array of these answers.
+fn get_many(
     command: &[u8],
-    starts: &[usize],
-    sizes: &[usize],
-    count: usize,
-    bytes: &[u8],
+    fields: &[[usize; 2]],
+    bytes: &mut [u8],
     question: Question,
     key: &[u8],
     time: u64,
     out: &mut [u8],
 ) -> usize
-    requires { ⌜ (Split (now command) (now starts) (now sizes) count) × (wellFormed (now bytes) ≡ true) × (2 ≤ count) × (56000 ≤ length (now out)) ⌝ }
-    ensures { λ r. ⌜ Laid (array (map (answerAbout time (now (bytes .entry)) (now (key .entry)) question) (drop 2 (wordsIn count (now (command .entry)) (now (starts .entry)) (now (sizes .entry)))))) (now (out .entry)) (now (out .exit)) r ⌝ }
+    requires { ⌜ FieldsReady (now command) (now fields) (now bytes) (now out) ⌝ }
+    ensures { λ r.
+        let c = getMany (now (key .entry)) (wordsIn (now (command .entry)) (now (fields .entry))) question in
+        ⌜ Does (runOn time c (decode (now (bytes .entry)))) (now (bytes .exit)) (now (out .entry)) (now (out .exit)) r ⌝ }
 {
-    let at = put_header((count - 2) as u64, out);
-    put_answers(
-        command,
-        starts,
-        sizes,
-        count,
-        bytes,
-        question,
-        key,
-        time,
-        &mut out[at..],
-    )
-        + at
+    sweep_fields(command, fields, bytes, key, time);
+    let at = put_header(fields.len() as u64, out);
+    put_answers(command, fields, bytes, question, key, time, &mut out[at..]) + at
 }
 
 // Removes the entry of a key and a field, and answers how many that was.
@@ -133,25 +122,39 @@ fn remove_field(bytes: &mut [u8], key: &[u8], field: &[u8]) -> u64
     1
 }
 
-// Removes the entries of a key and the fields that the words from word 2 on name, and answers how many that were.
-fn remove_fields(
-    command: &[u8],
-    starts: &[usize],
-    sizes: &[usize],
-    count: usize,
-    bytes: &mut [u8],
-    key: &[u8],
-) -> u64
-    requires { ⌜ (Split (now command) (now starts) (now sizes) count) × (wellFormed (now bytes) ≡ true) ⌝ }
-    ensures { λ r. ⌜ Deletes (now (key .entry)) (drop 2 (wordsIn count (now (command .entry)) (now (starts .entry)) (now (sizes .entry)))) (decode (now (bytes .entry))) (now (bytes .exit)) r ⌝ }
+// Removes the entries of a key and some fields, and answers how many that were.
+fn remove_fields(command: &[u8], fields: &[[usize; 2]], bytes: &mut [u8], key: &[u8]) -> u64
+    requires { ⌜ (Inside (now command) (now fields)) × (wellFormed (now bytes) ≡ true) ⌝ }
+    ensures { λ r.
+        let fs = wordsIn (now (command .entry)) (now (fields .entry)) in
+        ⌜ Deletes (now (key .entry)) fs (decode (now (bytes .entry))) (now (bytes .exit)) r ⌝ }
 {
     let mut n = 0;
-    let mut i = 2;
-    while i < count {
-        n += remove_field(bytes, key, word(command, starts, sizes, count, i));
+    let mut i = 0;
+    while i < fields.len() {
+        n += remove_field(bytes, key, word(command, fields, i));
         i += 1;
     }
     n
+}
+
+// EXHDEL.
+fn delete(
+    command: &[u8],
+    fields: &[[usize; 2]],
+    bytes: &mut [u8],
+    key: &[u8],
+    time: u64,
+    out: &mut [u8],
+) -> usize
+    requires { ⌜ FieldsReady (now command) (now fields) (now bytes) (now out) ⌝ }
+    ensures { λ r.
+        let c = delete (now (key .entry)) (wordsIn (now (command .entry)) (now (fields .entry))) in
+        ⌜ Does (runOn time c (decode (now (bytes .entry)))) (now (bytes .exit)) (now (out .entry)) (now (out .exit)) r ⌝ }
+{
+    sweep_fields(command, fields, bytes, key, time);
+    let n = remove_fields(command, fields, bytes, key);
+    put_number(n, out)
 }
 
 // How many elements a listing shows of an entry.
@@ -167,8 +170,11 @@ fn width(listing: Listing) -> u64
 
 // What a listing shows of the entry in slot i.
 fn put_entry(bytes: &[u8], listing: Listing, i: usize, out: &mut [u8]) -> usize
-    requires { ⌜ (Held (now bytes) i) × (length (flatten (listed listing (entryAt (decode (now bytes) .slots) i))) ≤ length (now out)) ⌝ }
-    ensures { λ r. ⌜ Laid (flatten (listed listing (entryAt (decode (now (bytes .entry)) .slots) i))) (now (out .entry)) (now (out .exit)) r ⌝ }
+    requires { let shown = flatten (listed listing (entryAt (decode (now bytes) .slots) i)) in
+        ⌜ (Held (now bytes) i) × (length shown ≤ length (now out)) ⌝ }
+    ensures { λ r.
+        let shown = flatten (listed listing (entryAt (decode (now (bytes .entry)) .slots) i)) in
+        ⌜ Laid shown (now (out .entry)) (now (out .exit)) r ⌝ }
 {
     match listing {
         Listing::Fields => put_bulk(read::field(bytes, i), out),
@@ -182,8 +188,10 @@ fn put_entry(bytes: &[u8], listing: Listing, i: usize, out: &mut [u8]) -> usize
 
 // What a listing shows of the live entries of a key, in slot order.
 fn put_listed(bytes: &[u8], listing: Listing, key: &[u8], time: u64, out: &mut [u8]) -> usize
-    requires { ⌜ (wellFormed (now bytes) ≡ true) × (length (flatten (flatMap (listedSlot listing) (keep (liveOfKey time (now key)) (decode (now bytes) .slots)))) ≤ length (now out)) ⌝ }
-    ensures { λ r. ⌜ Laid (flatten (flatMap (listedSlot listing) (keep (liveOfKey time (now (key .entry))) (decode (now (bytes .entry)) .slots)))) (now (out .entry)) (now (out .exit)) r ⌝ }
+    requires { ⌜ (wellFormed (now bytes) ≡ true) × (length (flatten (listedOf time (now bytes) (now key) listing)) ≤ length (now out)) ⌝ }
+    ensures { λ r.
+        let shown = flatten (listedOf time (now (bytes .entry)) (now (key .entry)) listing) in
+        ⌜ Laid shown (now (out .entry)) (now (out .exit)) r ⌝ }
 {
     let count = read::slots(bytes);
     let mut at = 0;
@@ -201,93 +209,36 @@ fn put_listed(bytes: &[u8], listing: Listing, key: &[u8], time: u64, out: &mut [
 
 // An array of these.
 fn put_list(bytes: &[u8], listing: Listing, key: &[u8], time: u64, out: &mut [u8]) -> usize
-    requires { ⌜ (wellFormed (now bytes) ≡ true) × (56000 ≤ length (now out)) ⌝ }
-    ensures { λ r. ⌜ Laid (array (flatMap (listedSlot listing) (keep (liveOfKey time (now (key .entry))) (decode (now (bytes .entry)) .slots)))) (now (out .entry)) (now (out .exit)) r ⌝ }
+    requires { ⌜ (wellFormed (now bytes) ≡ true) × (bufferLeast ≤ length (now out)) ⌝ }
+    ensures { λ r.
+        let shown = array (listedOf time (now (bytes .entry)) (now (key .entry)) listing) in
+        ⌜ Laid shown (now (out .entry)) (now (out .exit)) r ⌝ }
 {
     let count = find::count_live(bytes, key, time) as u64;
     let at = put_header(count * width(listing), out);
     put_listed(bytes, listing, key, time, &mut out[at..]) + at
 }
 
-// EXHMGET and EXHMGETWITHVER.
-fn get_many(
-    command: &[u8],
-    starts: &[usize],
-    sizes: &[usize],
-    count: usize,
-    bytes: &mut [u8],
-    question: Question,
-    key: &[u8],
-    time: u64,
-    out: &mut [u8],
-) -> usize
-    requires { ⌜ (Split (now command) (now starts) (now sizes) count) × (wellFormed (now bytes) ≡ true) × (2 ≤ count) × (56000 ≤ length (now out)) ⌝ }
-    ensures { λ r. ⌜ Does (runOn time (getMany (now (key .entry)) (drop 2 (wordsIn count (now (command .entry)) (now (starts .entry)) (now (sizes .entry)))) question) (decode (now (bytes .entry)))) (now (bytes .exit)) (now (out .entry)) (now (out .exit)) r ⌝ }
-{
-    sweep_fields(command, starts, sizes, count, bytes, key, time);
-    put_fields(
-        command,
-        starts,
-        sizes,
-        count,
-        bytes,
-        question,
-        key,
-        time,
-        out,
-    )
-}
-
-// EXHDEL.
-fn delete(
-    command: &[u8],
-    starts: &[usize],
-    sizes: &[usize],
-    count: usize,
-    bytes: &mut [u8],
-    key: &[u8],
-    time: u64,
-    out: &mut [u8],
-) -> usize
-    requires { ⌜ (Split (now command) (now starts) (now sizes) count) × (wellFormed (now bytes) ≡ true) × (56000 ≤ length (now out)) ⌝ }
-    ensures { λ r. ⌜ Does (runOn time (delete (now (key .entry)) (drop 2 (wordsIn count (now (command .entry)) (now (starts .entry)) (now (sizes .entry))))) (decode (now (bytes .entry)))) (now (bytes .exit)) (now (out .entry)) (now (out .exit)) r ⌝ }
-{
-    sweep_fields(command, starts, sizes, count, bytes, key, time);
-    let n = remove_fields(command, starts, sizes, count, bytes, key);
-    put_number(n, out)
-}
-
-// Does a command on the fields of a key, on a store whose clock is set.
+// Does a command on a key and the fields that it names, on a store whose clock is set.
 pub fn on_key(
     deed: KeyDeed,
     command: &[u8],
-    starts: &[usize],
-    sizes: &[usize],
-    count: usize,
+    fields: &[[usize; 2]],
     bytes: &mut [u8],
     key: &[u8],
     time: u64,
     out: &mut [u8],
 ) -> usize
-    requires { ⌜ (Split (now command) (now starts) (now sizes) count) × (wellFormed (now bytes) ≡ true) × (2 ≤ count) × (Passed (commandFor (now key) (drop 2 (wordsIn count (now command) (now starts) (now sizes))) deed)) × (56000 ≤ length (now out)) ⌝ }
-    ensures { λ r. ⌜ Does (runOn time (commandFor (now (key .entry)) (drop 2 (wordsIn count (now (command .entry)) (now (starts .entry)) (now (sizes .entry)))) deed) (decode (now (bytes .entry)))) (now (bytes .exit)) (now (out .entry)) (now (out .exit)) r ⌝ }
+    requires { let c = commandFor (now key) (wordsIn (now command) (now fields)) deed in
+        ⌜ (FieldsReady (now command) (now fields) (now bytes) (now out)) × (WithinLimits c) ⌝ }
+    ensures { λ r.
+        let c = commandFor (now (key .entry)) (wordsIn (now (command .entry)) (now (fields .entry))) deed in
+        ⌜ Does (runOn time c (decode (now (bytes .entry)))) (now (bytes .exit)) (now (out .entry)) (now (out .exit)) r ⌝ }
 {
     match deed {
-        KeyDeed::SetMany => set_many(command, starts, sizes, count, bytes, key, time, out),
-        KeyDeed::GetMany(question) => {
-            get_many(
-                command,
-                starts,
-                sizes,
-                count,
-                bytes,
-                question,
-                key,
-                time,
-                out,
-            )
-        },
-        KeyDeed::Delete => delete(command, starts, sizes, count, bytes, key, time, out),
+        KeyDeed::SetMany => set_many(command, fields, bytes, key, time, out),
+        KeyDeed::GetMany(question) => get_many(command, fields, bytes, question, key, time, out),
+        KeyDeed::Delete => delete(command, fields, bytes, key, time, out),
         KeyDeed::CountHeld => put_number(find::count_held(bytes, key) as u64, out),
         KeyDeed::CountLive => put_number(find::count_live(bytes, key, time) as u64, out),
         KeyDeed::List(listing) => put_list(bytes, listing, key, time, out),

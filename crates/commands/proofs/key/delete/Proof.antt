@@ -1,39 +1,23 @@
 use native.Mathlib.Omega.{arith}
-use denote.Ref.{now}
-use lib.ListN.{drop}
-use borrow.Author.Needs.{needs}
-use Rattle.wire.specs.Promises.{wordsIn}
-use Rattle.store.specs.Store.{decode}
-use Rattle.commands.proofs.Deeds.{may-count}
+use Rattle.commands.proofs.FieldDeeds.{may-count}
 use Rattle.commands.proofs.KeyDone.{few-deleted, does-delete}
+use borrow.Author.Needs.{needs}
 use Rattle.commands.proofs.key.delete.Statement.{statement}
 use Rattle.commands.proofs.key.delete.Tie as tie
 
-sweep-fields-requires : tie.Need-sweep-fields-requires
-sweep-fields-requires c κs = search needs
-
-remove-fields-requires : tie.Need-remove-fields-requires
-remove-fields-requires c κs = search needs
-
 put-number-requires : tie.Need-put-number-requires
-put-number-requires c κs = may-count (c .before .before .before .remove-fields .result) (omega (arith, few-deleted _ (c .before .before .before .before .before .before .before .sweep-fields .ensures .well) (c .before .before .before .remove-fields .ensures))) (omega (arith, c .before .before .before .before .before .before .before .before .before .before .before .before .before .before .before .pre .2))
-
-same-length : tie.Need-same-length
-same-length c = search needs
-
-same-length-2 : tie.Need-same-length-2
-same-length-2 c = search needs
+put-number-requires c κs = may-count _ (omega (arith, few-deleted _ (c .before .before .before .before .before .before .before .sweep-fields .ensures .well) (c .before .before .before .remove-fields .ensures))) (omega (arith, c .before .before .before .before .before .before .before .before .before .before .before .before .before .pre .room))
 
 returns : tie.Need-returns
-returns c = does-delete (c .before .before .before .before .before .before .before .before .before .before .before .before .before .before .before .before .before .before .args .time) (now (c .before .before .before .before .before .before .before .before .before .before .before .before .before .before .before .before .before .before .args .key)) (drop 2 (wordsIn (c .before .before .before .before .before .before .before .before .before .before .before .before .before .before .before .before .before .before .args .count) (now (c .before .before .before .before .before .before .before .before .before .before .before .before .before .before .before .before .before .before .args .command)) (now (c .before .before .before .before .before .before .before .before .before .before .before .before .before .before .before .before .before .before .args .starts)) (now (c .before .before .before .before .before .before .before .before .before .before .before .before .before .before .before .before .before .before .args .sizes)))) (decode (now (c .before .before .before .before .before .before .before .before .before .before .before .before .before .before .before .before .before .before .args .bytes))) (c .before .before .before .before .before .before .before .before .before .before .sweep-fields .ensures) (c .before .before .before .before .before .before .remove-fields .ensures) (c .before .before .put-number .ensures)
+returns c = does-delete _ _ _ _ (c .before .before .before .before .before .before .before .before .before .before .sweep-fields .ensures) (c .before .before .before .before .before .before .remove-fields .ensures) (c .before .before .put-number .ensures)
 
 pub delete-spec : {M : Type 1} → statement M
 delete-spec =
     tie.close
     (tie.spec
-    sweep-fields-requires
-    remove-fields-requires
+    (λ c κs. search needs)
+    (λ c κs. search needs)
     put-number-requires
-    same-length
-    same-length-2
+    (λ c. search needs)
+    (λ c. search needs)
     returns)

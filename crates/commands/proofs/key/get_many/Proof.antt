@@ -1,28 +1,58 @@
+use mathlib.Core.Path.{sym}
+use native.Mathlib.Omega.{arith}
 use denote.Ref.{now}
-use lib.ListN.{drop}
-use borrow.Author.Needs.{needs}
-use Rattle.wire.specs.Promises.{wordsIn}
-use Rattle.store.specs.Store.{decode}
+use Rattle.wire.proofs.Laying.{laid-tail, laid-within}
+use Rattle.commands.specs.Promises.{answerMost}
+use Rattle.commands.proofs.Answers.{laid-reply}
+use Rattle.commands.proofs.Elements.{tail-spare}
+use Rattle.commands.proofs.FieldLoops.{header-room, header-inside, answers-begin, answers-spare, answers-room}
 use Rattle.commands.proofs.KeyDone.{does-many}
+use borrow.Author.Needs.{needs}
 use Rattle.commands.proofs.key.get_many.Statement.{statement}
 use Rattle.commands.proofs.key.get_many.Tie as tie
 
-sweep-fields-requires : tie.Need-sweep-fields-requires
-sweep-fields-requires c κs = search needs
+put-header-requires : tie.Need-put-header-requires
+put-header-requires c κs =
+    let start = c .before .before .before .before .before .before .before .before .before in
+    header-room (omega (arith, start .pre .few)) (start .pre .room)
 
-put-fields-requires : tie.Need-put-fields-requires
-put-fields-requires c κs = search needs
+sub-put-answers : tie.Need-sub-put-answers
+sub-put-answers c =
+    let start = c .before .before .before .before .before .before .before .before .before .before .before .before .before in
+    header-inside (omega (arith, start .pre .few)) (start .pre .room) (c .before .before .before .put-header .ensures)
 
-same-length : tie.Need-same-length
-same-length c = search needs
+part-put-answers-start : tie.Need-part-put-answers-start
+part-put-answers-start c =
+    let start = c .before .before .before .before .before .before .before .before .before .before .before .before .before in
+    header-inside (omega (arith, start .pre .few)) (start .pre .room) (c .before .before .before .put-header .ensures)
 
-same-length-2 : tie.Need-same-length-2
-same-length-2 c = search needs
+put-answers-requires : tie.Need-put-answers-requires
+put-answers-requires c κs =
+    let start = c .before .before .before .before .before .before .before .before .before .before .before .before .before .before in
+    let sweep-fields = c .before .before .before .before .before .before .before .before .sweep-fields in
+    let a = start .args in
+    (start .pre .inside, sweep-fields .ensures .well, tail-spare answerMost _ (c .before .before .before .before .put-header .ensures) (answers-spare (a .time) _ (now (a .key)) (a .question) (now (a .command)) (now (a .fields)) (sweep-fields .ensures .well) (start .pre .few) (start .pre .room)))
+
+add-result : tie.Need-add-result
+add-result c =
+    let start = c .before .before .before .before .before .before .before .before .before .before .before .before .before .before .before .before .before in
+    let a = start .args in
+    omega (arith, laid-within (laid-tail (c .before .before .before .before .before .before .before .put-header .ensures) (c .before .before .put-answers .ensures)) (answers-room (a .time) _ (now (a .key)) (a .question) (now (a .command)) (now (a .fields)) (c .before .before .before .before .before .before .before .before .before .before .before .sweep-fields .ensures .well) (start .pre .few) (start .pre .room)))
 
 returns : tie.Need-returns
-returns c = does-many (c .before .before .before .before .before .before .before .before .before .before .before .before .before .before .before .args .time) (now (c .before .before .before .before .before .before .before .before .before .before .before .before .before .before .before .args .key)) (drop 2 (wordsIn (c .before .before .before .before .before .before .before .before .before .before .before .before .before .before .before .args .count) (now (c .before .before .before .before .before .before .before .before .before .before .before .before .before .before .before .args .command)) (now (c .before .before .before .before .before .before .before .before .before .before .before .before .before .before .before .args .starts)) (now (c .before .before .before .before .before .before .before .before .before .before .before .before .before .before .before .args .sizes)))) (c .before .before .before .before .before .before .before .before .before .before .before .before .before .before .before .args .question) (decode (now (c .before .before .before .before .before .before .before .before .before .before .before .before .before .before .before .args .bytes))) (c .before .before .before .before .before .before .before .sweep-fields .ensures) (c .before .before .put-fields .ensures)
+returns c = does-many _ _ _ _ _ (c .before .before .before .before .before .before .before .before .before .before .before .sweep-fields .ensures) (laid-reply (sym (answers-begin _ _ _)) (laid-tail (c .before .before .before .before .before .before .before .put-header .ensures) (c .before .before .put-answers .ensures)))
 
 pub get-many-spec : {M : Type 1} → statement M
 get-many-spec =
     tie.close
-    (tie.spec sweep-fields-requires put-fields-requires same-length same-length-2 returns)
+    (tie.spec
+    (λ c κs. search needs)
+    put-header-requires
+    sub-put-answers
+    part-put-answers-start
+    (λ c. search needs)
+    put-answers-requires
+    add-result
+    (λ c. search needs)
+    (λ c. search needs)
+    returns)

@@ -1,30 +1,28 @@
 -- What is left does the same; the measure is how many words are left.
 use mathlib.Core.Path.{refl}
-use Prim.Native.Nat.{_+_, _-_}
-use denote.Ref.{now}
+use mathlib.Core.List.{flatten}
+use Prim.Native.Nat.{_-_}
 use native.Mathlib.Omega.{arith}
-use borrow.Author.Needs.{needs}
-use lib.ListN.{drop}
+use lib.ListN.{length}
 use Rattle.wire.specs.Promises.{wordsIn}
 use Rattle.wire.proofs.Laying.{laid-none}
-use Rattle.commands.specs.Promises.{answerAbout}
-use Rattle.commands.proofs.WordPlaces.{length-words}
+use Rattle.commands.specs.Promises.{answerMost, answerAbout, answersOf}
 use Rattle.commands.proofs.Elements.{Going, going-begins, going-on, going-within, going-ends, going-length, going-start, going-spare}
-use Rattle.commands.proofs.FieldLoops.{answers, answers-next, answers-over}
+use Rattle.commands.proofs.FieldLoops.{wordsFrom, answersFrom, answers-next, answers-over}
+use borrow.Author.Needs.{needs}
 use Rattle.commands.proofs.key.put_answers.Statement.{statement}
 use Rattle.commands.proofs.key.put_answers.Tie as tie
 
 abbrev Inv-loop : tie.InvT-loop
-Inv-loop command starts sizes count bytes question key time out₀ at₀ i₀ out at i = Going (answers (answerAbout time bytes key question) (drop 2 (wordsIn count command starts sizes))) (answers (answerAbout time bytes key question) (drop i (wordsIn count command starts sizes))) out₀ out at
+Inv-loop command fields bytes question key time out₀ at₀ i₀ out at i =
+    Going (flatten (answersOf time bytes key question (wordsIn command fields))) (answersFrom (answerAbout time bytes key question) command fields i) out₀ out at
 
 abbrev μ-loop : tie.MeasureT-loop
-μ-loop command starts sizes count bytes question key time out₀ at₀ i₀ out at i = count - i
+μ-loop command fields bytes question key time out₀ at₀ i₀ out at i = length fields - i
 
 loop-holds : tie.Need-loop-holds Inv-loop μ-loop
-loop-holds c = going-begins (laid-none _) refl (omega (arith, c .before .before .before .before .before .before .pre .2))
-
-word-requires : tie.Need-word-requires Inv-loop μ-loop
-word-requires c κs = c .before .before .before .before .before .before .before .before .pre .0
+unfolding wordsFrom answersFrom
+loop-holds c = going-begins (laid-none _) refl (omega (arith, c .before .before .before .before .pre .2))
 
 sub-put-field : tie.Need-sub-put-field Inv-loop μ-loop
 sub-put-field c = going-start (c .before .before .loop .inv)
@@ -32,31 +30,22 @@ sub-put-field c = going-start (c .before .before .loop .inv)
 part-put-field-start : tie.Need-part-put-field-start Inv-loop μ-loop
 part-put-field-start c = going-start (c .before .before .loop .inv)
 
-part-put-field-end : tie.Need-part-put-field-end Inv-loop μ-loop
-part-put-field-end c = search needs
-
 put-field-requires : tie.Need-put-field-requires Inv-loop μ-loop
-put-field-requires c κs = (c .before .before .before .before .before .before .before .before .before .before .pre .1, going-spare (c .before .before .before .loop .inv) 146 (c .before .before .before .before .before .before .before .before .before .before .pre .2))
+put-field-requires c κs =
+    let start = c .before .before .before .before .before .before .before .before in
+    (start .pre .1, going-spare (c .before .before .before .loop .inv) answerMost (start .pre .2))
 
 add-at : tie.Need-add-at Inv-loop μ-loop
-unfolding answerAbout
-add-at c = omega (arith, going-within (c .before .before .before .before .before .before .loop .inv) (answers (answerAbout (c .before .before .before .before .before .before .before .before .before .before .before .before .before .args .time) (now (c .before .before .before .before .before .before .before .before .before .before .before .before .before .args .bytes)) (now (c .before .before .before .before .before .before .before .before .before .before .before .before .before .args .key)) (c .before .before .before .before .before .before .before .before .before .before .before .before .before .args .question)) (drop (c .before .before .before .before .before .before .loop .i + 1) (wordsIn (c .before .before .before .before .before .before .before .before .before .before .before .before .before .args .count) (now (c .before .before .before .before .before .before .before .before .before .before .before .before .before .args .command)) (now (c .before .before .before .before .before .before .before .before .before .before .before .before .before .args .starts)) (now (c .before .before .before .before .before .before .before .before .before .before .before .before .before .args .sizes))))) (answers-next (answerAbout (c .before .before .before .before .before .before .before .before .before .before .before .before .before .args .time) (now (c .before .before .before .before .before .before .before .before .before .before .before .before .before .args .bytes)) (now (c .before .before .before .before .before .before .before .before .before .before .before .before .before .args .key)) (c .before .before .before .before .before .before .before .before .before .before .before .before .before .args .question)) (wordsIn (c .before .before .before .before .before .before .before .before .before .before .before .before .before .args .count) (now (c .before .before .before .before .before .before .before .before .before .before .before .before .before .args .command)) (now (c .before .before .before .before .before .before .before .before .before .before .before .before .before .args .starts)) (now (c .before .before .before .before .before .before .before .before .before .before .before .before .before .args .sizes))) (length-words _ _ _ _) (c .before .before .before .before .before .before .loop .i) (c .before .before .before .before .before .loop-test .taken) (c .before .before .before .before .word .ensures)) (c .before .before .put-field .ensures))
-
-add-i : tie.Need-add-i Inv-loop μ-loop
-add-i c = search needs
-
-loop-less : tie.Need-loop-less Inv-loop μ-loop
-loop-less c = omega arith
+add-at c = omega (arith, going-within (c .before .before .before .before .before .before .loop .inv) (answers-next _ _ _ _ (c .before .before .before .before .before .loop-test .taken) (c .before .before .before .before .word .ensures)) (c .before .before .put-field .ensures))
 
 loop-again : tie.Need-loop-again Inv-loop μ-loop
-unfolding answerAbout
-loop-again c = going-on (c .before .before .before .before .before .before .loop .inv) (answers (answerAbout (c .before .before .before .before .before .before .before .before .before .before .before .before .before .args .time) (now (c .before .before .before .before .before .before .before .before .before .before .before .before .before .args .bytes)) (now (c .before .before .before .before .before .before .before .before .before .before .before .before .before .args .key)) (c .before .before .before .before .before .before .before .before .before .before .before .before .before .args .question)) (drop (c .before .before .before .before .before .before .loop .i + 1) (wordsIn (c .before .before .before .before .before .before .before .before .before .before .before .before .before .args .count) (now (c .before .before .before .before .before .before .before .before .before .before .before .before .before .args .command)) (now (c .before .before .before .before .before .before .before .before .before .before .before .before .before .args .starts)) (now (c .before .before .before .before .before .before .before .before .before .before .before .before .before .args .sizes))))) (answers-next (answerAbout (c .before .before .before .before .before .before .before .before .before .before .before .before .before .args .time) (now (c .before .before .before .before .before .before .before .before .before .before .before .before .before .args .bytes)) (now (c .before .before .before .before .before .before .before .before .before .before .before .before .before .args .key)) (c .before .before .before .before .before .before .before .before .before .before .before .before .before .args .question)) (wordsIn (c .before .before .before .before .before .before .before .before .before .before .before .before .before .args .count) (now (c .before .before .before .before .before .before .before .before .before .before .before .before .before .args .command)) (now (c .before .before .before .before .before .before .before .before .before .before .before .before .before .args .starts)) (now (c .before .before .before .before .before .before .before .before .before .before .before .before .before .args .sizes))) (length-words _ _ _ _) (c .before .before .before .before .before .before .loop .i) (c .before .before .before .before .before .loop-test .taken) (c .before .before .before .before .word .ensures)) (c .before .before .put-field .ensures)
+loop-again c = going-on (c .before .before .before .before .before .before .loop .inv) (answers-next _ _ _ _ (c .before .before .before .before .before .loop-test .taken) (c .before .before .before .before .word .ensures)) (c .before .before .put-field .ensures)
 
 same-length : tie.Need-same-length Inv-loop μ-loop
 same-length c = going-length (c .before .loop .inv)
 
 returns : tie.Need-returns Inv-loop μ-loop
-returns c = going-ends (c .before .loop .inv) (answers-over (answerAbout (c .before .before .before .before .before .before .before .before .args .time) (now (c .before .before .before .before .before .before .before .before .args .bytes)) (now (c .before .before .before .before .before .before .before .before .args .key)) (c .before .before .before .before .before .before .before .before .args .question)) (wordsIn (c .before .before .before .before .before .before .before .before .args .count) (now (c .before .before .before .before .before .before .before .before .args .command)) (now (c .before .before .before .before .before .before .before .before .args .starts)) (now (c .before .before .before .before .before .before .before .before .args .sizes))) (length-words _ _ _ _) (c .before .loop .i) (c .loop-test .left))
+returns c = going-ends (c .before .loop .inv) (answers-over _ _ _ _ (c .loop-test .left))
 
 pub put-answers-spec : {M : Type 1} → statement M
 put-answers-spec =
@@ -65,14 +54,14 @@ put-answers-spec =
     Inv-loop
     μ-loop
     loop-holds
-    word-requires
+    (λ c κs. c .before .before .before .before .before .before .pre .0)
     sub-put-field
     part-put-field-start
-    part-put-field-end
+    (λ c. search needs)
     put-field-requires
     add-at
-    add-i
-    loop-less
+    (λ c. search needs)
+    (λ c. omega arith)
     loop-again
     same-length
     returns)

@@ -1,102 +1,63 @@
-use mathlib.Core.Path.{refl}
 use native.Mathlib.Omega.{arith}
-use denote.Ref.{now}
-use borrow.Author.Needs.{needs}
-use Rattle.wire.specs.Reply.{bulk}
-use Rattle.wire.proofs.Laying.{laid-tail, laid-within, tail-inside, tail-room, front-room}
-use Rattle.store.specs.Store.{decode}
-use Rattle.store.specs.Promises.{entryAt}
+use Rattle.wire.proofs.Laying.{laid-tail, laid-within, tail-inside, tail-room}
 use Rattle.commands.proofs.Answers.{laid-reply}
-use Rattle.commands.proofs.Kept.{shown-field, shown-value, shown-both}
+use Rattle.commands.proofs.ListedSlots.{shown-field, shown-value, shown-both, field-room, value-room, first-room, both-room}
 use borrow.Author.Needs.{needs}
 use Rattle.commands.proofs.key.put_entry.Statement.{statement}
 use Rattle.commands.proofs.key.put_entry.Tie as tie
 
-enum-told : tie.Need-enum-told
-enum-told c = search needs
-
-field-requires : tie.Need-field-requires
-field-requires c κs = search needs
-
 put-bulk-requires : tie.Need-put-bulk-requires
-put-bulk-requires c κs = rw (shown-field (entryAt (decode (now (c .before .before .before .before .before .before .args .bytes)) .slots) (c .before .before .before .before .before .before .args .i)) (c .before .before .enum-told .given .1) (c .before .field .ensures)) at (c .before .before .before .before .before .before .pre .1)
-
-enum-told-2 : tie.Need-enum-told-2
-enum-told-2 c = search needs
-
-value-requires : tie.Need-value-requires
-value-requires c κs = search needs
+put-bulk-requires c κs = field-room _ (c .before .before .before .before .before .before .pre .1) (c .before .before .enum-told .given .1) (c .before .field .ensures)
 
 put-bulk-requires-2 : tie.Need-put-bulk-requires-2
-put-bulk-requires-2 c κs = rw (shown-value (entryAt (decode (now (c .before .before .before .before .before .before .args .bytes)) .slots) (c .before .before .before .before .before .before .args .i)) (c .before .before .enum-told2 .given .1) (c .before .value .ensures)) at (c .before .before .before .before .before .before .pre .1)
-
-enum-told-3 : tie.Need-enum-told-3
-enum-told-3 c = search needs
-
-field-requires-2 : tie.Need-field-requires-2
-field-requires-2 c κs = search needs
+put-bulk-requires-2 c κs = value-room _ (c .before .before .before .before .before .before .pre .1) (c .before .before .enum-told2 .given .1) (c .before .value .ensures)
 
 put-bulk-requires-3 : tie.Need-put-bulk-requires-3
-put-bulk-requires-3 c κs = front-room (bulk (now (c .before .field2 .result))) (bulk ((entryAt (decode (now (c .before .before .before .before .before .before .args .bytes)) .slots) (c .before .before .before .before .before .before .args .i)) .value)) (rw (shown-both (entryAt (decode (now (c .before .before .before .before .before .before .args .bytes)) .slots) (c .before .before .before .before .before .before .args .i)) (c .before .before .enum-told3 .given .1) (c .before .field2 .ensures) refl) at (c .before .before .before .before .before .before .pre .1))
-
-value-requires-2 : tie.Need-value-requires-2
-value-requires-2 c κs = search needs
+put-bulk-requires-3 c κs = first-room _ (c .before .before .before .before .before .before .pre .1) (c .before .before .enum-told3 .given .1) (c .before .field2 .ensures)
 
 sub-put-bulk : tie.Need-sub-put-bulk
-sub-put-bulk c = tail-inside (bulk (now (c .value2 .result))) (c .before .before .before .put-bulk3 .ensures) (rw (shown-both (entryAt (decode (now (c .before .before .before .before .before .before .before .before .before .before .args .bytes)) .slots) (c .before .before .before .before .before .before .before .before .before .before .args .i)) (c .before .before .before .before .before .before .enum-told3 .given .1) (c .before .before .before .before .before .field2 .ensures) (c .value2 .ensures)) at (c .before .before .before .before .before .before .before .before .before .before .pre .1))
+sub-put-bulk c = tail-inside _ (c .before .before .before .put-bulk3 .ensures) (both-room _ (c .before .before .before .before .before .before .before .before .before .before .pre .1) (c .before .before .before .before .before .before .enum-told3 .given .1) (c .before .before .before .before .before .field2 .ensures) (c .value2 .ensures))
 
 part-put-bulk-start : tie.Need-part-put-bulk-start
-part-put-bulk-start c = tail-inside (bulk (now (c .value2 .result))) (c .before .before .before .put-bulk3 .ensures) (rw (shown-both (entryAt (decode (now (c .before .before .before .before .before .before .before .before .before .before .args .bytes)) .slots) (c .before .before .before .before .before .before .before .before .before .before .args .i)) (c .before .before .before .before .before .before .enum-told3 .given .1) (c .before .before .before .before .before .field2 .ensures) (c .value2 .ensures)) at (c .before .before .before .before .before .before .before .before .before .before .pre .1))
-
-part-put-bulk-end : tie.Need-part-put-bulk-end
-part-put-bulk-end c = search needs
+part-put-bulk-start c = tail-inside _ (c .before .before .before .put-bulk3 .ensures) (both-room _ (c .before .before .before .before .before .before .before .before .before .before .pre .1) (c .before .before .before .before .before .before .enum-told3 .given .1) (c .before .before .before .before .before .field2 .ensures) (c .value2 .ensures))
 
 put-bulk-requires-4 : tie.Need-put-bulk-requires-4
-put-bulk-requires-4 c κs = tail-room (bulk (now (c .before .value2 .result))) (c .before .before .before .before .put-bulk3 .ensures) (rw (shown-both (entryAt (decode (now (c .before .before .before .before .before .before .before .before .before .before .before .args .bytes)) .slots) (c .before .before .before .before .before .before .before .before .before .before .before .args .i)) (c .before .before .before .before .before .before .before .enum-told3 .given .1) (c .before .before .before .before .before .before .field2 .ensures) (c .before .value2 .ensures)) at (c .before .before .before .before .before .before .before .before .before .before .before .pre .1))
+put-bulk-requires-4 c κs = tail-room _ (c .before .before .before .before .put-bulk3 .ensures) (both-room _ (c .before .before .before .before .before .before .before .before .before .before .before .pre .1) (c .before .before .before .before .before .before .before .enum-told3 .given .1) (c .before .before .before .before .before .before .field2 .ensures) (c .before .value2 .ensures))
 
 add-result : tie.Need-add-result
-add-result c = omega (arith, laid-within (laid-tail (c .before .before .before .before .before .before .before .put-bulk3 .ensures) (c .before .before .put-bulk4 .ensures)) (rw (shown-both (entryAt (decode (now (c .before .before .before .before .before .before .before .before .before .before .before .before .before .before .args .bytes)) .slots) (c .before .before .before .before .before .before .before .before .before .before .before .before .before .before .args .i)) (c .before .before .before .before .before .before .before .before .before .before .enum-told3 .given .1) (c .before .before .before .before .before .before .before .before .before .field2 .ensures) (c .before .before .before .before .value2 .ensures)) at (c .before .before .before .before .before .before .before .before .before .before .before .before .before .before .pre .1)))
-
-same-length : tie.Need-same-length
-same-length c = search needs
+add-result c = omega (arith, laid-within (laid-tail (c .before .before .before .before .before .before .before .put-bulk3 .ensures) (c .before .before .put-bulk4 .ensures)) (both-room _ (c .before .before .before .before .before .before .before .before .before .before .before .before .before .before .pre .1) (c .before .before .before .before .before .before .before .before .before .before .enum-told3 .given .1) (c .before .before .before .before .before .before .before .before .before .field2 .ensures) (c .before .before .before .before .value2 .ensures)))
 
 returns : tie.Need-returns
-returns c = laid-reply (shown-field (entryAt (decode (now (c .before .before .before .before .before .before .before .before .before .args .bytes)) .slots) (c .before .before .before .before .before .before .before .before .before .args .i)) (c .before .before .before .before .before .enum-told .given .1) (c .before .before .before .before .field .ensures)) (c .before .before .put-bulk .ensures)
-
-same-length-2 : tie.Need-same-length-2
-same-length-2 c = search needs
+returns c = laid-reply (shown-field _ (c .before .before .before .before .before .enum-told .given .1) (c .before .before .before .before .field .ensures)) (c .before .before .put-bulk .ensures)
 
 returns-2 : tie.Need-returns-2
-returns-2 c = laid-reply (shown-value (entryAt (decode (now (c .before .before .before .before .before .before .before .before .before .args .bytes)) .slots) (c .before .before .before .before .before .before .before .before .before .args .i)) (c .before .before .before .before .before .enum-told2 .given .1) (c .before .before .before .before .value .ensures)) (c .before .before .put-bulk2 .ensures)
-
-same-length-3 : tie.Need-same-length-3
-same-length-3 c = search needs
+returns-2 c = laid-reply (shown-value _ (c .before .before .before .before .before .enum-told2 .given .1) (c .before .before .before .before .value .ensures)) (c .before .before .put-bulk2 .ensures)
 
 returns-3 : tie.Need-returns-3
-returns-3 c = laid-reply (shown-both (entryAt (decode (now (c .before .before .before .before .before .before .before .before .before .before .before .before .before .before .args .bytes)) .slots) (c .before .before .before .before .before .before .before .before .before .before .before .before .before .before .args .i)) (c .before .before .before .before .before .before .before .before .before .before .enum-told3 .given .1) (c .before .before .before .before .before .before .before .before .before .field2 .ensures) (c .before .before .before .before .value2 .ensures)) (laid-tail (c .before .before .before .before .before .before .before .put-bulk3 .ensures) (c .before .before .put-bulk4 .ensures))
+returns-3 c = laid-reply (shown-both _ (c .before .before .before .before .before .before .before .before .before .before .enum-told3 .given .1) (c .before .before .before .before .before .before .before .before .before .field2 .ensures) (c .before .before .before .before .value2 .ensures)) (laid-tail (c .before .before .before .before .before .before .before .put-bulk3 .ensures) (c .before .before .put-bulk4 .ensures))
 
 pub put-entry-spec : {M : Type 1} → statement M
 put-entry-spec =
     tie.close
     (tie.spec
-    enum-told
-    field-requires
+    (λ c. search needs)
+    (λ c κs. search needs)
     put-bulk-requires
-    enum-told-2
-    value-requires
+    (λ c. search needs)
+    (λ c κs. search needs)
     put-bulk-requires-2
-    enum-told-3
-    field-requires-2
+    (λ c. search needs)
+    (λ c κs. search needs)
     put-bulk-requires-3
-    value-requires-2
+    (λ c κs. search needs)
     sub-put-bulk
     part-put-bulk-start
-    part-put-bulk-end
+    (λ c. search needs)
     put-bulk-requires-4
     add-result
-    same-length
+    (λ c. search needs)
     returns
-    same-length-2
+    (λ c. search needs)
     returns-2
-    same-length-3
+    (λ c. search needs)
     returns-3)

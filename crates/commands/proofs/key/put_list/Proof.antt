@@ -1,64 +1,55 @@
 use mathlib.Core.Path.{sym}
-use Prim.Native.Nat.{_*_}
 use native.Mathlib.Omega.{arith}
-use denote.Ref.{now}
-use borrow.Author.Needs.{needs}
-use Rattle.wire.specs.Lists.{keep}
-use Rattle.wire.specs.Reply.{header}
-use Rattle.wire.proofs.Laying.{laid-tail, laid-within, tail-inside, tail-room, front-room}
-use Rattle.store.specs.Store.{decode}
-use Rattle.store.specs.Time.{liveOfKey}
+use Rattle.wire.proofs.Laying.{laid-tail, laid-within, tail-room}
 use Rattle.commands.proofs.Answers.{laid-reply}
-use Rattle.commands.proofs.Kept.{shown}
-use Rattle.commands.proofs.FieldLoops.{entries-begin, entries-room, entries-few}
+use Rattle.commands.proofs.FieldLoops.{header-room, header-inside, entries-begin, entries-room, entries-few}
+use borrow.Author.Needs.{needs}
 use Rattle.commands.proofs.key.put_list.Statement.{statement}
 use Rattle.commands.proofs.key.put_list.Tie as tie
 
-count-live-requires : tie.Need-count-live-requires
-count-live-requires c κs = search needs
-
-width-requires : tie.Need-width-requires
-width-requires c κs = search needs
-
 mul-put-header : tie.Need-mul-put-header
-mul-put-header c = omega (arith, entries-few (c .before .before .before .before .before .args .time) (now (c .before .before .before .before .before .args .bytes)) (now (c .before .before .before .before .before .args .key)) (c .before .before .before .before .before .args .listing) (c .before .count-live .ensures) (c .width .ensures) (c .before .before .before .before .before .pre .0))
+mul-put-header c = omega (arith, entries-few _ _ _ _ (c .before .count-live .ensures) (c .width .ensures) (c .before .before .before .before .before .pre .0))
 
 put-header-requires : tie.Need-put-header-requires
-put-header-requires c κs = front-room (header (c .before .before .count-live .result * c .before .width .result)) (shown (c .before .before .before .before .before .before .args .listing) (keep (liveOfKey (c .before .before .before .before .before .before .args .time) (now (c .before .before .before .before .before .before .args .key))) (decode (now (c .before .before .before .before .before .before .args .bytes)) .slots))) (omega (arith, entries-room (c .before .before .before .before .before .before .args .time) (now (c .before .before .before .before .before .before .args .bytes)) (now (c .before .before .before .before .before .before .args .key)) (c .before .before .before .before .before .before .args .listing) (c .before .before .count-live .ensures) (c .before .width .ensures) (c .before .before .before .before .before .before .pre .0), c .before .before .before .before .before .before .pre .1))
+put-header-requires c κs =
+    let start = c .before .before .before .before .before .before in
+    header-room (entries-few _ _ _ _ (c .before .before .count-live .ensures) (c .before .width .ensures) (start .pre .0)) (start .pre .1)
 
 sub-put-listed : tie.Need-sub-put-listed
-sub-put-listed c = tail-inside (shown (c .before .before .before .before .before .before .before .before .before .args .listing) (keep (liveOfKey (c .before .before .before .before .before .before .before .before .before .args .time) (now (c .before .before .before .before .before .before .before .before .before .args .key))) (decode (now (c .before .before .before .before .before .before .before .before .before .args .bytes)) .slots))) (c .before .before .put-header .ensures) (omega (arith, entries-room (c .before .before .before .before .before .before .before .before .before .args .time) (now (c .before .before .before .before .before .before .before .before .before .args .bytes)) (now (c .before .before .before .before .before .before .before .before .before .args .key)) (c .before .before .before .before .before .before .before .before .before .args .listing) (c .before .before .before .before .before .count-live .ensures) (c .before .before .before .before .width .ensures) (c .before .before .before .before .before .before .before .before .before .pre .0), c .before .before .before .before .before .before .before .before .before .pre .1))
+sub-put-listed c =
+    let start = c .before .before .before .before .before .before .before .before .before in
+    header-inside (entries-few _ _ _ _ (c .before .before .before .before .before .count-live .ensures) (c .before .before .before .before .width .ensures) (start .pre .0)) (start .pre .1) (c .before .before .put-header .ensures)
 
 part-put-listed-start : tie.Need-part-put-listed-start
-part-put-listed-start c = tail-inside (shown (c .before .before .before .before .before .before .before .before .before .args .listing) (keep (liveOfKey (c .before .before .before .before .before .before .before .before .before .args .time) (now (c .before .before .before .before .before .before .before .before .before .args .key))) (decode (now (c .before .before .before .before .before .before .before .before .before .args .bytes)) .slots))) (c .before .before .put-header .ensures) (omega (arith, entries-room (c .before .before .before .before .before .before .before .before .before .args .time) (now (c .before .before .before .before .before .before .before .before .before .args .bytes)) (now (c .before .before .before .before .before .before .before .before .before .args .key)) (c .before .before .before .before .before .before .before .before .before .args .listing) (c .before .before .before .before .before .count-live .ensures) (c .before .before .before .before .width .ensures) (c .before .before .before .before .before .before .before .before .before .pre .0), c .before .before .before .before .before .before .before .before .before .pre .1))
-
-part-put-listed-end : tie.Need-part-put-listed-end
-part-put-listed-end c = search needs
+part-put-listed-start c =
+    let start = c .before .before .before .before .before .before .before .before .before in
+    header-inside (entries-few _ _ _ _ (c .before .before .before .before .before .count-live .ensures) (c .before .before .before .before .width .ensures) (start .pre .0)) (start .pre .1) (c .before .before .put-header .ensures)
 
 put-listed-requires : tie.Need-put-listed-requires
-put-listed-requires c κs = (c .before .before .before .before .before .before .before .before .before .before .pre .0, tail-room (shown (c .before .before .before .before .before .before .before .before .before .before .args .listing) (keep (liveOfKey (c .before .before .before .before .before .before .before .before .before .before .args .time) (now (c .before .before .before .before .before .before .before .before .before .before .args .key))) (decode (now (c .before .before .before .before .before .before .before .before .before .before .args .bytes)) .slots))) (c .before .before .before .put-header .ensures) (omega (arith, entries-room (c .before .before .before .before .before .before .before .before .before .before .args .time) (now (c .before .before .before .before .before .before .before .before .before .before .args .bytes)) (now (c .before .before .before .before .before .before .before .before .before .before .args .key)) (c .before .before .before .before .before .before .before .before .before .before .args .listing) (c .before .before .before .before .before .before .count-live .ensures) (c .before .before .before .before .before .width .ensures) (c .before .before .before .before .before .before .before .before .before .before .pre .0), c .before .before .before .before .before .before .before .before .before .before .pre .1)))
+put-listed-requires c κs =
+    let start = c .before .before .before .before .before .before .before .before .before .before in
+    (start .pre .0, tail-room _ (c .before .before .before .put-header .ensures) (entries-room _ _ _ _ (c .before .before .before .before .before .before .count-live .ensures) (c .before .before .before .before .before .width .ensures) (start .pre .0) (start .pre .1)))
 
 add-result : tie.Need-add-result
-add-result c = omega (arith, laid-within (laid-tail (c .before .before .before .before .before .before .put-header .ensures) (c .before .before .put-listed .ensures)) (omega (arith, entries-room (c .before .before .before .before .before .before .before .before .before .before .before .before .before .args .time) (now (c .before .before .before .before .before .before .before .before .before .before .before .before .before .args .bytes)) (now (c .before .before .before .before .before .before .before .before .before .before .before .before .before .args .key)) (c .before .before .before .before .before .before .before .before .before .before .before .before .before .args .listing) (c .before .before .before .before .before .before .before .before .before .count-live .ensures) (c .before .before .before .before .before .before .before .before .width .ensures) (c .before .before .before .before .before .before .before .before .before .before .before .before .before .pre .0), c .before .before .before .before .before .before .before .before .before .before .before .before .before .pre .1)))
-
-same-length : tie.Need-same-length
-same-length c = search needs
+add-result c =
+    let start = c .before .before .before .before .before .before .before .before .before .before .before .before .before in
+    omega (arith, laid-within (laid-tail (c .before .before .before .before .before .before .put-header .ensures) (c .before .before .put-listed .ensures)) (entries-room _ _ _ _ (c .before .before .before .before .before .before .before .before .before .count-live .ensures) (c .before .before .before .before .before .before .before .before .width .ensures) (start .pre .0) (start .pre .1)))
 
 returns : tie.Need-returns
-returns c = laid-reply (sym (entries-begin (c .before .before .before .before .before .before .before .before .before .before .before .before .before .args .time) (now (c .before .before .before .before .before .before .before .before .before .before .before .before .before .args .bytes)) (now (c .before .before .before .before .before .before .before .before .before .before .before .before .before .args .key)) (c .before .before .before .before .before .before .before .before .before .before .before .before .before .args .listing) (c .before .before .before .before .before .before .before .before .before .count-live .ensures) (c .before .before .before .before .before .before .before .before .width .ensures))) (laid-tail (c .before .before .before .before .before .before .put-header .ensures) (c .before .before .put-listed .ensures))
+returns c = laid-reply (sym (entries-begin _ _ _ _ (c .before .before .before .before .before .before .before .before .before .count-live .ensures) (c .before .before .before .before .before .before .before .before .width .ensures))) (laid-tail (c .before .before .before .before .before .before .put-header .ensures) (c .before .before .put-listed .ensures))
 
 pub put-list-spec : {M : Type 1} → statement M
 put-list-spec =
     tie.close
     (tie.spec
-    count-live-requires
-    width-requires
+    (λ c κs. search needs)
+    (λ c κs. search needs)
     mul-put-header
     put-header-requires
     sub-put-listed
     part-put-listed-start
-    part-put-listed-end
+    (λ c. search needs)
     put-listed-requires
     add-result
-    same-length
+    (λ c. search needs)
     returns)

@@ -1,44 +1,28 @@
 use mathlib.Core.Path.{sym, _∙_}
-use denote.Ref.{now}
 use Rattle.commands.proofs.Acts.{found-slot}
-use Rattle.commands.proofs.Kept.{removes-nothing, removes-one}
+use Rattle.commands.proofs.ListedSlots.{removes-nothing, removes-one}
 use borrow.Author.Needs.{needs}
 use Rattle.commands.proofs.key.remove_field.Statement.{statement}
 use Rattle.commands.proofs.key.remove_field.Tie as tie
 
-named-requires : tie.Need-named-requires
-named-requires c κs = search needs
-
-enum-known-found : tie.Need-enum-known-found
-enum-known-found c = search needs
-
-enum-told : tie.Need-enum-told
-enum-told c = search needs
-
-same-length : tie.Need-same-length
-same-length c = search needs
-
 returns : tie.Need-returns
-returns c = removes-nothing (now (c .before .before .before .before .before .before .before .args .key)) (now (c .before .before .before .before .before .before .before .args .field)) (now (c .before .before .before .before .before .before .before .args .bytes)) (c .before .before .before .before .before .before .before .pre) (sym (c .enum-told .given .1) ∙ c .before .before .named .ensures)
+returns c = removes-nothing _ _ _ (c .before .before .before .before .before .before .before .pre) (c .before .before .named .ensures) (c .enum-told .given .1)
 
 remove-requires : tie.Need-remove-requires
-remove-requires c κs = found-slot (now (c .before .before .before .before .before .before .before .before .before .args .bytes)) (c .before .before .before .before .before .before .before .before .before .pre) (now (c .before .before .before .before .before .before .before .before .before .args .key)) (now (c .before .before .before .before .before .before .before .before .before .args .field)) (c .before .before .found .given .0 .0) (sym (c .before .before .found .given .1) ∙ c .before .before .before .before .named .ensures)
-
-same-length-2 : tie.Need-same-length-2
-same-length-2 c = search needs
+remove-requires c κs = found-slot _ (c .before .before .before .before .before .before .before .before .before .pre) _ _ _ (sym (c .before .before .found .given .1) ∙ c .before .before .before .before .named .ensures)
 
 returns-2 : tie.Need-returns-2
-returns-2 c = removes-one (now (c .before .before .before .before .before .before .before .before .before .before .before .before .args .key)) (now (c .before .before .before .before .before .before .before .before .before .before .before .before .args .field)) (now (c .before .before .before .before .before .before .before .before .before .before .before .before .args .bytes)) (c .before .before .before .before .before .before .before .before .before .before .before .before .pre) (c .before .before .before .before .before .found .given .0 .0) (sym (c .before .before .before .before .before .found .given .1) ∙ c .before .before .before .before .before .before .before .named .ensures) (c .before .before .remove .ensures)
+returns-2 c = removes-one _ _ _ (c .before .before .before .before .before .before .before .before .before .before .before .before .pre) (c .before .before .before .before .before .before .before .named .ensures) (c .before .before .before .before .before .found .given .1) (c .before .before .remove .ensures)
 
 pub remove-field-spec : {M : Type 1} → statement M
 remove-field-spec =
     tie.close
     (tie.spec
-    named-requires
-    enum-known-found
-    enum-told
-    same-length
+    (λ c κs. search needs)
+    (λ c. search needs)
+    (λ c. search needs)
+    (λ c. search needs)
     returns
     remove-requires
-    same-length-2
+    (λ c. search needs)
     returns-2)

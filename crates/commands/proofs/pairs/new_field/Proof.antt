@@ -5,12 +5,6 @@ use borrow.Author.Needs.{needs}
 use Rattle.commands.proofs.pairs.new_field.Statement.{statement}
 use Rattle.commands.proofs.pairs.new_field.Tie as tie
 
-enum-told : tie.Need-enum-told
-enum-told c = search needs
-
-enum-told-2 : tie.Need-enum-told-2
-enum-told-2 c = search needs
-
 returns : tie.Need-returns
 unfolding newField
 returns c = rw (c .enum-told2 .given .1) refl
@@ -24,4 +18,6 @@ unfolding newField
 returns-3 c = rw (c .before .enum-told .given .1, ne-eqb _ _ (c .if1 .left)) refl
 
 pub new-field-spec : {M : Type 1} → statement M
-new-field-spec = tie.close (tie.spec enum-told enum-told-2 returns returns-2 returns-3)
+new-field-spec =
+    tie.close
+    (tie.spec (λ c. search needs) (λ c. search needs) returns returns-2 returns-3)

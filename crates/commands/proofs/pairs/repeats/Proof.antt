@@ -1,60 +1,55 @@
 -- What is left does the same; the measure is how many words are left.
-use mathlib.Core.Path.{_≡_, sym, ap, _∙_}
+use mathlib.Core.Path.{_≡_}
 use mathlib.Core.Logic.{⊎-elim}
-use Prim.Native.Nat.{_+_, _-_}
+use Prim.Native.Nat.{_+_, _-_, _≤_}
 use native.Mathlib.Omega.{arith}
 use denote.Ref.{now}
-use lib.ListN.{drop}
-use Rattle.wire.specs.Words.{Word, wordAt}
+use lib.ListN.{length}
+use Rattle.wire.specs.Words.{wordsMost, wordAt}
 use Rattle.wire.specs.Promises.{wordsIn}
-use Rattle.commands.specs.Promises.{fieldsIn, timesIn}
-use Rattle.commands.proofs.WordPlaces.{length-words}
-use Rattle.commands.proofs.PairLoops.{Repeating, repeating-hit, repeating-skip, repeating-ends, next-named, none-named}
+use Rattle.commands.proofs.FieldLoops.{wordsFrom}
+use Rattle.commands.proofs.PairLoops.{namedFrom, next-named, none-named, few-named, Repeating, repeating-few, repeating-hit, repeating-skip, repeating-ends}
 use Rattle.commands.proofs.pairs.repeats.Statement.{statement}
 use Rattle.commands.proofs.pairs.repeats.Tie as tie
 
 abbrev Inv-loop : tie.InvT-loop
-Inv-loop command starts sizes count i field n₀ j₀ n j = Repeating field (fieldsIn (drop j (wordsIn count command starts sizes))) (timesIn field (fieldsIn (drop (i + 2) (wordsIn count command starts sizes)))) n j × (field ≡ wordAt i (wordsIn count command starts sizes))
+Inv-loop command pairs i field n₀ j₀ n j =
+    Repeating field (namedFrom command pairs (i + 2)) (namedFrom command pairs j) n × (j ≤ wordsMost) × (field ≡ wordAt i (wordsIn command pairs))
 
 abbrev μ-loop : tie.MeasureT-loop
-μ-loop command starts sizes count i field n₀ j₀ n j = count - j
-
-word-requires : tie.Need-word-requires Inv-loop μ-loop
-word-requires c κs = c .before .before .before .pre .0
+μ-loop command pairs i field n₀ j₀ n j = length pairs - j
 
 add-j : tie.Need-add-j Inv-loop μ-loop
-add-j c = omega (arith, c .before .before .before .before .pre .1, c .before .before .before .before .pre .0 .most)
+add-j c =
+    let start = c .before .before in
+    omega (arith, start .pre .1, start .pre .0 .most)
 
 loop-holds : tie.Need-loop-holds Inv-loop μ-loop
-loop-holds c = (record { sum = omega arith; most = omega arith; near = omega (arith, c .before .before .before .before .pre .1, c .before .before .before .before .pre .0 .most) }, c .word .ensures)
-
-add-loop : tie.Need-add-loop Inv-loop μ-loop
-add-loop c = omega (arith, c .loop .inv .0 .near)
-
-word-requires-2 : tie.Need-word-requires-2 Inv-loop μ-loop
-word-requires-2 c κs = c .before .before .before .before .before .before .pre .0
-
-equal-requires : tie.Need-equal-requires Inv-loop μ-loop
-equal-requires c κs = tt
+loop-holds c =
+    let start = c .before .before in
+    (record { sum = omega arith }, omega (arith, start .pre .1, start .pre .0 .most), c .word .ensures)
 
 add-n : tie.Need-add-n Inv-loop μ-loop
-add-n c = omega (arith, c .before .before .before .before .loop .inv .0 .near, c .before .before .before .before .loop .inv .0 .most)
-
-add-j-2 : tie.Need-add-j-2 Inv-loop μ-loop
-add-j-2 c = omega (arith, c .before .before .before .before .loop .inv .0 .near)
-
-loop-less : tie.Need-loop-less Inv-loop μ-loop
-loop-less c = omega arith
+add-n c =
+    let start = c .before .before .before .before .before .before .before in
+    let a = start .args in
+    omega (arith, repeating-few (c .before .before .before .before .loop .inv .0), few-named (now (a .command)) (now (a .pairs)) (a .i + 2) (start .pre .0))
 
 loop-again : tie.Need-loop-again Inv-loop μ-loop
 loop-again c =
+    let loop = c .before .before .before .before .loop in
+    let loop-test = c .before .before .before .loop-test in
+    let now = loop .inv in
+    let next = next-named _ _ _ (loop-test .taken) (c .before .before .word2 .ensures) in
+    let near : loop .j + 2 ≤ wordsMost = omega (arith, loop-test .taken, c .before .before .before .before .before .before .before .pre .0 .most) in
     ⊎-elim
-    (λ w. rw (w .1) (repeating-hit (c .before .before .before .before .loop .inv .0) (c .before .before .before .before .before .before .before .before .before .pre .0 .most) (c .before .before .before .loop-test .taken) (next-named (wordsIn (c .before .before .before .before .before .before .before .before .before .args .count) (now (c .before .before .before .before .before .before .before .before .before .args .command)) (now (c .before .before .before .before .before .before .before .before .before .args .starts)) (now (c .before .before .before .before .before .before .before .before .before .args .sizes))) (c .before .before .before .before .loop .j) (length-words _ _ _ _) (c .before .before .before .loop-test .taken) (c .before .before .word2 .ensures)) (sym (c .before .equal .ensures) ∙ w .0 .taken), c .before .before .before .before .loop .inv .1))
-    (λ w. rw (w .1) (repeating-skip (c .before .before .before .before .loop .inv .0) (c .before .before .before .before .before .before .before .before .before .pre .0 .most) (c .before .before .before .loop-test .taken) (next-named (wordsIn (c .before .before .before .before .before .before .before .before .before .args .count) (now (c .before .before .before .before .before .before .before .before .before .args .command)) (now (c .before .before .before .before .before .before .before .before .before .args .starts)) (now (c .before .before .before .before .before .before .before .before .before .args .sizes))) (c .before .before .before .before .loop .j) (length-words _ _ _ _) (c .before .before .before .loop-test .taken) (c .before .before .word2 .ensures)) (sym (c .before .equal .ensures) ∙ w .0 .left), c .before .before .before .before .loop .inv .1))
+    (λ w. rw (w .1) (repeating-hit (now .0) next (c .before .equal .ensures) (w .0 .taken), near, now .2))
+    (λ w. rw (w .1) (repeating-skip (now .0) next (c .before .equal .ensures) (w .0 .left), near, now .2))
     (c .if1 .came)
 
 returns : tie.Need-returns Inv-loop μ-loop
-returns c = repeating-ends (c .before .loop .inv .0) (none-named (wordsIn (c .before .before .before .before .before .before .args .count) (now (c .before .before .before .before .before .before .args .command)) (now (c .before .before .before .before .before .before .args .starts)) (now (c .before .before .before .before .before .before .args .sizes))) (c .before .loop .j) (length-words _ _ _ _) (c .loop-test .left)) ∙ ap (λ (f : Word). timesIn f (fieldsIn (drop (c .before .before .before .before .before .before .args .i + 2) (wordsIn (c .before .before .before .before .before .before .args .count) (now (c .before .before .before .before .before .before .args .command)) (now (c .before .before .before .before .before .before .args .starts)) (now (c .before .before .before .before .before .before .args .sizes)))))) (c .before .loop .inv .1)
+unfolding wordsFrom namedFrom
+returns c = rw (← (c .before .loop .inv .2)) (repeating-ends (c .before .loop .inv .0) (none-named _ _ _ (c .loop-test .left)))
 
 pub repeats-spec : {M : Type 1} → statement M
 repeats-spec =
@@ -62,14 +57,14 @@ repeats-spec =
     (tie.spec
     Inv-loop
     μ-loop
-    word-requires
+    (λ c κs. c .before .pre .0)
     add-j
     loop-holds
-    add-loop
-    word-requires-2
-    equal-requires
+    (λ c. omega (arith, c .loop .inv .1))
+    (λ c κs. c .before .before .before .before .pre .0)
+    (λ c κs. tt)
     add-n
-    add-j-2
-    loop-less
+    (λ c. omega (arith, c .before .before .before .before .loop .inv .1))
+    (λ c. omega arith)
     loop-again
     returns)

@@ -1,102 +1,75 @@
-use mathlib.Core.Path.{sym, _∙_}
+use Prim.Native.Nat.{_≤_}
 use native.Mathlib.Omega.{arith}
 use denote.Ref.{now}
-use lib.ListN.{drop}
+use lib.ListN.{length}
 use Rattle.wire.specs.Bytes.{text}
+use Rattle.wire.specs.Words.{wordsMost}
 use Rattle.wire.specs.Reply.{line}
 use Rattle.wire.specs.Promises.{wordsIn}
-use Rattle.store.specs.Store.{decode}
-use Rattle.commands.specs.Parse.{pairsOf}
+use Rattle.wire.proofs.Cursor.{length-words}
 use Rattle.commands.specs.Execute.{room}
-use Rattle.commands.specs.Promises.{fieldsIn}
-use Rattle.commands.proofs.WordPlaces.{length-words}
-use Rattle.commands.proofs.Deeds.{known-late, may-refuse}
-use Rattle.commands.proofs.PairLoops.{few-pairs, many-over, many-full, many-placing, many-done}
+use Rattle.commands.proofs.FieldDeeds.{known-late, may-refuse}
+use Rattle.commands.proofs.PairsDone.{many-over, many-full, many-placing, many-done}
 use borrow.Author.Needs.{needs}
 use Rattle.commands.proofs.pairs.set_many.Statement.{statement}
 use Rattle.commands.proofs.pairs.set_many.Tie as tie
 
-sweep-pairs-requires : tie.Need-sweep-pairs-requires
-sweep-pairs-requires c κs = search needs
-
-survey-pairs-requires : tie.Need-survey-pairs-requires
-survey-pairs-requires c κs = search needs
-
-enum-known-survey : tie.Need-enum-known-survey
-enum-known-survey c = search needs
-
-enum-told : tie.Need-enum-told
-enum-told c = search needs
-
 put-error-requires : tie.Need-put-error-requires
-put-error-requires c κs = may-refuse 23 (known-late .3) (omega (arith, c .before .before .before .before .before .before .before .before .before .before .before .before .before .before .before .pre .3))
-
-same-length : tie.Need-same-length
-same-length c = search needs
-
-same-length-2 : tie.Need-same-length-2
-same-length-2 c = search needs
+put-error-requires c κs = may-refuse 23 (known-late .3) (omega (arith, c .before .before .before .before .before .before .before .before .before .before .before .before .before .pre .0 .room))
 
 returns : tie.Need-returns
-unfolding fieldsIn
-returns c = many-over (c .before .before .before .before .before .before .before .before .before .before .before .before .before .before .before .before .before .before .args .time) (now (c .before .before .before .before .before .before .before .before .before .before .before .before .before .before .before .before .before .before .args .key)) (pairsOf (drop 2 (wordsIn (c .before .before .before .before .before .before .before .before .before .before .before .before .before .before .before .before .before .before .args .count) (now (c .before .before .before .before .before .before .before .before .before .before .before .before .before .before .before .before .before .before .args .command)) (now (c .before .before .before .before .before .before .before .before .before .before .before .before .before .before .before .before .before .before .args .starts)) (now (c .before .before .before .before .before .before .before .before .before .before .before .before .before .before .before .before .before .before .args .sizes))))) (decode (now (c .before .before .before .before .before .before .before .before .before .before .before .before .before .before .before .before .before .before .args .bytes))) (few-pairs (wordsIn (c .before .before .before .before .before .before .before .before .before .before .before .before .before .before .before .before .before .before .args .count) (now (c .before .before .before .before .before .before .before .before .before .before .before .before .before .before .before .before .before .before .args .command)) (now (c .before .before .before .before .before .before .before .before .before .before .before .before .before .before .before .before .before .before .args .starts)) (now (c .before .before .before .before .before .before .before .before .before .before .before .before .before .before .before .before .before .before .args .sizes))) (rw length-words (c .before .before .before .before .before .before .before .before .before .before .before .before .before .before .before .before .before .before .pre .0 .most))) (c .before .before .before .before .before .before .before .before .before .before .sweep-pairs .ensures) (sym (c .before .before .before .before .enum-told .given .1) ∙ c .before .before .before .before .before .before .survey-pairs .ensures) (c .before .before .put-error .ensures)
-
-room-requires : tie.Need-room-requires
-room-requires c κs = search needs
+returns c =
+    let start = c .before .before .before .before .before .before .before .before .before .before .before .before .before .before .before .before in
+    let ws = wordsIn (now (start .args .command)) (now (start .args .pairs)) in
+    let few : length ws ≤ wordsMost = rw length-words (start .pre .0 .inside .most) in
+    many-over _ _ ws _ (c .before .before .before .before .before .before .before .before .before .before .sweep-pairs .ensures) few (c .before .before .before .before .before .before .survey-pairs .ensures) (c .before .before .before .before .enum-told .given .1) (c .before .before .put-error .ensures)
 
 put-error-requires-2 : tie.Need-put-error-requires-2
-put-error-requires-2 c κs = may-refuse 24 (known-late .4) (omega (arith, c .before .before .before .before .before .before .before .before .before .before .before .before .before .before .before .before .before .before .before .pre .3))
-
-same-length-3 : tie.Need-same-length-3
-same-length-3 c = search needs
-
-same-length-4 : tie.Need-same-length-4
-same-length-4 c = search needs
+put-error-requires-2 c κs = may-refuse 24 (known-late .4) (omega (arith, c .before .before .before .before .before .before .before .before .before .before .before .before .before .before .before .before .before .pre .0 .room))
 
 returns-2 : tie.Need-returns-2
-unfolding fieldsIn room
-returns-2 c = many-full (c .before .before .before .before .before .before .before .before .before .before .before .before .before .before .before .before .before .before .before .before .before .before .args .time) (now (c .before .before .before .before .before .before .before .before .before .before .before .before .before .before .before .before .before .before .before .before .before .before .args .key)) (pairsOf (drop 2 (wordsIn (c .before .before .before .before .before .before .before .before .before .before .before .before .before .before .before .before .before .before .before .before .before .before .args .count) (now (c .before .before .before .before .before .before .before .before .before .before .before .before .before .before .before .before .before .before .before .before .before .before .args .command)) (now (c .before .before .before .before .before .before .before .before .before .before .before .before .before .before .before .before .before .before .before .before .before .before .args .starts)) (now (c .before .before .before .before .before .before .before .before .before .before .before .before .before .before .before .before .before .before .before .before .before .before .args .sizes))))) (decode (now (c .before .before .before .before .before .before .before .before .before .before .before .before .before .before .before .before .before .before .before .before .before .before .args .bytes))) (few-pairs (wordsIn (c .before .before .before .before .before .before .before .before .before .before .before .before .before .before .before .before .before .before .before .before .before .before .args .count) (now (c .before .before .before .before .before .before .before .before .before .before .before .before .before .before .before .before .before .before .before .before .before .before .args .command)) (now (c .before .before .before .before .before .before .before .before .before .before .before .before .before .before .before .before .before .before .before .before .before .before .args .starts)) (now (c .before .before .before .before .before .before .before .before .before .before .before .before .before .before .before .before .before .before .before .before .before .before .args .sizes))) (rw length-words (c .before .before .before .before .before .before .before .before .before .before .before .before .before .before .before .before .before .before .before .before .before .before .pre .0 .most))) (c .before .before .before .before .before .before .before .before .before .before .before .before .before .before .sweep-pairs .ensures) (sym (c .before .before .before .before .before .before .before .before .survey .given .1) ∙ c .before .before .before .before .before .before .before .before .before .before .survey-pairs .ensures) (c .before .before .before .before .before .room .ensures) (c .before .before .before .before .if1 .taken) (c .before .before .put-error2 .ensures)
+unfolding room
+returns-2 c =
+    let start = c .before .before .before .before .before .before .before .before .before .before .before .before .before .before .before .before .before .before .before .before in
+    let ws = wordsIn (now (start .args .command)) (now (start .args .pairs)) in
+    let few : length ws ≤ wordsMost = rw length-words (start .pre .0 .inside .most) in
+    many-full _ _ ws _ (c .before .before .before .before .before .before .before .before .before .before .before .before .before .before .sweep-pairs .ensures) few (c .before .before .before .before .before .before .before .before .before .before .survey-pairs .ensures) (c .before .before .before .before .before .before .before .before .survey .given .1) (c .before .before .before .before .before .room .ensures) (c .before .before .before .before .if1 .taken) (c .before .before .put-error2 .ensures)
 
 place-pairs-requires : tie.Need-place-pairs-requires
-unfolding fieldsIn
-place-pairs-requires c κs = (c .before .before .before .before .before .before .before .before .before .before .before .before .before .before .before .before .before .before .before .pre .0, many-placing (c .before .before .before .before .before .before .before .before .before .before .before .before .before .before .before .before .before .before .before .args .time) (now (c .before .before .before .before .before .before .before .before .before .before .before .before .before .before .before .before .before .before .before .args .key)) (pairsOf (drop 2 (wordsIn (c .before .before .before .before .before .before .before .before .before .before .before .before .before .before .before .before .before .before .before .args .count) (now (c .before .before .before .before .before .before .before .before .before .before .before .before .before .before .before .before .before .before .before .args .command)) (now (c .before .before .before .before .before .before .before .before .before .before .before .before .before .before .before .before .before .before .before .args .starts)) (now (c .before .before .before .before .before .before .before .before .before .before .before .before .before .before .before .before .before .before .before .args .sizes))))) (decode (now (c .before .before .before .before .before .before .before .before .before .before .before .before .before .before .before .before .before .before .before .args .bytes))) (few-pairs (wordsIn (c .before .before .before .before .before .before .before .before .before .before .before .before .before .before .before .before .before .before .before .args .count) (now (c .before .before .before .before .before .before .before .before .before .before .before .before .before .before .before .before .before .before .before .args .command)) (now (c .before .before .before .before .before .before .before .before .before .before .before .before .before .before .before .before .before .before .before .args .starts)) (now (c .before .before .before .before .before .before .before .before .before .before .before .before .before .before .before .before .before .before .before .args .sizes))) (rw length-words (c .before .before .before .before .before .before .before .before .before .before .before .before .before .before .before .before .before .before .before .pre .0 .most))) (c .before .before .before .before .before .before .before .before .before .before .before .sweep-pairs .ensures) (sym (c .before .before .before .before .before .survey .given .1) ∙ c .before .before .before .before .before .before .before .survey-pairs .ensures) (c .before .before .before .before .before .before .before .before .before .before .before .before .before .before .before .before .before .before .before .pre .2))
-
-slice-aggregate-put-line : tie.Need-slice-aggregate-put-line
-slice-aggregate-put-line c = search needs
-
-put-line-requires : tie.Need-put-line-requires
-put-line-requires c κs = search needs
-
-same-length-5 : tie.Need-same-length-5
-same-length-5 c = search needs
-
-same-length-6 : tie.Need-same-length-6
-same-length-6 c = search needs
+place-pairs-requires c κs =
+    let start = c .before .before .before .before .before .before .before .before .before .before .before .before .before .before .before .before .before in
+    let ws = wordsIn (now (start .args .command)) (now (start .args .pairs)) in
+    let few : length ws ≤ wordsMost = rw length-words (start .pre .0 .inside .most) in
+    (start .pre .0 .inside, many-placing _ _ ws _ (c .before .before .before .before .before .before .before .before .before .before .before .sweep-pairs .ensures) few (c .before .before .before .before .before .before .before .survey-pairs .ensures) (c .before .before .before .before .before .survey .given .1) (start .pre .1))
 
 returns-3 : tie.Need-returns-3
-unfolding fieldsIn room line text
-returns-3 c = many-done (c .before .before .before .before .before .before .before .before .before .before .before .before .before .before .before .before .before .before .before .before .before .before .before .before .before .before .before .args .time) (now (c .before .before .before .before .before .before .before .before .before .before .before .before .before .before .before .before .before .before .before .before .before .before .before .before .before .before .before .args .key)) (pairsOf (drop 2 (wordsIn (c .before .before .before .before .before .before .before .before .before .before .before .before .before .before .before .before .before .before .before .before .before .before .before .before .before .before .before .args .count) (now (c .before .before .before .before .before .before .before .before .before .before .before .before .before .before .before .before .before .before .before .before .before .before .before .before .before .before .before .args .command)) (now (c .before .before .before .before .before .before .before .before .before .before .before .before .before .before .before .before .before .before .before .before .before .before .before .before .before .before .before .args .starts)) (now (c .before .before .before .before .before .before .before .before .before .before .before .before .before .before .before .before .before .before .before .before .before .before .before .before .before .before .before .args .sizes))))) (decode (now (c .before .before .before .before .before .before .before .before .before .before .before .before .before .before .before .before .before .before .before .before .before .before .before .before .before .before .before .args .bytes))) (few-pairs (wordsIn (c .before .before .before .before .before .before .before .before .before .before .before .before .before .before .before .before .before .before .before .before .before .before .before .before .before .before .before .args .count) (now (c .before .before .before .before .before .before .before .before .before .before .before .before .before .before .before .before .before .before .before .before .before .before .before .before .before .before .before .args .command)) (now (c .before .before .before .before .before .before .before .before .before .before .before .before .before .before .before .before .before .before .before .before .before .before .before .before .before .before .before .args .starts)) (now (c .before .before .before .before .before .before .before .before .before .before .before .before .before .before .before .before .before .before .before .before .before .before .before .before .before .before .before .args .sizes))) (rw length-words (c .before .before .before .before .before .before .before .before .before .before .before .before .before .before .before .before .before .before .before .before .before .before .before .before .before .before .before .pre .0 .most))) (c .before .before .before .before .before .before .before .before .before .before .before .before .before .before .before .before .before .before .before .sweep-pairs .ensures) (sym (c .before .before .before .before .before .before .before .before .before .before .before .before .before .survey .given .1) ∙ c .before .before .before .before .before .before .before .before .before .before .before .before .before .before .before .survey-pairs .ensures) (c .before .before .before .before .before .before .before .before .before .before .room .ensures) (c .before .before .before .before .before .before .before .before .before .if1 .left) (c .before .before .before .before .before .before .before .place-pairs .ensures) (c .before .before .put-line .ensures)
+unfolding room line text
+returns-3 c =
+    let start = c .before .before .before .before .before .before .before .before .before .before .before .before .before .before .before .before .before .before .before .before .before .before .before .before .before in
+    let ws = wordsIn (now (start .args .command)) (now (start .args .pairs)) in
+    let few : length ws ≤ wordsMost = rw length-words (start .pre .0 .inside .most) in
+    many-done _ _ ws _ (c .before .before .before .before .before .before .before .before .before .before .before .before .before .before .before .before .before .before .before .sweep-pairs .ensures) few (c .before .before .before .before .before .before .before .before .before .before .before .before .before .before .before .survey-pairs .ensures) (c .before .before .before .before .before .before .before .before .before .before .before .before .before .survey .given .1) (c .before .before .before .before .before .before .before .before .before .before .room .ensures) (c .before .before .before .before .before .before .before .before .before .if1 .left) (c .before .before .before .before .before .before .before .place-pairs .ensures) (c .before .before .put-line .ensures)
 
 pub set-many-spec : {M : Type 1} → statement M
 set-many-spec =
     tie.close
     (tie.spec
-    sweep-pairs-requires
-    survey-pairs-requires
-    enum-known-survey
-    enum-told
+    (λ c κs. search needs)
+    (λ c κs. search needs)
+    (λ c. search needs)
+    (λ c. search needs)
     put-error-requires
-    same-length
-    same-length-2
+    (λ c. search needs)
+    (λ c. search needs)
     returns
-    room-requires
+    (λ c κs. search needs)
     put-error-requires-2
-    same-length-3
-    same-length-4
+    (λ c. search needs)
+    (λ c. search needs)
     returns-2
     place-pairs-requires
-    slice-aggregate-put-line
-    put-line-requires
-    same-length-5
-    same-length-6
+    (λ c. search needs)
+    (λ c κs. search needs)
+    (λ c. search needs)
+    (λ c. search needs)
     returns-3)

@@ -1,69 +1,75 @@
 -- What is left does the same; the measure is how many words are left.
-use mathlib.Core.Path.{sym, ap, _∙_}
-use Prim.Native.Nat.{_+_, _-_}
+use mathlib.Core.Path.{refl}
+use Prim.Native.Nat.{_-_, _≤_}
 use native.Mathlib.Omega.{arith}
 use denote.Ref.{now}
-use lib.ListN.{drop}
-use Rattle.wire.specs.Words.{Word, wordAt}
+use lib.ListN.{length}
+use Rattle.wire.specs.Words.{wordsMost}
 use Rattle.wire.specs.Promises.{wordsIn}
 use Rattle.store.specs.Store.{decode}
-use Rattle.commands.specs.Promises.{fieldsIn, timesIn}
-use Rattle.commands.proofs.WordPlaces.{length-words}
-use Rattle.commands.proofs.Deeds.{seen-held}
-use Rattle.commands.proofs.PairLoops.{Surveying, surveying-begins, surveying-few, surveying-ends, surveying-over, surveying-on, next-named, none-named, few-named, few-times, version-seen, version-most}
+use Rattle.commands.specs.Promises.{fieldsIn}
+use Rattle.commands.proofs.FieldDeeds.{sought-held, held-at-most}
+use Rattle.commands.proofs.FieldLoops.{wordsFrom}
+use Rattle.commands.proofs.PairLoops.{namedFrom, next-named, none-named, few-fields, again-is, again-few, version-sought, Surveying, surveying-few, surveying-ends, surveying-over, surveying-on}
 use Rattle.commands.proofs.pairs.survey_pairs.Statement.{statement}
 use Rattle.commands.proofs.pairs.survey_pairs.Tie as tie
 
 abbrev Inv-loop : tie.InvT-loop
-Inv-loop command starts sizes count bytes key n₀ i₀ n i = Surveying key (fieldsIn (drop 2 (wordsIn count command starts sizes))) (fieldsIn (drop i (wordsIn count command starts sizes))) (decode bytes .slots) n i
+Inv-loop command pairs bytes key n₀ i₀ n i =
+    Surveying key (fieldsIn (wordsIn command pairs)) (namedFrom command pairs i) (decode bytes .slots) n × (i ≤ wordsMost)
 
 abbrev μ-loop : tie.MeasureT-loop
-μ-loop command starts sizes count bytes key n₀ i₀ n i = count - i
+μ-loop command pairs bytes key n₀ i₀ n i = length pairs - i
 
 loop-holds : tie.Need-loop-holds Inv-loop μ-loop
-loop-holds c = surveying-begins _ _ _
-
-add-loop : tie.Need-add-loop Inv-loop μ-loop
-add-loop c = omega (arith, c .loop .inv .near)
-
-word-requires : tie.Need-word-requires Inv-loop μ-loop
-word-requires c κs = c .before .before .before .before .before .before .before .pre .0
-
-named-requires : tie.Need-named-requires Inv-loop μ-loop
-named-requires c κs = c .before .before .before .before .before .before .before .before .pre .1
+unfolding wordsFrom namedFrom
+loop-holds c = (record { sum = omega arith; same = refl }, omega arith)
 
 repeats-requires : tie.Need-repeats-requires Inv-loop μ-loop
-repeats-requires c κs = (c .before .before .before .before .before .before .before .before .before .pre .0, c .before .before .loop-test .taken)
+repeats-requires c κs = (c .before .before .before .before .before .before .before .pre .0, c .before .before .loop-test .taken)
 
 held-version-requires : tie.Need-held-version-requires Inv-loop μ-loop
-held-version-requires c κs = seen-held (record { well = c .before .before .before .before .before .before .before .before .before .before .pre .1; looked = c .before .named .ensures })
+held-version-requires c κs = sought-held (record { well = c .before .before .before .before .before .before .before .before .pre .1; looked = c .before .named .ensures })
 
 add-if1 : tie.Need-add-if1 Inv-loop μ-loop
-add-if1 c = omega (arith, c .before .repeats .ensures, few-times (wordAt (c .before .before .before .before .before .loop .i) (wordsIn (c .before .before .before .before .before .before .before .before .before .before .before .args .count) (now (c .before .before .before .before .before .before .before .before .before .before .before .args .command)) (now (c .before .before .before .before .before .before .before .before .before .before .before .args .starts)) (now (c .before .before .before .before .before .before .before .before .before .before .before .args .sizes)))) (c .before .before .before .before .before .loop .i + 2) (wordsIn (c .before .before .before .before .before .before .before .before .before .before .before .args .count) (now (c .before .before .before .before .before .before .before .before .before .before .before .args .command)) (now (c .before .before .before .before .before .before .before .before .before .before .before .args .starts)) (now (c .before .before .before .before .before .before .before .before .before .before .before .args .sizes))) (rw length-words (c .before .before .before .before .before .before .before .before .before .before .before .pre .0 .most)))
+add-if1 c = omega (arith, again-few _ _ _ (c .before .before .before .word .ensures) (c .before .repeats .ensures) (c .before .before .before .before .before .before .before .before .before .pre .0))
 
 add-if1-2 : tie.Need-add-if1-2 Inv-loop μ-loop
-add-if1-2 c = omega (arith, c .before .repeats .ensures, few-times (wordAt (c .before .before .before .before .before .loop .i) (wordsIn (c .before .before .before .before .before .before .before .before .before .before .before .args .count) (now (c .before .before .before .before .before .before .before .before .before .before .before .args .command)) (now (c .before .before .before .before .before .before .before .before .before .before .before .args .starts)) (now (c .before .before .before .before .before .before .before .before .before .before .before .args .sizes)))) (c .before .before .before .before .before .loop .i + 2) (wordsIn (c .before .before .before .before .before .before .before .before .before .before .before .args .count) (now (c .before .before .before .before .before .before .before .before .before .before .before .args .command)) (now (c .before .before .before .before .before .before .before .before .before .before .before .args .starts)) (now (c .before .before .before .before .before .before .before .before .before .before .before .args .sizes))) (rw length-words (c .before .before .before .before .before .before .before .before .before .before .before .pre .0 .most)), (version-seen (record { well = c .before .before .before .before .before .before .before .before .before .before .before .pre .1; looked = c .before .before .named .ensures }) (c .held-version .ensures)), version-most (now (c .before .before .before .before .before .before .before .before .before .before .before .args .bytes)) (now (c .before .before .before .before .before .before .before .before .before .before .before .args .key)) (now (c .before .before .before .word .result)) (c .before .before .before .before .before .before .before .before .before .before .before .pre .1))
+add-if1-2 c =
+    let start = c .before .before .before .before .before .before .before .before .before in
+    omega (arith, again-few _ _ _ (c .before .before .before .word .ensures) (c .before .repeats .ensures) (start .pre .0), held-at-most (sought-held (record { well = start .pre .1; looked = c .before .before .named .ensures })) (c .held-version .ensures))
 
 returns : tie.Need-returns Inv-loop μ-loop
-returns c = surveying-over (c .before .before .before .before .before .before .loop .inv) (next-named (wordsIn (c .before .before .before .before .before .before .before .before .before .before .before .before .args .count) (now (c .before .before .before .before .before .before .before .before .before .before .before .before .args .command)) (now (c .before .before .before .before .before .before .before .before .before .before .before .before .args .starts)) (now (c .before .before .before .before .before .before .before .before .before .before .before .before .args .sizes))) (c .before .before .before .before .before .before .loop .i) (length-words _ _ _ _) (c .before .before .before .before .before .loop-test .taken) (c .before .before .before .before .word .ensures)) (version-seen (record { well = c .before .before .before .before .before .before .before .before .before .before .before .before .pre .1; looked = c .before .before .before .named .ensures }) (c .before .held-version .ensures)) (c .before .before .repeats .ensures ∙ ap (λ (f : Word). timesIn f (fieldsIn (drop (c .before .before .before .before .before .before .loop .i + 2) (wordsIn (c .before .before .before .before .before .before .before .before .before .before .before .before .args .count) (now (c .before .before .before .before .before .before .before .before .before .before .before .before .args .command)) (now (c .before .before .before .before .before .before .before .before .before .before .before .before .args .starts)) (now (c .before .before .before .before .before .before .before .before .before .before .before .before .args .sizes)))))) (sym (c .before .before .before .before .word .ensures))) (c .if1 .taken)
-
-new-field-requires : tie.Need-new-field-requires Inv-loop μ-loop
-new-field-requires c κs = tt
+returns c =
+    let word = c .before .before .before .before .word in
+    let next = next-named _ _ _ (c .before .before .before .before .before .loop-test .taken) (word .ensures) in
+    let held = version-sought (record { well = c .before .before .before .before .before .before .before .before .before .before .pre .1; looked = c .before .before .before .named .ensures }) (c .before .held-version .ensures) in
+    let again = again-is _ _ _ (word .ensures) (c .before .before .repeats .ensures) in
+    surveying-over (c .before .before .before .before .before .before .loop .inv .0) next held again (c .if1 .taken)
 
 add-n : tie.Need-add-n Inv-loop μ-loop
-add-n c = omega (arith, surveying-few (surveying-on (c .before .before .before .before .before .before .before .loop .inv) (next-named (wordsIn (c .before .before .before .before .before .before .before .before .before .before .before .before .before .args .count) (now (c .before .before .before .before .before .before .before .before .before .before .before .before .before .args .command)) (now (c .before .before .before .before .before .before .before .before .before .before .before .before .before .args .starts)) (now (c .before .before .before .before .before .before .before .before .before .before .before .before .before .args .sizes))) (c .before .before .before .before .before .before .before .loop .i) (length-words _ _ _ _) (c .before .before .before .before .before .before .loop-test .taken) (c .before .before .before .before .before .word .ensures)) (version-seen (record { well = c .before .before .before .before .before .before .before .before .before .before .before .before .before .pre .1; looked = c .before .before .before .before .named .ensures }) (c .before .before .held-version .ensures)) (c .before .before .before .repeats .ensures ∙ ap (λ (f : Word). timesIn f (fieldsIn (drop (c .before .before .before .before .before .before .before .loop .i + 2) (wordsIn (c .before .before .before .before .before .before .before .before .before .before .before .before .before .args .count) (now (c .before .before .before .before .before .before .before .before .before .before .before .before .before .args .command)) (now (c .before .before .before .before .before .before .before .before .before .before .before .before .before .args .starts)) (now (c .before .before .before .before .before .before .before .before .before .before .before .before .before .args .sizes)))))) (sym (c .before .before .before .before .before .word .ensures))) (c .before .if1 .left) (omega (arith, c .before .before .before .before .before .before .loop-test .taken, c .before .before .before .before .before .before .before .before .before .before .before .before .before .pre .0 .most)) (c .before .before .before .before .named .ensures) (c .new-field .ensures)), few-named (wordsIn (c .before .before .before .before .before .before .before .before .before .before .before .before .before .args .count) (now (c .before .before .before .before .before .before .before .before .before .before .before .before .before .args .command)) (now (c .before .before .before .before .before .before .before .before .before .before .before .before .before .args .starts)) (now (c .before .before .before .before .before .before .before .before .before .before .before .before .before .args .sizes))) (rw length-words (c .before .before .before .before .before .before .before .before .before .before .before .before .before .pre .0 .most)))
-
-add-i : tie.Need-add-i Inv-loop μ-loop
-add-i c = omega (arith, c .before .before .before .before .before .before .before .loop .inv .near)
-
-loop-less : tie.Need-loop-less Inv-loop μ-loop
-loop-less c = omega arith
+add-n c =
+    let start = c .before .before .before .before .before .before .before .before .before .before .before in
+    let word = c .before .before .before .before .before .word in
+    let named = c .before .before .before .before .named in
+    let next = next-named _ _ _ (c .before .before .before .before .before .before .loop-test .taken) (word .ensures) in
+    let held = version-sought (record { well = start .pre .1; looked = named .ensures }) (c .before .before .held-version .ensures) in
+    let again = again-is _ _ _ (word .ensures) (c .before .before .before .repeats .ensures) in
+    omega (arith, surveying-few (surveying-on (c .before .before .before .before .before .before .before .loop .inv .0) next held again (c .before .if1 .left) (named .ensures) (c .new-field .ensures)), few-fields (now (start .args .command)) (now (start .args .pairs)) (start .pre .0))
 
 loop-again : tie.Need-loop-again Inv-loop μ-loop
-loop-again c = surveying-on (c .before .before .before .before .before .before .before .loop .inv) (next-named (wordsIn (c .before .before .before .before .before .before .before .before .before .before .before .before .before .args .count) (now (c .before .before .before .before .before .before .before .before .before .before .before .before .before .args .command)) (now (c .before .before .before .before .before .before .before .before .before .before .before .before .before .args .starts)) (now (c .before .before .before .before .before .before .before .before .before .before .before .before .before .args .sizes))) (c .before .before .before .before .before .before .before .loop .i) (length-words _ _ _ _) (c .before .before .before .before .before .before .loop-test .taken) (c .before .before .before .before .before .word .ensures)) (version-seen (record { well = c .before .before .before .before .before .before .before .before .before .before .before .before .before .pre .1; looked = c .before .before .before .before .named .ensures }) (c .before .before .held-version .ensures)) (c .before .before .before .repeats .ensures ∙ ap (λ (f : Word). timesIn f (fieldsIn (drop (c .before .before .before .before .before .before .before .loop .i + 2) (wordsIn (c .before .before .before .before .before .before .before .before .before .before .before .before .before .args .count) (now (c .before .before .before .before .before .before .before .before .before .before .before .before .before .args .command)) (now (c .before .before .before .before .before .before .before .before .before .before .before .before .before .args .starts)) (now (c .before .before .before .before .before .before .before .before .before .before .before .before .before .args .sizes)))))) (sym (c .before .before .before .before .before .word .ensures))) (c .before .if1 .left) (omega (arith, c .before .before .before .before .before .before .loop-test .taken, c .before .before .before .before .before .before .before .before .before .before .before .before .before .pre .0 .most)) (c .before .before .before .before .named .ensures) (c .new-field .ensures)
+loop-again c =
+    let start = c .before .before .before .before .before .before .before .before .before .before .before in
+    let loop-test = c .before .before .before .before .before .before .loop-test in
+    let word = c .before .before .before .before .before .word in
+    let named = c .before .before .before .before .named in
+    let next = next-named _ _ _ (loop-test .taken) (word .ensures) in
+    let held = version-sought (record { well = start .pre .1; looked = named .ensures }) (c .before .before .held-version .ensures) in
+    let again = again-is _ _ _ (word .ensures) (c .before .before .before .repeats .ensures) in
+    (surveying-on (c .before .before .before .before .before .before .before .loop .inv .0) next held again (c .before .if1 .left) (named .ensures) (c .new-field .ensures), omega (arith, loop-test .taken, start .pre .0 .most))
 
 returns-2 : tie.Need-returns-2 Inv-loop μ-loop
-returns-2 c = surveying-ends (c .before .loop .inv) (none-named (wordsIn (c .before .before .before .before .before .before .before .args .count) (now (c .before .before .before .before .before .before .before .args .command)) (now (c .before .before .before .before .before .before .before .args .starts)) (now (c .before .before .before .before .before .before .before .args .sizes))) (c .before .loop .i) (length-words _ _ _ _) (c .loop-test .left))
+returns-2 c = surveying-ends (c .before .loop .inv .0) (none-named _ _ _ (c .loop-test .left))
 
 pub survey-pairs-spec : {M : Type 1} → statement M
 survey-pairs-spec =
@@ -72,17 +78,17 @@ survey-pairs-spec =
     Inv-loop
     μ-loop
     loop-holds
-    add-loop
-    word-requires
-    named-requires
+    (λ c. omega (arith, c .loop .inv .1))
+    (λ c κs. c .before .before .before .before .before .pre .0)
+    (λ c κs. c .before .before .before .before .before .before .pre .1)
     repeats-requires
     held-version-requires
     add-if1
     add-if1-2
     returns
-    new-field-requires
+    (λ c κs. tt)
     add-n
-    add-i
-    loop-less
+    (λ c. omega (arith, c .before .before .before .before .before .before .before .loop .inv .1))
+    (λ c. omega arith)
     loop-again
     returns-2)

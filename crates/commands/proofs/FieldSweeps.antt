@@ -9,11 +9,11 @@ use lib.ListN.{length}
 use Rattle.wire.specs.Lists.{any, keep, orElse}
 use Rattle.wire.specs.Bytes.{same}
 use Rattle.wire.specs.Words.{Word}
-use Rattle.store.specs.Store.{Entry, Slot, Store, holds}
+use Rattle.store.specs.Store.{Entry, Slot, Store, withSlots, holds}
 use Rattle.store.specs.Time.{live, without}
 use Rattle.commands.specs.Effect.{change}
 use Rattle.commands.specs.Effect.Change.{remove}
-use Rattle.commands.specs.Promises.{withSwept, withoutDead}
+use Rattle.commands.specs.Execute.{namedDead, sweep, swept}
 
 -- ---- the dead entries
 
@@ -30,23 +30,19 @@ without-twice p q r h (some e ∷ ss) = go (q e) (r e) refl (h e) (without-twice
     go false true w v rest = rw (v, rest, w)
     go false false w v rest = rw (v, rest, w)
 
-split-dead : (a b c l : Bool) → (a && (b || c)) && not l ≡ (((a && b) && not l) || ((a && c) && not l))
-split-dead false b c l = refl
-split-dead true true true true = refl
-split-dead true true true false = refl
-split-dead true true false true = refl
+split-dead : (a b c d : Bool) → (a && (b || c)) && d ≡ (((a && (b || false)) && d) || ((a && c) && d))
+split-dead false b c d = refl
+split-dead true false c d = refl
+split-dead true true c true = refl
 split-dead true true false false = refl
-split-dead true false true true = refl
-split-dead true false true false = refl
-split-dead true false false true = refl
-split-dead true false false false = refl
+split-dead true true true false = refl
 
 -- a field's dead entry, and then those of the others
-pub dead-more : (now : ℕ) (k f : Word) (fs : List Word) (s : Store) → withoutDead now k (f ∷ fs) s ≡ withoutDead now k fs (withSwept now k f s)
-unfolding withoutDead withSwept any
+pub dead-more : (now : ℕ) (k f : Word) (fs : List Word) (s : Store) → swept now k (f ∷ fs) s ≡ swept now k fs (swept now k (f ∷ []) s)
+unfolding sweep namedDead any
 dead-more now k f fs s =
-    ap (λ (z : List Slot). record { clock = s .clock; slots = z })
-    (without-twice _ _ _ (λ e. split-dead (same (e .key) k) (same (e .field) f) (any (same (e .field)) fs) (live now e)) (s .slots))
+    ap (λ (z : List Slot). withSlots z s)
+    (without-twice _ _ _ (λ e. split-dead (same (e .key) k) (same (e .field) f) (any (same (e .field)) fs) (not (live now e))) (s .slots))
 
 without-none : (p : Entry → Bool) → ((e : Entry) → p e ≡ false) → (ss : List Slot) → without p ss ≡ ss
 unfolding without orElse
@@ -55,10 +51,10 @@ without-none p h (none ∷ ss) = ap (λ (z : List Slot). none ∷ z) (without-no
 without-none p h (some e ∷ ss) = rw (h e) (ap (λ (z : List Slot). some e ∷ z) (without-none p h ss))
 
 -- no field is named
-pub dead-none : (now : ℕ) (k : Word) (s : Store) → withoutDead now k [] s ≡ s
-unfolding withoutDead any
+pub dead-none : (now : ℕ) (k : Word) (s : Store) → swept now k [] s ≡ s
+unfolding sweep namedDead any
 dead-none now k s =
-    ap (λ (z : List Slot). record { clock = s .clock; slots = z }) (without-none _ (λ e. go (same (e .key) k) (not (live now e))) (s .slots))
+    ap (λ (z : List Slot). withSlots z s) (without-none _ (λ e. go (same (e .key) k) (not (live now e))) (s .slots))
   where
     go : (a b : Bool) → (a && false) && b ≡ false
     go true b = refl
@@ -67,31 +63,35 @@ dead-none now k s =
 -- ---- all entries of some fields
 
 -- a slot that holds one of the fields
-
 abbrev pub named : Word → List Word → Slot → Bool
 named k fs s = any (λ f. holds k f s) fs
+
+empty-unnamed : (k : Word) (fs : List Word) → named k fs none ≡ false
+unfolding any holds orElse
+empty-unnamed k [] = refl
+empty-unnamed k (f ∷ fs) = empty-unnamed k fs
+
+pub keep-unnamed : (k : Word) (ss : List Slot) → keep (named k []) ss ≡ []
+unfolding keep any
+keep-unnamed k [] = refl
+keep-unnamed k (s ∷ ss) = keep-unnamed k ss
 
 -- as many slots hold one of the fields as hold the first, and one of the others once the first is gone
 pub count-more : (k f : Word) (fs : List Word) (now : ℕ) (ss : List Slot)
     → length (keep (named k (f ∷ fs)) ss) ≡ length (keep (holds k f) ss) + length (keep (named k fs) (change now (remove k f) ss))
 unfolding keep change without orElse holds any
 count-more k f fs now [] = refl
-count-more k f fs now (none ∷ ss) = rw (empty fs) (count-more k f fs now ss)
-  where
-    empty : (gs : List Word) → named k gs none ≡ false
-    empty [] = refl
-    empty (g ∷ gs) = empty gs
+count-more k f fs now (none ∷ ss) = rw (empty-unnamed k fs) (count-more k f fs now ss)
 count-more k f fs now (some e ∷ ss) = go (same (e .key) k && same (e .field) f) (named k fs (some e)) refl (count-more k f fs now ss)
   where
-    empty : (gs : List Word) → named k gs none ≡ false
-    empty [] = refl
-    empty (g ∷ gs) = empty gs
+    others : List Slot
+    others = keep (named k fs) (change now (remove k f) ss)
 
     go : (a b : Bool) → named k fs (some e) ≡ b
-        → length (keep (named k (f ∷ fs)) ss) ≡ length (keep (holds k f) ss) + length (keep (named k fs) (change now (remove k f) ss))
+        → length (keep (named k (f ∷ fs)) ss) ≡ length (keep (holds k f) ss) + length others
         → length (cond (a || b) (some e ∷ keep (named k (f ∷ fs)) ss) (keep (named k (f ∷ fs)) ss))
         ≡ length (cond a (some e ∷ keep (holds k f) ss) (keep (holds k f) ss))
-        + length (cond (named k fs (cond a none (some e))) (cond a none (some e) ∷ keep (named k fs) (change now (remove k f) ss)) (keep (named k fs) (change now (remove k f) ss)))
-    go true b w q = rw (empty fs) (omega (arith, q))
+        + length (cond (named k fs (cond a none (some e))) (cond a none (some e) ∷ others) others)
+    go true b w q = rw (empty-unnamed k fs) (omega (arith, q))
     go false true w q = rw w (omega (arith, q))
     go false false w q = rw w q

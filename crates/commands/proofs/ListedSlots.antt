@@ -1,6 +1,6 @@
 -- The slots of which a test holds, found one after the other, and what a listing shows of them.
 use mathlib.Core.Path.{_≡_, refl, sym, ap, _∙_}
-use mathlib.Core.Bool.{Bool, true, false, cond, _&&_, false≢true}
+use mathlib.Core.Bool.{Bool, true, false, cond, _&&_}
 use mathlib.Core.List.{List, [], _∷_, _++_, flatten, flatMap, append-nil}
 use mathlib.Core.Option.{Option, none, some, Option·map}
 use Prim.Native.Nat.{ℕ, suc, _+_, _*_, _≤_, _<_}
@@ -14,9 +14,13 @@ use Rattle.wire.specs.Lists.{keep, orElse}
 use Rattle.wire.specs.Bytes.{same}
 use Rattle.wire.specs.Words.{Word}
 use Rattle.wire.specs.Reply.{bulk}
+use Rattle.wire.proofs.Lists.{both-ways}
+use Rattle.wire.proofs.Laying.{front-room}
+use Rattle.store.specs.declared.Found.{Found}
 use Rattle.store.specs.declared.Found.the-variants as founds
 use Rattle.store.specs.Store.{Entry, Slot, decode, wellFormed, holds}
-use Rattle.store.specs.Time.{lowestSlot, without}
+use Rattle.store.specs.Layout.{slotsMost}
+use Rattle.store.specs.Time.{liveOfKey, lowestSlot, without}
 use Rattle.store.specs.Promises.{Held, Holds, foundFor, lowestFrom, entryAt, withSlot}
 use Rattle.store.specs.Valid.{Apart}
 use Rattle.store.proofs.Slots.{Lowest, lowest-some, lowest-nowhere, holds-none, holds-once}
@@ -32,6 +36,7 @@ use Rattle.commands.specs.Effect.Change.{remove}
 use Rattle.commands.specs.Promises.{widthOf, Removes}
 use Rattle.commands.proofs.Acts.{holds-slots, holds-self}
 use Rattle.commands.proofs.Fit.{flatten-append}
+use Rattle.commands.proofs.Elements.{Next}
 
 -- ---- one slot after the other
 
@@ -61,13 +66,14 @@ keep-nothing p (s ∷ ss) h = keep-none p s ss (p s) (lowestSlot p ss) h (keep-n
 
 module _ (p : Slot → Bool) (ss : List Slot) (from : ℕ) where
   -- from a slot on
-  pub keep-from : (i : ℕ) → founds.At i ≡ foundFor (lowestFrom from p ss) → (from ≤ i) × (keep p (drop from ss) ≡ getD ss i none ∷ keep p (drop (i + 1) ss))
+  pub keep-from : (i : ℕ) → founds.At i ≡ foundFor (lowestFrom from p ss)
+      → (from ≤ i) × (keep p (drop from ss) ≡ getD ss i none ∷ keep p (drop (i + 1) ss))
   unfolding lowestFrom
   keep-from i h = go (lowestSlot p (drop from ss)) refl (found-at (Option·map (λ j. from + j) (lowestSlot p (drop from ss))) i h)
     where
       go : (o : Option ℕ) → lowestSlot p (drop from ss) ≡ o → Option·map (λ j. from + j) o ≡ some i
           → (from ≤ i) × (keep p (drop from ss) ≡ getD ss i none ∷ keep p (drop (i + 1) ss))
-      go none q e = let z : _≡_ {A = ℕ} 0 1 = cc in absurd (omega arith)
+      go none q e = let z : from ≡ i = cc in (omega arith, cc)
       go (some j) q e =
           let z : from + j ≡ i = cc in
           let n : from + suc j ≡ i + 1 = omega arith in (
@@ -85,19 +91,9 @@ module _ (p : Slot → Bool) (ss : List Slot) (from : ℕ) where
 
 -- ---- listings
 
--- what is left to show of the slots
-abbrev pub shown : Listing → List Slot → List ℕ
-shown l ss = flatten (flatMap (listedSlot l) ss)
-
-pub shown-more : (l : Listing) (b : List ℕ) (i : ℕ) (ss : List Slot) → Held b i
-    → shown l (getD (decode b .slots) i none ∷ ss) ≡ flatten (listed l (entryAt (decode b .slots) i)) ++ shown l ss
-unfolding flatMap listedSlot orElse
-shown-more l b i ss h =
-    rw (held-entry (decode b .slots) i (h .held)) (flatten-append (listed l (entryAt (decode b .slots) i)) (flatMap (listedSlot l) ss))
-
 -- what is shown of one entry
 module _ (e : Entry) {l : Listing} where
-  pub shown-field : {k : List ℕ} → l ≡ Fields → k ≡ e .field → flatten (listed l e) ≡ bulk k
+  pub shown-field : {f : List ℕ} → l ≡ Fields → f ≡ e .field → flatten (listed l e) ≡ bulk f
   unfolding listed flatten
   shown-field h q = rw (h, q) (append-nil (bulk (e .field)))
 
@@ -105,28 +101,67 @@ module _ (e : Entry) {l : Listing} where
   unfolding listed flatten
   shown-value h q = rw (h, q) (append-nil (bulk (e .value)))
 
-  pub shown-both : {k v : List ℕ} → l ≡ Both → k ≡ e .field → v ≡ e .value → flatten (listed l e) ≡ bulk k ++ bulk v
+  pub shown-both : {f v : List ℕ} → l ≡ Both → f ≡ e .field → v ≡ e .value → flatten (listed l e) ≡ bulk f ++ bulk v
   unfolding listed flatten
   shown-both h q r = rw (h, q, r) (ap (λ (z : List ℕ). bulk (e .field) ++ z) (append-nil (bulk (e .value))))
 
--- the next entry, and what is left after it
-pub shown-next : (l : Listing) (p : Slot → Bool) (b : List ℕ) (from i : ℕ) → p none ≡ false → wellFormed b ≡ true
-    → founds.At i ≡ foundFor (lowestFrom from p (decode b .slots))
-    → shown l (keep p (drop from (decode b .slots))) ≡ flatten (listed l (entryAt (decode b .slots) i)) ++ shown l (keep p (drop (i + 1) (decode b .slots)))
-shown-next l p b from i z w h =
-    ap (shown l) (keep-from p (decode b .slots) from i h .1) ∙ shown-more l b i (keep p (drop (i + 1) (decode b .slots))) (found-held p b from i z w h)
+-- has room
+module _ (e : Entry) {l : Listing} {n : ℕ} (room : length (flatten (listed l e)) ≤ n) where
+  pub field-room : {f : List ℕ} → l ≡ Fields → f ≡ e .field → length (bulk f) ≤ n
+  field-room h q = rw (shown-field e h q) at room
 
-pub shown-end : (l : Listing) (p : Slot → Bool) (ss : List Slot) (from : ℕ) → founds.Nothing ≡ foundFor (lowestFrom from p ss)
-    → shown l (keep p (drop from ss)) ≡ []
-unfolding flatMap flatten
-shown-end l p ss from h = rw (keep-over p ss from h)
+  pub value-room : {v : List ℕ} → l ≡ Values → v ≡ e .value → length (bulk v) ≤ n
+  value-room h q = rw (shown-value e h q) at room
 
-pub held-few : {b : List ℕ} {i : ℕ} → Held b i → i < 500
-held-few {b} h = omega (arith, h .inside, length-decode b, decode-valid b (h .well) .most)
+  pub first-room : {f : List ℕ} → l ≡ Both → f ≡ e .field → length (bulk f) ≤ n
+  first-room {f} h q = front-room (bulk f) (bulk (e .value)) (rw (shown-both e h q refl) at room)
 
-pub shown-over : (l : Listing) (p : Slot → Bool) (ss : List Slot) (from : ℕ) → length ss ≤ from → shown l (keep p (drop from ss)) ≡ []
-unfolding keep flatMap flatten
-shown-over l p ss from h = rw (drop-of-length-le ss {i = from} h)
+  pub both-room : {f v : List ℕ} → l ≡ Both → f ≡ e .field → v ≡ e .value → length (bulk f ++ bulk v) ≤ n
+  both-room h q r = rw (shown-both e h q r) at room
+
+-- what is shown of the slots from one on
+unfoldable pub shownFrom : ℕ → List ℕ → Word → Listing → ℕ → List ℕ
+shownFrom now b k l from = flatten (flatMap (listedSlot l) (keep (liveOfKey now k) (drop from (decode b .slots))))
+
+-- the next live entry of a key from a slot on stands in slot i
+pub record NextLive (now : ℕ) (b : List ℕ) (k : Word) (from i : ℕ) : Type 0 where
+  pub well : wellFormed b ≡ true
+  pub found : founds.At i ≡ foundFor (lowestFrom from (liveOfKey now k) (decode b .slots))
+
+pub live-next : {now : ℕ} {b : List ℕ} {k : Word} {from i : ℕ} {r : Found} → wellFormed b ≡ true → r ≡ founds.At i
+    → r ≡ foundFor (lowestFrom from (liveOfKey now k) (decode b .slots)) → NextLive now b k from i
+live-next w q h = record { well = w; found = sym q ∙ h }
+
+module _ {now : ℕ} {b : List ℕ} {k : Word} {from i : ℕ} (n : NextLive now b k from i) where
+  pub live-held : Held b i
+  unfolding liveOfKey orElse
+  live-held = found-held (liveOfKey now k) b from i refl (n .well) (n .found)
+
+  pub live-few : i < slotsMost
+  live-few = omega (arith, live-held .inside, length-decode b, decode-valid b (n .well) .most)
+
+  pub live-later : from ≤ i
+  live-later = keep-from (liveOfKey now k) (decode b .slots) from i (n .found) .0
+
+  -- it is shown, and then what is left after it
+  pub shown-next : (l : Listing) → Next (shownFrom now b k l from) (flatten (listed l (entryAt (decode b .slots) i))) (shownFrom now b k l (i + 1))
+  unfolding shownFrom flatMap listedSlot orElse
+  shown-next l =
+      record {
+        parts = rw (keep-from (liveOfKey now k) (decode b .slots) from i (n .found) .1, held-entry (decode b .slots) i (live-held .held))
+            (flatten-append (listed l (entryAt (decode b .slots) i)) (flatMap (listedSlot l) (keep (liveOfKey now k) (drop (i + 1) (decode b .slots)))));
+      }
+
+module _ (now : ℕ) (b : List ℕ) (k : Word) (l : Listing) (from : ℕ) where
+  -- there is none
+  pub shown-end : {r : Found} → r ≡ founds.Nothing → r ≡ foundFor (lowestFrom from (liveOfKey now k) (decode b .slots))
+      → shownFrom now b k l from ≡ []
+  unfolding shownFrom flatMap flatten
+  shown-end q h = rw (keep-over (liveOfKey now k) (decode b .slots) from (sym q ∙ h))
+
+  pub shown-over : length (decode b .slots) ≤ from → shownFrom now b k l from ≡ []
+  unfolding shownFrom keep flatMap flatten
+  shown-over h = rw (drop-of-length-le (decode b .slots) {i = from} h)
 
 width-entry : (l : Listing) (e : Entry) → length (listed l e) ≡ widthOf l
 unfolding listed widthOf
@@ -135,7 +170,8 @@ width-entry Values e = refl
 width-entry Both e = refl
 
 -- as many elements as the kept slots have
-pub shown-count : (l : Listing) (p : Slot → Bool) (ss : List Slot) → p none ≡ false → length (flatMap (listedSlot l) (keep p ss)) ≡ length (keep p ss) * widthOf l
+pub shown-count : (l : Listing) (p : Slot → Bool) (ss : List Slot) → p none ≡ false
+    → length (flatMap (listedSlot l) (keep p ss)) ≡ length (keep p ss) * widthOf l
 unfolding keep flatMap listedSlot orElse
 shown-count l p [] z = omega arith
 shown-count l p (none ∷ ss) z = rw z (shown-count l p ss z)
@@ -144,7 +180,8 @@ shown-count l p (some e ∷ ss) z = go (p (some e)) (shown-count l p ss z)
     go : (t : Bool) → length (flatMap (listedSlot l) (keep p ss)) ≡ length (keep p ss) * widthOf l
         → length (flatMap (listedSlot l) (cond t (some e ∷ keep p ss) (keep p ss))) ≡ length (cond t (some e ∷ keep p ss) (keep p ss)) * widthOf l
     go true q =
-        rw (length-append (listed l e) (flatMap (listedSlot l) (keep p ss)), width-entry l e, q) (add-comm (widthOf l) (length (keep p ss) * widthOf l) ∙ sym (suc-mul (length (keep p ss)) (widthOf l)))
+        rw (length-append (listed l e) (flatMap (listedSlot l) (keep p ss)), width-entry l e, q)
+        (add-comm (widthOf l) (length (keep p ss) * widthOf l) ∙ sym (suc-mul (length (keep p ss)) (widthOf l)))
     go false q = q
 
 -- ---- one entry taken out
@@ -182,29 +219,30 @@ module _ (k f : Word) (now : ℕ) (ss : List Slot) where
 
     -- no other slot is kept
     pub kept-one : length (keep (holds k f) ss) ≡ 1
-    kept-one = rw (keep-lowest (holds k f) ss i h) (ap suc (ap length (keep-nothing (holds k f) (drop (suc i) ss) (nothing (lowestSlot (holds k f) (drop (suc i) ss)) refl))))
+    kept-one =
+        rw (keep-lowest (holds k f) ss i h)
+        (ap suc (ap length (keep-nothing (holds k f) (drop (suc i) ss) (nothing (lowestSlot (holds k f) (drop (suc i) ss)) refl))))
       where
         nothing : (o : Option ℕ) → lowestSlot (holds k f) (drop (suc i) ss) ≡ o → o ≡ none
         nothing none q = refl
         nothing (some j) q =
             let t = lowest-some (holds k f) (drop (suc i) ss) j q in
             let away : holds k f (getD ss (suc i + j) none) ≡ false = holds-once k f ss a i (suc i + j) (λ e. omega arith) (found .here) in
-            absurd (false≢true (sym away ∙ rw (getD-drop (suc i) ss j none) at (t .here)))
+            both-ways (rw (getD-drop (suc i) ss j none) at (t .here)) away
 
-module _ (k f : Word) (b : List ℕ) (w : wellFormed b ≡ true) where
-  -- what removing one entry leaves, and how many that was
-  pub removes-nothing : founds.Nothing ≡ foundFor (lowestSlot (holds k f) (decode b .slots)) → Removes k f (decode b) b 0
-  removes-nothing h =
-      let none-there : lowestSlot (holds k f) (decode b .slots) ≡ none = found-nothing (lowestSlot (holds k f) (decode b .slots)) h in
+-- what removing the entry that was looked for leaves, and how many that was
+module _ (k f : Word) (b : List ℕ) (w : wellFormed b ≡ true) {r : Found} (h : r ≡ foundFor (lowestSlot (holds k f) (decode b .slots))) where
+  pub removes-nothing : r ≡ founds.Nothing → Removes k f (decode b) b 0
+  removes-nothing q =
+      let nowhere : lowestSlot (holds k f) (decode b .slots) ≡ none = found-nothing (lowestSlot (holds k f) (decode b .slots)) (sym q ∙ h) in
       record {
-        store = λ now. holds-slots (removed-nowhere k f now (decode b .slots) none-there) (holds-self w);
-        count = sym (ap length (keep-nothing (holds k f) (decode b .slots) none-there));
+        store = λ now. holds-slots (removed-nowhere k f now (decode b .slots) nowhere) (holds-self w);
+        count = sym (ap length (keep-nothing (holds k f) (decode b .slots) nowhere));
       }
 
-  pub removes-one : (i : ℕ) → founds.At i ≡ foundFor (lowestSlot (holds k f) (decode b .slots)) → {d : List ℕ} → Holds d (withSlot i none (decode b))
-      → Removes k f (decode b) d 1
-  removes-one i h x =
-      let there : lowestSlot (holds k f) (decode b .slots) ≡ some i = found-at (lowestSlot (holds k f) (decode b .slots)) i h in
+  pub removes-one : {i : ℕ} → r ≡ founds.At i → {d : List ℕ} → Holds d (withSlot i none (decode b)) → Removes k f (decode b) d 1
+  removes-one {i} q x =
+      let there : lowestSlot (holds k f) (decode b .slots) ≡ some i = found-at (lowestSlot (holds k f) (decode b .slots)) i (sym q ∙ h) in
       record {
         store = λ now. holds-slots (removed-one k f now (decode b .slots) (decode-valid b w .apart) i there) x;
         count = sym (kept-one k f 0 (decode b .slots) (decode-valid b w .apart) i there);

@@ -10,7 +10,7 @@ use lib.Dec.{ltb, eqb}
 use lib.ListN.{length, getD, set}
 use Rattle.wire.specs.Lists.{any, keep, orElse}
 use Rattle.wire.specs.Bytes.{same}
-use Rattle.wire.specs.Words.{Word}
+use Rattle.wire.specs.Words.{Word, wordsMost}
 use Rattle.wire.proofs.Lists.{or-late, both-ways}
 use Rattle.wire.proofs.Bytes.{same-refl, same-true, same-sym}
 use Rattle.store.specs.Layout.{versionMost}
@@ -22,8 +22,8 @@ use Rattle.store.proofs.Put.{put-apart, put-keeps, put-nowhere, put-entry, slot
 use Rattle.commands.specs.Command.{Pair}
 use Rattle.commands.specs.Effect.{nextVersion, nextExpiry, written, writesOf}
 use Rattle.commands.specs.Execute.{passes}
-use Rattle.commands.specs.Promises.{heldVersion, versionIn, timesIn, overflowing}
-use Rattle.commands.proofs.Names.{named, pairEntry}
+use Rattle.commands.specs.Promises.{heldVersion, versionIn, timesIn, overflowing, pairEntry}
+use Rattle.commands.proofs.Names.{named}
 
 or-swap : (a b c : Bool) → a || (b || c) ≡ b || (a || c)
 or-swap true true c = refl
@@ -117,7 +117,7 @@ near-raised : {m a b : ℕ} → Near (suc m) a b → Near m (a + 1) (b + 1)
 near-raised (equal e) = equal (ap (λ (n : ℕ). n + 1) e)
 near-raised (small p q) = small (omega arith) (omega arith)
 
-near-missing : {m a : ℕ} → m ≤ 62 → Near (suc m) a 0 → Near m (a + 1) 0
+near-missing : {m a : ℕ} → m ≤ wordsMost → Near (suc m) a 0 → Near m (a + 1) 0
 near-missing l (equal e) = small (omega arith) (omega arith)
 near-missing l (small p q) = small (omega arith) (omega arith)
 
@@ -130,7 +130,7 @@ abbrev fieldsOf : List Pair → List Word
 fieldsOf ps = map (λ p. p .field) ps
 
 -- slots in which no named field is dead, and versions that are near those of the slots
-record Seen (now : ℕ) (k : Word) (ps : List Pair) (ss : List Slot) (version : Word → ℕ) : Type 0 where
+record Tracks (now : ℕ) (k : Word) (ps : List Pair) (ss : List Slot) (version : Word → ℕ) : Type 0 where
   apart : Apart ss
   alive : (g : Word) → named g (fieldsOf ps) ≡ true → (x : Entry) → entryOf k g ss ≡ some x → live now x ≡ true
   near : (g : Word) → named g (fieldsOf ps) ≡ true → Near (length ps) (version g) (versionIn k ss g)
@@ -151,7 +151,8 @@ slot-missing now k f ss h = lowest-entry-none k f ss (go (lowestSlot (holds k f)
     go none q = refl
     go (some i) q = cc
 
-module _ (now : ℕ) (k : Word) (p : Pair) (ps : List Pair) (ss : List Slot) (version : Word → ℕ) (few : length ps ≤ 62) (s : Seen now k (p ∷ ps) ss version) where
+module _ (now : ℕ) (k : Word) (p : Pair) (ps : List Pair) (ss : List Slot) (version : Word → ℕ)
+    (few : length ps ≤ wordsMost) (s : Tracks now k (p ∷ ps) ss version) where
   own : Entry
   own = pairEntry k (p .field) (p .value) ss
 
@@ -186,19 +187,20 @@ module _ (now : ℕ) (k : Word) (p : Pair) (ps : List Pair) (ss : List Slot) (ve
       (subst (Near (length ps) (version (p .field) + 1)) (sym (next-is k p ss)) (near-raised (s .near (p .field) first)))
       (λ u. near-missing few (subst (Near (suc (length ps)) (version (p .field))) (ap heldVersion u) (s .near (p .field) first))))
 
-  seen-after : Seen now k ps (put now own ss) (raised (p .field) version)
+  tracks-after : Tracks now k ps (put now own ss) (raised (p .field) version)
   unfolding own written nextExpiry live before versionIn
-  seen-after =
+  tracks-after =
       record {
         apart = put-apart now own ss (s .apart);
         alive = λ g n. alive-at g n (same (p .field) g) refl;
         near = λ g n. near-at g n (same (p .field) g) refl;
       }
     where
-      alive-at : (g : Word) → named g (fieldsOf ps) ≡ true → (t : Bool) → same (p .field) g ≡ t → (x : Entry) → entryOf k g (put now own ss) ≡ some x → live now x ≡ true
+      alive-at : (g : Word) → named g (fieldsOf ps) ≡ true → (t : Bool) → same (p .field) g ≡ t → (x : Entry)
+          → entryOf k g (put now own ss) ≡ some x → live now x ≡ true
       alive-at g n true q x h =
           let e : p .field ≡ g = same-true (p .field) g q in
-          itself (λ o. o ≡ some x → live now x ≡ true) (λ z. let m : own ≡ x = cc in rw (← m) refl) (λ u z. let z0 : _≡_ {A = ℕ} 0 1 = cc in absurd (omega arith))
+          itself (λ o. o ≡ some x → live now x ≡ true) (λ z. let m : own ≡ x = cc in rw (← m) refl) (λ u z. cc)
           (ap (λ (w : Word). entryOf k w (put now own ss)) e ∙ h)
       alive-at g n false q x h = s .alive g (later g n) x (sym (other g n q) ∙ h)
 
@@ -211,20 +213,20 @@ module _ (now : ℕ) (k : Word) (p : Pair) (ps : List Pair) (ss : List Slot) (ve
           rw (same-sym g (p .field) ∙ q, ap heldVersion (other g n q)) (near-fewer (s .near g (later g n)))
 
 -- Some version that the pairs write passes its largest exactly where the fields' versions, each raised as often as it is named, do.
-passing : (now : ℕ) (k : Word) (ps : List Pair) (ss : List Slot) (version : Word → ℕ) → length ps ≤ 62 → Seen now k ps ss version
+passing : (now : ℕ) (k : Word) (ps : List Pair) (ss : List Slot) (version : Word → ℕ) → length ps ≤ wordsMost → Tracks now k ps ss version
     → any passes (writesOf now k ps ss) ≡ overflowing version (fieldsOf ps)
 unfolding any passes writesOf overflowing own
 passing now k [] ss version l s = refl
 passing now k (p ∷ ps) ss version l s =
-    let few : length ps ≤ 62 = omega arith in
+    let few : length ps ≤ wordsMost = omega arith in
     rw (
-      passing now k ps (put now (pairEntry k (p .field) (p .value) ss) ss) (raised (p .field) version) few (seen-after now k p ps ss version few s),
+      passing now k ps (put now (pairEntry k (p .field) (p .value) ss) ss) (raised (p .field) version) few (tracks-after now k p ps ss version few s),
       next-is k p ss,
       near-passes (s .near (p .field) (first now k p ps ss version few s)),
     )
     (sym (overflow-raised (p .field) version (fieldsOf ps)))
 
-pub pairs-overflow : (now : ℕ) (k : Word) (ps : List Pair) (ss : List Slot) → length ps ≤ 62 → Apart ss
+pub pairs-overflow : (now : ℕ) (k : Word) (ps : List Pair) (ss : List Slot) → length ps ≤ wordsMost → Apart ss
     → ((g : Word) → named g (map (λ p. p .field) ps) ≡ true → (x : Entry) → entryOf k g ss ≡ some x → live now x ≡ true)
     → any passes (writesOf now k ps ss) ≡ overflowing (versionIn k ss) (map (λ p. p .field) ps)
 pairs-overflow now k ps ss l a alive = passing now k ps ss (versionIn k ss) l (record { apart = a; alive = alive; near = λ g n. equal refl })
