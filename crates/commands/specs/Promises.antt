@@ -106,6 +106,7 @@ entryFor ss founds.Nothing = none
 unfoldable pub answerAbout : ℕ → List ℕ → Word → Question → Word → List ℕ
 answerAbout now b k q f = reply now (decode b .slots) k q (entryOf k f (decode b .slots))
 
+-- the answers about some fields of a key
 abbrev pub answersOf : ℕ → List ℕ → Word → Question → List Word → List (List ℕ)
 answersOf now b k q fs = map (answerAbout now b k q) fs
 
