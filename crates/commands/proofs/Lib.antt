@@ -22,9 +22,9 @@ pub mod RowNumbers
 pub mod WordPlaces
 pub mod Scanning
 pub mod Acts
-pub mod Plans
+pub mod VersionPlans
 pub mod Settling
-pub mod Deeds
+pub mod FieldDeeds
 pub mod OneField
 pub mod Answers
 pub mod Elements
@@ -40,4 +40,4 @@ pub mod Parsing
 pub mod Families
 pub mod FromBytes
 pub mod KeyDone
-pub mod Executed
+pub mod ExecuteDone
