@@ -1,64 +1,64 @@
 -- What the acts on a store leave in it: the sweep of one name, the slot for an entry, the entry put there.
 use mathlib.Core.Path.{_≡_, refl, sym, ap, _∙_}
-use mathlib.Core.Bool.{Bool, true, false, cond, not, _&&_, and-false}
-use mathlib.Core.List.{List}
+use mathlib.Core.Bool.{Bool, true, false, cond, and-false, or-false}
+use mathlib.Core.List.{List, [], _∷_}
 use mathlib.Core.Option.{Option, none, some}
 use Prim.Native.Nat.{ℕ, _<_}
 use lib.Dec.{eqb}
 use borrow.Author.Tests.{eqb-true, eqb-false}
 use lib.ListN.{getD, set, length-set}
 use lib.Seq.{set-getD, ext-getD}
-use Rattle.wire.specs.Lists.{orElse}
-use Rattle.wire.specs.Bytes.{same}
+use Rattle.wire.specs.Lists.{any, orElse}
 use Rattle.wire.proofs.Lists.{both-ways}
 use Rattle.store.specs.declared.Found.{Found}
 use Rattle.store.specs.declared.Found.the-variants as founds
 use Rattle.store.specs.Store.{Entry, Slot, slotCount, decode, wellFormed, holds}
-use Rattle.store.specs.Time.{live, liveSlot, deadSlot, emptySlot, lowestSlot, slotFor, put, without}
+use Rattle.store.specs.Time.{liveSlot, deadSlot, emptySlot, lowestSlot, slotFor, put, without}
 use Rattle.store.specs.Promises.{Holds, Placeable, foundFor, withSlot}
-use Rattle.store.specs.Valid.{Apart}
+use Rattle.store.specs.Valid.{Fits, Apart}
 use Rattle.store.proofs.Slots.{Lowest, lowest-some, lowest-nowhere, holds-none, holds-once}
 use Rattle.store.proofs.Put.{Place, slot-place, getD-set, put-nowhere}
 use Rattle.store.proofs.Without.{emptied, length-without, getD-without}
 use Rattle.store.proofs.Encode.{length-decode, decode-valid}
 use Rattle.store.proofs.Searches.{found-at, found-nothing}
-use Rattle.commands.specs.Promises.{Looked, lookFor, slotAfter, withSwept, withPut, Fitting}
+use Rattle.commands.specs.Execute.{namedDead, sweep, swept}
+use Rattle.commands.specs.Promises.{Looked, lookFor, slotAfter, withPut}
 
 -- ---- the slots without the dead entry of a name
 
-unfoldable deadOf : ℕ → List ℕ → List ℕ → Entry → Bool
-deadOf time k f e = same (e .key) k && same (e .field) f && not (live time e)
+abbrev deadOf : ℕ → List ℕ → List ℕ → Entry → Bool
+deadOf time k f = namedDead time k (f ∷ [])
 
 module _ (time : ℕ) (k f : List ℕ) where
   abbrev sweptSlot : Slot → Slot
   sweptSlot = emptied (deadOf time k f)
 
-  abbrev swept : List Slot → List Slot
-  swept = without (deadOf time k f)
+  abbrev sweptSlots : List Slot → List Slot
+  sweptSlots = without (deadOf time k f)
 
   -- a slot of another name stays
   other-stays : (s : Slot) → holds k f s ≡ false → sweptSlot s ≡ s
-  unfolding emptied deadOf holds orElse
+  unfolding emptied namedDead any holds orElse
   other-stays none h = refl
-  other-stays (some e) h = rw h
+  other-stays (some e) h = simp (or-false, h)
 
   -- a live one stays
   live-stays : (s : Slot) → liveSlot time s ≡ true → sweptSlot s ≡ s
-  unfolding emptied deadOf liveSlot orElse
+  unfolding emptied namedDead any liveSlot orElse
   live-stays none h = refl
   live-stays (some e) h = simp (h, and-false)
 
   -- a dead one of that name is emptied
   dead-goes : (s : Slot) → holds k f s ≡ true → liveSlot time s ≡ false → sweptSlot s ≡ none
-  unfolding emptied deadOf holds liveSlot orElse
+  unfolding emptied namedDead any holds liveSlot orElse
   dead-goes none h d = refl
-  dead-goes (some e) h d = rw (h, d)
+  dead-goes (some e) h d = simp (or-false, h, d)
 
   module _ (ss : List Slot) where
     -- no slot holds the name
-    swept-nowhere : lowestSlot (holds k f) ss ≡ none → swept ss ≡ ss
+    swept-nowhere : lowestSlot (holds k f) ss ≡ none → sweptSlots ss ≡ ss
     swept-nowhere h =
-        ext-getD none (swept ss) ss (length-without (deadOf time k f) ss) λ j l.
+        ext-getD none (sweptSlots ss) ss (length-without (deadOf time k f) ss) λ j l.
         getD-without (deadOf time k f) ss j ∙ other-stays (getD ss j none) (lowest-nowhere (holds k f) ss (holds-none k f) h j)
 
     module _ (a : Apart ss) (i : ℕ) (h : lowestSlot (holds k f) ss ≡ some i) where
@@ -66,9 +66,9 @@ module _ (time : ℕ) (k f : List ℕ) where
       lowest = lowest-some (holds k f) ss i h
 
       -- one slot holds it, and only that may change
-      swept-one : swept ss ≡ set ss i (sweptSlot (getD ss i none))
+      swept-one : sweptSlots ss ≡ set ss i (sweptSlot (getD ss i none))
       swept-one =
-          ext-getD none (swept ss) (set ss i new) (length-without (deadOf time k f) ss ∙ sym (length-set ss i new)) λ j l.
+          ext-getD none (sweptSlots ss) (set ss i new) (length-without (deadOf time k f) ss ∙ sym (length-set ss i new)) λ j l.
           getD-without (deadOf time k f) ss j ∙ go j (eqb j i) refl ∙ sym (getD-set ss i new (lowest .inside) j)
         where
           new : Slot
@@ -79,11 +79,11 @@ module _ (time : ℕ) (k f : List ℕ) where
           go j false q = other-stays (getD ss j none) (holds-once k f ss a i j (λ e. eqb-false j i q (sym e)) (lowest .here))
 
       -- it is live
-      swept-live : liveSlot time (getD ss i none) ≡ true → swept ss ≡ ss
+      swept-live : liveSlot time (getD ss i none) ≡ true → sweptSlots ss ≡ ss
       swept-live l = swept-one ∙ ap (set ss i) (live-stays (getD ss i none) l) ∙ set-getD ss i none
 
       -- it is dead
-      swept-dead : liveSlot time (getD ss i none) ≡ false → swept ss ≡ set ss i none
+      swept-dead : liveSlot time (getD ss i none) ≡ false → sweptSlots ss ≡ set ss i none
       swept-dead d = swept-one ∙ ap (set ss i) (dead-goes (getD ss i none) (lowest .here) d)
 
 -- a name whose one slot is emptied has none
@@ -114,8 +114,8 @@ holds-self w = record { means = refl; well = w }
 
 module _ (b : List ℕ) (w : wellFormed b ≡ true) (k f : List ℕ) where
   -- no entry of a name was found: the sweep changes nothing
-  pub sweeps-nothing : (time : ℕ) → founds.Nothing ≡ foundFor (lowestSlot (holds k f) (decode b .slots)) → Holds b (withSwept time k f (decode b))
-  unfolding withSwept deadOf
+  pub sweeps-nothing : (time : ℕ) → founds.Nothing ≡ foundFor (lowestSlot (holds k f) (decode b .slots)) → Holds b (swept time k (f ∷ []) (decode b))
+  unfolding sweep
   sweeps-nothing time h =
       holds-slots (swept-nowhere time k f (decode b .slots) (found-nothing (lowestSlot (holds k f) (decode b .slots)) h)) (holds-self w)
 
@@ -128,14 +128,14 @@ module _ (b : List ℕ) (w : wellFormed b ≡ true) (k f : List ℕ) where
     found-slot = (w, rw (← length-decode b) (lowest-some (holds k f) (decode b .slots) i named .inside))
 
     -- its entry is live: the sweep changes nothing
-    pub sweeps-live : (time : ℕ) → liveSlot time (getD (decode b .slots) i none) ≡ true → Holds b (withSwept time k f (decode b))
-    unfolding withSwept deadOf
+    pub sweeps-live : (time : ℕ) → liveSlot time (getD (decode b .slots) i none) ≡ true → Holds b (swept time k (f ∷ []) (decode b))
+    unfolding sweep
     sweeps-live time l = holds-slots (swept-live time k f (decode b .slots) (decode-valid b w .apart) i named l) (holds-self w)
 
     -- its entry is dead: the sweep empties the slot
     pub sweeps-dead : (time : ℕ) → liveSlot time (getD (decode b .slots) i none) ≡ false → {d : List ℕ} → Holds d (withSlot i none (decode b))
-        → Holds d (withSwept time k f (decode b))
-    unfolding withSwept deadOf
+        → Holds d (swept time k (f ∷ []) (decode b))
+    unfolding sweep
     sweeps-dead time n x = holds-slots (swept-dead time k f (decode b .slots) (decode-valid b w .apart) i named n) x
 
     -- and after that there is none.
@@ -178,12 +178,12 @@ after-look time b k f {own} {r} h e = go (lowestSlot (holds k f) (decode b .slot
 
 -- ---- an entry in its place
 
-module _ (b : List ℕ) (time : ℕ) (e : Entry) (x : Fitting b e) where
+module _ (b : List ℕ) (time : ℕ) (e : Entry) (w : wellFormed b ≡ true) where
   -- there is no place: nothing changes
   pub places-nothing : founds.Nothing ≡ lookFor time (e .key) (e .field) (decode b .slots) → Holds b (withPut time e (decode b))
   unfolding withPut lookFor
   places-nothing h =
-      holds-slots (put-nowhere time e (decode b .slots) (found-nothing (slotFor time (e .key) (e .field) (decode b .slots)) h)) (holds-self (x .well))
+      holds-slots (put-nowhere time e (decode b .slots) (found-nothing (slotFor time (e .key) (e .field) (decode b .slots)) h)) (holds-self w)
 
   module _ (i : ℕ) (h : founds.At i ≡ lookFor time (e .key) (e .field) (decode b .slots)) where
     given : slotFor time (e .key) (e .field) (decode b .slots) ≡ some i
@@ -191,21 +191,14 @@ module _ (b : List ℕ) (time : ℕ) (e : Entry) (x : Fitting b e) where
     given = found-at (slotFor time (e .key) (e .field) (decode b .slots)) i h
 
     -- the entry may be put there
-    pub may-place : Placeable b i e
-    may-place =
+    pub may-place : Fits e → Placeable b i e
+    may-place x =
         let p : Place time (e .key) (e .field) (decode b .slots) i = slot-place time (e .key) (e .field) (decode b .slots) i given in
         record {
-          well = x .well;
+          well = w;
           inside = rw (← length-decode b) (p .inside);
-          key = x .key;
-          field = x .field;
-          value = x .value;
-          version = x .version;
-          expiry = x .expiry;
-          keyBytes = x .keyBytes;
-          fieldBytes = x .fieldBytes;
-          valueBytes = x .valueBytes;
-          alone = p .alone (decode-valid b (x .well) .apart);
+          fits = x;
+          alone = p .alone (decode-valid b w .apart);
         }
 
     -- it is put there

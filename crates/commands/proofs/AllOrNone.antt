@@ -9,7 +9,7 @@ use native.Mathlib.Omega.{arith}
 use Rattle.wire.specs.Lists.{any, orElse}
 use Rattle.wire.specs.Bytes.{same}
 use Rattle.wire.specs.Words.{Word}
-use Rattle.wire.proofs.Lists.{or-neither, both-ways}
+use Rattle.wire.proofs.Lists.{impossible, or-neither, both-ways}
 use Rattle.wire.proofs.Bytes.{same-refl, same-true}
 use Rattle.store.specs.Store.{Entry, Slot, Store, holds}
 use Rattle.store.specs.Time.{nowAt, before, live, liveSlot, slotFor, put}
@@ -67,7 +67,7 @@ pair-stays now k p ps ss i a q n =
 pairs-written : (now : ℕ) (k : Word) (ps : List Pair) (ss : List Slot) → Ready now k (map (λ p. p .field) ps) ss
     → (f v : Word) → lastOf f ps ≡ some v → Written k f v (changeAll now (writesOf now k ps ss) ss)
 unfolding writesOf changeAll change lastOf orElse written nextExpiry live before
-pairs-written now k [] ss r f v h = let z : _≡_ {A = ℕ} 0 1 = cc in absurd (omega arith)
+pairs-written now k [] ss r f v h = impossible (cc)
 pairs-written now k (p ∷ ps) ss r f v h =
     let q = put-ready now (pairEntry k (p .field) (p .value) ss) (map (λ p. p .field) ps) ss refl r in
     go q (pairs-written now k ps (put now (pairEntry k (p .field) (p .value) ss) ss) (q .2) f v) (lastOf f ps) refl (same (p .field) f) refl h
@@ -83,7 +83,7 @@ pairs-written now k (p ∷ ps) ss r f v h =
         let d : p .field ≡ f = same-true (p .field) f b in
         let m : p .value ≡ v = cc in
         rw (← d, ← m) (pair-stays now k p ps ss (q .0) (r .apart) (q .1) (rw d (unnamed f ps a)))
-    go q ih none a false b h = let z : _≡_ {A = ℕ} 0 1 = cc in absurd (omega arith)
+    go q ih none a false b h = impossible (cc)
 
 -- ---- after the sweep
 
@@ -93,7 +93,7 @@ swept-ready : (now : ℕ) (k : Word) (ps : List Pair) (s : Store) → Apart (s .
 unfolding effect keyOf fieldsOf liveSlot orElse
 swept-ready now k ps s a h =
     record {
-      apart = sweep-apart now (setMany k ps) (s .slots) a;
+      apart = sweep-apart now k (map (λ p. p .field) ps) (s .slots) a;
       enough = rw (added-missing now k ps (sweptBy now (setMany k ps) s) (sweptBy now (setMany k ps) s)) at h;
       alive = λ f n i. go f n i (getD (sweptBy now (setMany k ps) s) i none) refl;
     }
@@ -103,7 +103,7 @@ swept-ready now k ps s a h =
     go f n i none q t = both-ways t (holds-none k f)
     go f n i (some e) q t =
         let m = holds-named k f e t in
-        sweep-alive now (setMany k ps) (s .slots) i e q (rw (m .key, same-refl k, m .field, named-flip f (map (λ p. p .field) ps)) n)
+        sweep-alive now k (map (λ p. p .field) ps) (s .slots) i e q (rw (m .key, same-refl k, m .field, named-flip f (map (λ p. p .field) ps)) n)
 
 -- Where an EXHMSET is not refused, the entry of each of its fields has the value of the field's last pair.
 pub all-set : (clock : ℕ) (command : List ℕ) (s : Store) (k : Word) (ps : List Pair) → Apart (s .slots)
@@ -113,8 +113,8 @@ unfolding effect
 all-set clock command s k ps a p = go (went clock command s)
   where
     go : {o : Outcome} → Went clock command s o → o .refusal ≡ none → (f v : Word) → lastOf f ps ≡ some v → Written k f v (o .store .slots)
-    go (early n q) e f v h = let z : _≡_ {A = ℕ} 0 1 = cc in absurd (omega arith)
-    go (late c n q l) e f v h = let z : _≡_ {A = ℕ} 0 1 = cc in absurd (omega arith)
+    go (early n q) e f v h = impossible (cc)
+    go (late c n q l) e f v h = impossible (cc)
     go (done c q l) e f v h =
         let m : c ≡ setMany k ps = cc in
         rw m

@@ -21,13 +21,13 @@ use Rattle.store.specs.Time.{keyExists, lowestSlot, entryOf}
 use Rattle.store.specs.Promises.{Held, entryAt}
 use Rattle.store.specs.Valid.{Fits, FitsSlot}
 use Rattle.store.proofs.Encode.{decode-valid}
-use Rattle.store.proofs.Slots.{entry-at-lowest, lowest-entry-none}
+use Rattle.store.proofs.Slots.{holds-none, entry-at-lowest, lowest-entry-none}
 use Rattle.store.proofs.Searches.{named-held, found-at, found-nothing}
 use Rattle.store.proofs.Changes.{held-entry}
 use Rattle.commands.specs.declared.Question.{Question}
 use Rattle.commands.specs.declared.Question.the-variants.{Value, Length, Exists, Versioned, Version, Seconds, Milliseconds}
 use Rattle.commands.specs.Effect.{timeLeft, reply}
-use Rattle.commands.specs.Promises.{Looked, timeLeftOf, noVersionOf}
+use Rattle.commands.specs.Promises.{Looked, timeLeftOf, noVersionOf, answerMost, answerAbout}
 use Rattle.commands.proofs.Replies.{answer-short}
 
 -- ---- signs
@@ -74,11 +74,11 @@ held-fits {b} {i} h = subst FitsSlot (held-entry (decode b .slots) i (h .held)) 
 -- ---- room
 
 -- There is room for what is replied of a slot's entry,
-pub found-room : (time : ℕ) (q : Question) {b x : List ℕ} {i n : ℕ} → Held b i → 146 ≤ n → reply time [] [] q (some (entryAt (decode b .slots) i)) ≡ x → length x ≤ n
+pub found-room : (time : ℕ) (q : Question) {b x : List ℕ} {i n : ℕ} → Held b i → answerMost ≤ n → reply time [] [] q (some (entryAt (decode b .slots) i)) ≡ x → length x ≤ n
 found-room time q {b} {i = i} h l e = rw (← e) (omega (arith, answer-short time [] [] q (some (entryAt (decode b .slots) i)) (held-fits h) .short))
 
 -- and of a missing field.
-pub missing-room : (time : ℕ) (ss : List Slot) (k : List ℕ) (q : Question) {x : List ℕ} {n : ℕ} → 146 ≤ n → reply time ss k q none ≡ x → length x ≤ n
+pub missing-room : (time : ℕ) (ss : List Slot) (k : List ℕ) (q : Question) {x : List ℕ} {n : ℕ} → answerMost ≤ n → reply time ss k q none ≡ x → length x ≤ n
 missing-room time ss k q l e = rw (← e) (omega (arith, answer-short time ss k q none tt .short))
 
 -- What is laid is the reply.
@@ -126,7 +126,7 @@ pub pair-reply : {v w : List ℕ} {m n : ℕ} → v ≡ w → m ≡ n → array 
 pair-reply {w = w} {n = n} g f = rw (g, f) (pair-parts (bulk w) (number n))
 
 -- has room.
-pub pair-room : {b v : List ℕ} {i m n : ℕ} → Held b i → 146 ≤ n → v ≡ entryAt (decode b .slots) i .value → m ≡ entryAt (decode b .slots) i .version
+pub pair-room : {b v : List ℕ} {i m n : ℕ} → Held b i → answerMost ≤ n → v ≡ entryAt (decode b .slots) i .value → m ≡ entryAt (decode b .slots) i .version
     → length ((header 2 ++ bulk v) ++ number m) ≤ n
 pair-room {b} {i = i} h l g f = found-room 0 Versioned h l (versioned-reply 0 (entryAt (decode b .slots) i) refl ∙ pair-reply g f)
 
@@ -163,10 +163,6 @@ module _ (time : ℕ) (ss : List Slot) (k : List ℕ) {q : Question} where
 
 -- ---- the entry that was looked for
 
-holds-none : (k f : List ℕ) → holds k f none ≡ false
-unfolding holds orElse
-holds-none k f = refl
-
 -- The reply about an entry does not look at the slots.
 reply-found : (time : ℕ) (ss : List Slot) (k : List ℕ) (q : Question) (e : Entry) → reply time ss k q (some e) ≡ reply time [] [] q (some e)
 unfolding reply orElse
@@ -193,11 +189,12 @@ module _ (b k f : List ℕ) {r : Found} (h : Looked b k f r) where
   pub looked-missing : r ≡ founds.Nothing → entryOf k f (decode b .slots) ≡ none
   looked-missing e = lowest-entry-none k f (decode b .slots) (found-nothing (lowestSlot (holds k f) (decode b .slots)) (sym e ∙ h))
 
-  -- The reply to a question about the field, in both cases
+  -- The answer to a question about the field, in both cases
   pub found-reply : (time : ℕ) (q : Question) {i : ℕ} → wellFormed b ≡ true → r ≡ founds.At i
-      → reply time (decode b .slots) k q (entryOf k f (decode b .slots)) ≡ reply time [] [] q (some (entryAt (decode b .slots) i))
+      → answerAbout time b k q f ≡ reply time [] [] q (some (entryAt (decode b .slots) i))
+  unfolding answerAbout
   found-reply time q {i} w e = rw (looked-entry w e) (reply-found time (decode b .slots) k q (entryAt (decode b .slots) i))
 
-  pub missing-reply : (time : ℕ) (q : Question) → r ≡ founds.Nothing
-      → reply time (decode b .slots) k q (entryOf k f (decode b .slots)) ≡ reply time (decode b .slots) k q none
+  pub missing-reply : (time : ℕ) (q : Question) → r ≡ founds.Nothing → answerAbout time b k q f ≡ reply time (decode b .slots) k q none
+  unfolding answerAbout
   missing-reply time q e = ap (reply time (decode b .slots) k q) (looked-missing e)

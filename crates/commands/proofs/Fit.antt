@@ -19,29 +19,31 @@ use Rattle.store.specs.Time.{nowAt, entryOf, ofKey, liveOfKey}
 use Rattle.store.specs.Valid.{Fits, FitsSlot, AllFit, Valid}
 use Rattle.commands.specs.declared.Listing.{Listing}
 use Rattle.commands.specs.declared.Listing.the-variants.{Fields, Values, Both}
-use Rattle.commands.specs.Command.{Command, fieldsOf}
+use Rattle.commands.specs.Refusal.{bufferLeast}
+use Rattle.commands.specs.Command.{Command, keyOf, fieldsOf}
 use Rattle.commands.specs.Command.Command.{onField, setMany, getMany, delete, countHeld, countLive, list}
 use Rattle.commands.specs.Effect.{reply, listed, listedSlot, effect}
 use Rattle.commands.specs.Execute.{Outcome, exec}
+use Rattle.commands.specs.Promises.{answerMost}
 use Rattle.commands.proofs.Went.{Went, went, sweptBy}
 use Rattle.commands.proofs.Went.Went.{early, late, done}
 use Rattle.commands.proofs.Full.{proper}
 use Rattle.commands.proofs.Replies.{loosen, error-short, value-short, field-short, few-short, array-short, answer-short, deed-short}
-use Rattle.commands.proofs.Sound.{Short, parse-few}
+use Rattle.commands.proofs.Sound.{Bounded, parse-few}
 use Rattle.commands.proofs.Writes.{found-fits}
 use Rattle.commands.proofs.Sweep.{sweep-fits, length-sweep}
 
 -- Lists one after the other.
-join-short : {a b : ℕ} (r t : List ℕ) → Short a r → Short b t → Short (a + b) (r ++ t)
+join-short : {a b : ℕ} (r t : List ℕ) → Bounded a r → Bounded b t → Bounded (a + b) (r ++ t)
 join-short r t h g = record { short = rw (length-append r t) (omega (arith, h .short, g .short)); bytes = bytes-append r t (h .bytes) (g .bytes) }
 
-empty-short : Short 0 []
+empty-short : Bounded 0 []
 empty-short = record { short = omega arith; bytes = refl }
 
 -- a list of elements, and their bytes together
 record Listed (n most : ℕ) (xs : List (List ℕ)) : Type 0 where
   count : length xs ≤ n
-  sum : Short most (flatten xs)
+  sum : Bounded most (flatten xs)
 
 -- the elements that one entry gives: at most two, of at most 110 bytes together
 listed-entry : (l : Listing) (e : Entry) → Fits e → Listed 2 110 (listed l e)
@@ -82,26 +84,26 @@ listed-slots l p (s ∷ ss) h = go (p s) (listed-slot l s (h 0)) (listed-slots l
         }
     go false a b = record { count = omega (arith, b .count); sum = loosen (110 * suc (length ss)) (omega arith) (b .sum) }
 
-count-short : (p : Slot → Bool) (ss : List Slot) → length ss ≤ slotsMost → Short 6 (number (length (keep p ss)))
+count-short : (p : Slot → Bool) (ss : List Slot) → length ss ≤ slotsMost → Bounded 6 (number (length (keep p ss)))
 count-short p ss n = few-short (length (keep p ss)) (omega (arith, length-keep p ss))
 
-ok-short : Short 5 (line "+OK")
+ok-short : Bounded 5 (line "+OK")
 unfolding line text
 ok-short = record { short = omega arith; bytes = refl }
 
-map-short : (most : ℕ) (g : Word → List ℕ) (fs : List Word) → ((f : Word) → Short most (g f)) → (i : ℕ) → Short most (getD (map g fs) i [])
+map-short : (most : ℕ) (g : Word → List ℕ) (fs : List Word) → ((f : Word) → Bounded most (g f)) → (i : ℕ) → Bounded most (getD (map g fs) i [])
 map-short most g [] h i = loosen most (omega arith) empty-short
 map-short most g (f ∷ fs) h zero = h f
 map-short most g (f ∷ fs) h (suc i) = map-short most g fs h i
 
 -- an array of at most 62 replies about one field
-many-short : (g : Word → List ℕ) (fs : List Word) → length fs ≤ 62 → ((f : Word) → Short 146 (g f)) → Short 9057 (array (map g fs))
+many-short : (g : Word → List ℕ) (fs : List Word) → length fs ≤ 62 → ((f : Word) → Bounded answerMost (g f)) → Bounded 9057 (array (map g fs))
 many-short g fs few h =
     let n : length (map g fs) ≡ length fs = length-map fs g in
-    loosen 9057 (omega arith) (array-short 2 146 (map g fs) (omega arith) (omega arith) (map-short 146 g fs h))
+    loosen 9057 (omega arith) (array-short 2 answerMost (map g fs) (omega arith) (omega arith) (map-short answerMost g fs h))
 
 -- an array of at most 1,000 elements
-list-short : (xs : List (List ℕ)) → Listed 1000 55000 xs → Short 55007 (array xs)
+list-short : (xs : List (List ℕ)) → Listed 1000 55000 xs → Bounded 55007 (array xs)
 unfolding array
 list-short xs h =
     join-short (header (length xs)) (flatten xs)
@@ -110,7 +112,7 @@ list-short xs h =
 
 -- An accepted command that is not refused replies in at most 55,007 bytes.
 pub effect-short : (now : ℕ) (c : Command) (ss : List Slot) → AllFit ss → length ss ≤ slotsMost → length (fieldsOf c) ≤ 62
-    → effect now c ss .overflows ≡ false → Short 55007 (effect now c ss .reply)
+    → effect now c ss .overflows ≡ false → Bounded 55007 (effect now c ss .reply)
 unfolding effect fieldsOf
 effect-short now (onField k f d) ss h n few o = loosen 55007 (omega arith) (deed-short now ss k f d (entryOf k f ss) (found-fits k f ss h) o)
 effect-short now (setMany k ps) ss h n few o = loosen 55007 (omega arith) ok-short
@@ -125,18 +127,18 @@ effect-short now (list k l) ss h n few o =
     list-short (flatMap (listedSlot l) (keep (liveOfKey now k) ss))
     (record { count = omega (arith, a .count); sum = loosen 55000 (omega arith) (a .sum) })
 
-exec-short : (clock : ℕ) (command : List ℕ) (s : Store) → Valid s → Short 55007 (exec clock command s .reply)
+exec-short : (clock : ℕ) (command : List ℕ) (s : Store) → Valid s → Bounded 55007 (exec clock command s .reply)
 exec-short clock command s v = go (went clock command s)
   where
-    go : {o : Outcome} → Went clock command s o → Short 55007 (o .reply)
+    go : {o : Outcome} → Went clock command s o → Bounded 55007 (o .reply)
     go (early n p) = loosen 55007 (omega arith) (error-short n)
     go (late c n p l) = loosen 55007 (omega arith) (error-short n)
     go (done c p l) =
-        effect-short (nowAt clock s) c (sweptBy (nowAt clock s) c s) (sweep-fits (nowAt clock s) c (s .slots) (v .fits))
-        (omega (arith, length-sweep (nowAt clock s) c (s .slots), v .most))
+        effect-short (nowAt clock s) c (sweptBy (nowAt clock s) c s) (sweep-fits (nowAt clock s) (keyOf c) (fieldsOf c) (s .slots) (v .fits))
+        (omega (arith, length-sweep (nowAt clock s) (keyOf c) (fieldsOf c) (s .slots), v .most))
         (parse-few (nowAt clock s) clock command c p)
         (proper (nowAt clock s) c s l .0 .bounded)
 
 -- Every reply fits in the least buffer.
-pub reply-fits : (clock : ℕ) (command : List ℕ) (s : Store) → Valid s → length (exec clock command s .reply) ≤ 56000
+pub reply-fits : (clock : ℕ) (command : List ℕ) (s : Store) → Valid s → length (exec clock command s .reply) ≤ bufferLeast
 reply-fits clock command s v = omega (arith, exec-short clock command s v .short)

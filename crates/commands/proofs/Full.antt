@@ -1,6 +1,6 @@
 -- The store is full exactly where the fields that a command would add are more than the slots that are empty or dead.
-use mathlib.Core.Path.{_≡_, refl}
-use mathlib.Core.Logic.{_↔_}
+use mathlib.Core.Path.{_≡_, refl, _∙_}
+use mathlib.Core.Logic.{_↔_, _⊎_, inl, inr}
 use mathlib.Core.Bool.{Bool, true, false}
 use mathlib.Core.List.{List, [], _∷_}
 use mathlib.Core.Option.{none, some}
@@ -11,14 +11,14 @@ use borrow.Author.Tests.{ltb-true, ltb-false, lt-ltb, le-ltb}
 use Rattle.wire.specs.Lists.{any}
 use Rattle.store.specs.Store.{Slot, Store}
 use Rattle.store.specs.Time.{nowAt}
-use Rattle.commands.specs.Refusal.{_when_, lowest}
+use Rattle.commands.specs.Refusal.{Check, _when_, lowest}
 use Rattle.commands.specs.Command.{Command}
 use Rattle.commands.specs.Parse.{parse}
 use Rattle.commands.specs.Parse.Parsed.{accepted}
 use Rattle.commands.specs.Effect.{Effect}
 use Rattle.commands.specs.Execute.{lateChecks, passes, added, room, exec}
 use Rattle.commands.specs.Claims.{Proper}
-use Rattle.commands.proofs.Checks.{lowest-none}
+use Rattle.commands.proofs.Checks.{check-applies, check-passed, lowest-some, lowest-none}
 use Rattle.commands.proofs.Went.{sweptBy, effectOn, lateRefusal, accepted-refusal}
 use Rattle.commands.proofs.Refused.{late-refusal}
 
@@ -29,30 +29,46 @@ roomIn now c s = room now (sweptBy now c s)
 abbrev pub addedBy : ℕ → Command → Store → ℕ
 addedBy now c s = added (effectOn now c s .changes) (sweptBy now c s)
 
-only-last : (a b d f g : Bool) → lowest (20 when a ∷ 21 when b ∷ 22 when d ∷ 23 when f ∷ 24 when g ∷ []) ≡ some 24
-    → (a ≡ false) × (b ≡ false) × (d ≡ false) × (f ≡ false) × (g ≡ true)
+-- The first check is passed where another number is given; the only one applies where one is.
+check-other : {m : ℕ} (c : Check) (cs : List Check) → (c .number ≡ m → ⊥) → lowest (c ∷ cs) ≡ some m → (c .applies ≡ false) × (lowest cs ≡ some m)
+check-other {m} c cs d h = go (lowest-some c cs m h)
+  where
+    go : ((c .applies ≡ true) × (c .number ≡ m)) ⊎ ((c .applies ≡ false) × (lowest cs ≡ some m)) → (c .applies ≡ false) × (lowest cs ≡ some m)
+    go (inl q) = absurd (d (q .1))
+    go (inr q) = q
+
+check-only : {m : ℕ} (c : Check) → lowest (c ∷ []) ≡ some m → c .applies ≡ true
 unfolding lowest
-only-last true b d f g h = let z : _≡_ {A = ℕ} 20 24 = cc in absurd (omega arith)
-only-last false true d f g h = let z : _≡_ {A = ℕ} 21 24 = cc in absurd (omega arith)
-only-last false false true f g h = let z : _≡_ {A = ℕ} 22 24 = cc in absurd (omega arith)
-only-last false false false true g h = let z : _≡_ {A = ℕ} 23 24 = cc in absurd (omega arith)
-only-last false false false false true h = (refl, refl, refl, refl, refl)
-only-last false false false false false h = (refl, refl, refl, refl, cc)
+check-only {m} c h = go (lowest-some c [] m h)
+  where
+    go : ((c .applies ≡ true) × (c .number ≡ m)) ⊎ ((c .applies ≡ false) × (lowest [] ≡ some m)) → c .applies ≡ true
+    go (inl q) = q .0
+    go (inr q) = let e = q .1 in cc
+
+-- where none of 20 to 23 applies, 24 is left
+proper-last : (now : ℕ) (e : Effect) (ss : List Slot) → Proper e
+    → lowest (lateChecks now e ss) ≡ lowest (24 when ltb (room now ss) (added (e .changes) ss) ∷ [])
+unfolding lateChecks
+proper-last now e ss p =
+    check-passed 20 _ (p .fresh) ∙ check-passed 21 _ (p .integral) ∙ check-passed 22 _ (p .bounded) ∙ check-passed 23 _ (p .numbered)
 
 full-late : (now : ℕ) (e : Effect) (ss : List Slot)
     → (lowest (lateChecks now e ss) ≡ some 24) ↔ (Proper e × (room now ss < added (e .changes) ss))
-unfolding lateChecks lowest
+unfolding lateChecks
 full-late now e ss = (there, back)
   where
     there : lowest (lateChecks now e ss) ≡ some 24 → Proper e × (room now ss < added (e .changes) ss)
     there h =
-        let r = only-last (e .stale) (e .notInteger) (e .overflows) (any passes (e .changes)) (ltb (room now ss) (added (e .changes) ss)) h in (
-          record { fresh = r .0; integral = r .1; bounded = r .2; numbered = r .3 },
-          ltb-true (room now ss) (added (e .changes) ss) (r .4),
+        let a = check-other _ _ (omega arith) h in
+        let b = check-other _ _ (omega arith) (a .1) in
+        let c = check-other _ _ (omega arith) (b .1) in
+        let d = check-other _ _ (omega arith) (c .1) in (
+          record { fresh = a .0; integral = b .0; bounded = c .0; numbered = d .0 },
+          ltb-true (room now ss) (added (e .changes) ss) (check-only _ (d .1)),
         )
 
     back : Proper e × (room now ss < added (e .changes) ss) → lowest (lateChecks now e ss) ≡ some 24
-    back f = rw (f .0 .fresh, f .0 .integral, f .0 .bounded, f .0 .numbered, lt-ltb (room now ss) (added (e .changes) ss) (f .1))
+    back f = proper-last now e ss (f .0) ∙ check-applies 24 [] (lt-ltb (room now ss) (added (e .changes) ss) (f .1))
 
 clear-proper : (now : ℕ) (e : Effect) (ss : List Slot) → lowest (lateChecks now e ss) ≡ none → Proper e × (added (e .changes) ss ≤ room now ss)
 unfolding lateChecks
@@ -66,11 +82,11 @@ clear-proper now e ss h =
 
 clear-late : (now : ℕ) (e : Effect) (ss : List Slot)
     → (lowest (lateChecks now e ss) ≡ none) ↔ (Proper e × (added (e .changes) ss ≤ room now ss))
-unfolding lateChecks lowest
+unfolding lowest
 clear-late now e ss = (clear-proper now e ss, back)
   where
     back : Proper e × (added (e .changes) ss ≤ room now ss) → lowest (lateChecks now e ss) ≡ none
-    back f = rw (f .0 .fresh, f .0 .integral, f .0 .bounded, f .0 .numbered, le-ltb (room now ss) (added (e .changes) ss) (f .1))
+    back f = proper-last now e ss (f .0) ∙ check-passed 24 [] (le-ltb (room now ss) (added (e .changes) ss) (f .1))
 
 -- An accepted command is refused with 24 exactly if none of 20 to 23 applies and it would add more fields than there is room for.
 pub full-exactly : (clock : ℕ) (command : List ℕ) (s : Store) (c : Command) → parse (nowAt clock s) clock command ≡ accepted c

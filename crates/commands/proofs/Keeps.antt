@@ -11,7 +11,7 @@ use Rattle.store.specs.Store.{Store, decode, wellFormed}
 use Rattle.store.specs.Time.{nowAt}
 use Rattle.store.specs.Valid.{AllFit, Apart, Valid}
 use Rattle.store.proofs.Encode.{decode-valid, encode-well, decode-encode, encode-decode, length-encode}
-use Rattle.commands.specs.Command.{Command}
+use Rattle.commands.specs.Command.{Command, keyOf, fieldsOf}
 use Rattle.commands.specs.Parse.{parse}
 use Rattle.commands.specs.Parse.Parsed.{accepted}
 use Rattle.commands.specs.Execute.{Outcome, exec, execBytes}
@@ -29,10 +29,10 @@ exec-count clock command s = go (went clock command s)
   where
     go : {o : Outcome} → Went clock command s o → length (o .store .slots) ≡ length (s .slots)
     go (early n p) = refl
-    go (late c n p l) = length-sweep (nowAt clock s) c (s .slots)
+    go (late c n p l) = length-sweep (nowAt clock s) (keyOf c) (fieldsOf c) (s .slots)
     go (done c p l) =
         length-changes (nowAt clock s) (effectOn (nowAt clock s) c s .changes) (sweptBy (nowAt clock s) c s)
-        ∙ length-sweep (nowAt clock s) c (s .slots)
+        ∙ length-sweep (nowAt clock s) (keyOf c) (fieldsOf c) (s .slots)
 
 pub now-early : (clock : ℕ) (s : Store) → s .clock < timeLimit → clock < timeLimit → nowAt clock s < timeLimit
 unfolding nowAt
@@ -55,10 +55,10 @@ exec-apart clock command s h = go (went clock command s)
   where
     go : {o : Outcome} → Went clock command s o → Apart (o .store .slots)
     go (early n p) = h
-    go (late c n p l) = sweep-apart (nowAt clock s) c (s .slots) h
+    go (late c n p l) = sweep-apart (nowAt clock s) (keyOf c) (fieldsOf c) (s .slots) h
     go (done c p l) =
         changes-apart (nowAt clock s) (effectOn (nowAt clock s) c s .changes) (sweptBy (nowAt clock s) c s)
-        (sweep-apart (nowAt clock s) c (s .slots) h)
+        (sweep-apart (nowAt clock s) (keyOf c) (fieldsOf c) (s .slots) h)
 
 -- Every record leaves slots that fit.
 pub exec-fits : (clock : ℕ) (command : List ℕ) (s : Store) → Bytes command → AllFit (s .slots) → AllFit (exec clock command s .store .slots)
@@ -66,10 +66,10 @@ exec-fits clock command s b h = go (went clock command s)
   where
     go : {o : Outcome} → Went clock command s o → AllFit (o .store .slots)
     go (early n p) = h
-    go (late c n p l) = sweep-fits (nowAt clock s) c (s .slots) h
+    go (late c n p l) = sweep-fits (nowAt clock s) (keyOf c) (fieldsOf c) (s .slots) h
     go (done c p l) =
         let r : Proper (effectOn (nowAt clock s) c s) = proper (nowAt clock s) c s l .0 in
-        let f : AllFit (sweptBy (nowAt clock s) c s) = sweep-fits (nowAt clock s) c (s .slots) h in
+        let f : AllFit (sweptBy (nowAt clock s) c s) = sweep-fits (nowAt clock s) (keyOf c) (fieldsOf c) (s .slots) h in
         changes-fit (nowAt clock s) (effectOn (nowAt clock s) c s .changes) (sweptBy (nowAt clock s) c s) (r .numbered)
         (effect-writable (nowAt clock s) c (sweptBy (nowAt clock s) c s) (parse-sound (nowAt clock s) clock command c b p) f (r .bounded))
         f

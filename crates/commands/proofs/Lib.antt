@@ -21,9 +21,9 @@ pub mod Lines
 pub mod RowNumbers
 pub mod Scanning
 pub mod Acts
-pub mod Plans
+pub mod VersionPlans
 pub mod Settling
-pub mod Deeds
+pub mod FieldDeeds
 pub mod OneField
 pub mod Answers
 pub mod Elements
@@ -40,4 +40,4 @@ pub mod Families
 pub mod FromBytes
 pub mod KeyDone
 pub mod PairsDone
-pub mod Executed
+pub mod ExecuteDone

@@ -134,10 +134,10 @@ others-kept clock command s c a i e h l n = go (went clock command s)
   where
     go : {o : Outcome} → Went clock command s o → getD (o .store .slots) i none ≡ some e
     go (early k p) = h
-    go (late d k p r) = sweep-keeps-live (nowAt clock s) d (s .slots) i e h l
+    go (late d k p r) = sweep-keeps-live (nowAt clock s) (keyOf d) (fieldsOf d) (s .slots) i e h l
     go (done d p r) =
         let m : c ≡ d = cc in
         changes-keep (nowAt clock s) (effectOn (nowAt clock s) d s .changes) (sweptBy (nowAt clock s) d s) i e
-        (sweep-keeps-live (nowAt clock s) d (s .slots) i e h l)
+        (sweep-keeps-live (nowAt clock s) (keyOf d) (fieldsOf d) (s .slots) i e h l)
         l
         (effect-concerns (nowAt clock s) d (sweptBy (nowAt clock s) d s) e (rw m at n))

@@ -1,5 +1,5 @@
 -- How an effect settles: what is replied and what the store then holds, by the first of 20 to 24 that applies.
-use mathlib.Core.Path.{_≡_, refl, sym, _∙_}
+use mathlib.Core.Path.{_≡_, refl, sym, ap, _∙_}
 use mathlib.Core.Bool.{Bool, true, false, cond, not, _||_}
 use mathlib.Core.List.{List, [], _∷_}
 use mathlib.Core.Option.{Option, none, some}
@@ -9,63 +9,96 @@ use lib.ListN.{getD}
 use native.Mathlib.Omega.{arith}
 use borrow.Author.Tests.{lt-ltb, le-ltb}
 use Rattle.wire.specs.Lists.{any, all, orElse}
-use Rattle.wire.specs.Promises.{Laid}
+use Rattle.wire.specs.Integer.{lowest64, highest64, within}
+use Rattle.wire.specs.Reply.{integer}
+use Rattle.wire.specs.declared.integers.Signed.{Signed}
+use Rattle.wire.specs.Promises.{integerOf, Laid}
 use Rattle.wire.proofs.Lists.{any-at, both-ways}
 use Rattle.store.specs.Layout.{versionMost}
 use Rattle.store.specs.declared.Found.the-variants as founds
-use Rattle.store.specs.Store.{Entry, Slot, Store, decode, wellFormed, holds}
+use Rattle.store.specs.Store.{Entry, Slot, Store, withSlots, decode, wellFormed, holds}
 use Rattle.store.specs.Time.{before, live, liveSlot, roomSlot, slotFor, put}
 use Rattle.store.specs.Promises.{Holds, withSlot}
 use Rattle.store.proofs.Put.{Place, slot-place}
 use Rattle.store.proofs.Searches.{found-at, found-nothing}
-use Rattle.commands.specs.declared.field.Written.{Written}
-use Rattle.commands.specs.declared.field.Written.the-variants as writes
-use Rattle.commands.specs.Refusal.{table, lowest, errorLine}
+use Rattle.commands.specs.declared.Question.{Question}
+use Rattle.commands.specs.declared.field.WriteOutcome.{WriteOutcome}
+use Rattle.commands.specs.declared.field.WriteOutcome.the-variants as writes
+use Rattle.commands.specs.declared.field.Settled.{Settled}
+use Rattle.commands.specs.declared.field.Settled.the-variants as settleds
+use Rattle.commands.specs.Refusal.{_when_, table, lowest}
 use Rattle.commands.specs.Effect.{Effect, answer, writing, change, changeAll}
 use Rattle.commands.specs.Effect.Change.{write}
-use Rattle.commands.specs.Execute.{Outcome, passes, adds, added, room, lateChecks}
+use Rattle.commands.specs.Execute.{Outcome, refusedWith, doneWith, settle, passes, adds, added, room, lateChecks}
 use Rattle.commands.specs.ParsePromises.{isRefusal}
-use Rattle.commands.specs.Promises.{Does, Wrote, settle, lookFor, versioned, writtenFor}
-use Rattle.commands.proofs.Checks.{lowest-number}
-use Rattle.commands.proofs.Went.{refusing}
+use Rattle.commands.specs.Promises.{Does, Wrote, Settles, Changes, settledReply, tellable, writeSettled, lookFor, versioned, outcomeFor}
+use Rattle.commands.proofs.Checks.{lowest-number, check-applies, check-passed}
 use Rattle.commands.proofs.Room.{keep-set-less, slot-none}
 use Rattle.commands.proofs.Acts.{holds-self}
 
+-- ---- settled
+
+-- a reply that is no question
+module _ {o : Outcome} {before after : List ℕ} (h : Holds after (o .store)) where
+  refused-settles : (n : ℕ) → isRefusal n ≡ true → (about : Question → List ℕ) → o .reply ≡ settledReply about (settleds.Refused n)
+      → Settles about o before after (settleds.Refused n)
+  unfolding tellable
+  refused-settles n k about e = record { reply = e; told = k; holds = h; asked = λ q x. cc }
+
+  replied-settles : (z : Signed) → within lowest64 highest64 (integerOf z) ≡ true → (about : Question → List ℕ)
+      → o .reply ≡ settledReply about (settleds.Replied z) → Settles about o before after (settleds.Replied z)
+  unfolding tellable
+  replied-settles z k about e = record { reply = e; told = k; holds = h; asked = λ q x. cc }
+
+-- Equal effects settle alike.
+pub changes-as : (time : ℕ) {E D : Effect} {b after : List ℕ} {r : Settled} → E ≡ D → Changes time D b after r → Changes time E b after r
+changes-as time h w = rw h w
+
 -- ---- refused, or nothing to change
 
--- Equal effects do the same.
-pub does-as : (time : ℕ) {E D : Effect} (s : Store) {b d x : List ℕ} {r : ℕ} → E ≡ D → Does (settle time D s) b d x r → Does (settle time E s) b d x r
-does-as time s h w = rw h w
+-- 20 to 24 have lines.
+pub late-known : (time : ℕ) (E : Effect) (ss : List Slot) (n : ℕ) → lowest (lateChecks time E ss) ≡ some n → isRefusal n ≡ true
+unfolding lateChecks isRefusal any table all
+late-known time E ss n h = lowest-number isRefusal (lateChecks time E ss) n refl h
 
-does-refused : (time : ℕ) (E : Effect) (n : ℕ) {b d x : List ℕ} {r : ℕ} → wellFormed b ≡ true → lowest (lateChecks time E (decode b .slots)) ≡ some n
-    → Laid (errorLine n) d x r → Does (settle time E (decode b)) b d x r
-unfolding settle orElse
-does-refused time E n w h l = rw h (record { laid = l; holds = holds-self w })
+module _ (time : ℕ) (E : Effect) {b : List ℕ} (w : wellFormed b ≡ true) where
+  changes-refused : (n : ℕ) → lowest (lateChecks time E (decode b .slots)) ≡ some n → Changes time E b b (settleds.Refused n)
+  unfolding settle orElse settledReply
+  changes-refused n h about = rw h (refused-settles (holds-self w) n (late-known time E (decode b .slots) n h) about refl)
 
-module _ (time : ℕ) (E : Effect) {b d x : List ℕ} {r : ℕ} (w : wellFormed b ≡ true) where
   -- 20 applies
-  pub does-stale : E .stale ≡ true → Laid (errorLine 20) d x r → Does (settle time E (decode b)) b d x r
-  unfolding lateChecks lowest
-  does-stale h l = does-refused time E 20 w (rw h refl) l
+  pub changes-stale : E .stale ≡ true → Changes time E b b (settleds.Refused 20)
+  unfolding lateChecks
+  changes-stale h = changes-refused 20 (check-applies 20 _ h)
 
-  -- 21 is the first
-  pub does-unread : E .stale ≡ false → E .notInteger ≡ true → Laid (errorLine 21) d x r → Does (settle time E (decode b)) b d x r
-  unfolding lateChecks lowest
-  does-unread g h l = does-refused time E 21 w (rw (g, h) refl) l
+  module _ (f : E .stale ≡ false) where
+    -- 21 is the first
+    pub changes-unread : E .notInteger ≡ true → Changes time E b b (settleds.Refused 21)
+    unfolding lateChecks
+    changes-unread h = changes-refused 21 (check-passed 20 _ f ∙ check-applies 21 _ h)
 
-  -- 22 is the first
-  pub does-overflow : E .stale ≡ false → E .notInteger ≡ false → E .overflows ≡ true → Laid (errorLine 22) d x r → Does (settle time E (decode b)) b d x r
-  unfolding lateChecks lowest
-  does-overflow f g h l = does-refused time E 22 w (rw (f, g, h) refl) l
+    -- 22 is the first
+    pub changes-overflow : E .notInteger ≡ false → E .overflows ≡ true → Changes time E b b (settleds.Refused 22)
+    unfolding lateChecks
+    changes-overflow g h =
+        changes-refused 22 (check-passed 20 _ f ∙ check-passed 21 _ g ∙ check-applies 22 _ h)
 
 answer-clear : (time : ℕ) (y : List ℕ) (ss : List Slot) → lowest (lateChecks time (answer y) ss) ≡ none
 unfolding lateChecks lowest any added
 answer-clear time y ss = rw (le-ltb (room time ss) 0 (omega arith)) refl
 
 -- A reply and no change.
-pub does-answer : (time : ℕ) {b y d x : List ℕ} {r : ℕ} → wellFormed b ≡ true → Laid y d x r → Does (settle time (answer y) (decode b)) b d x r
+pub answer-settle : (time : ℕ) (y : List ℕ) (s : Store) → settle time (answer y) s ≡ doneWith y s
 unfolding settle orElse changeAll
-does-answer time {b} {y} w l = rw (answer-clear time y (decode b .slots)) (record { laid = l; holds = holds-self w })
+answer-settle time y s = rw (answer-clear time y (s .slots)) refl
+
+pub does-answer : (time : ℕ) {b y d x : List ℕ} {r : ℕ} → wellFormed b ≡ true → Laid y d x r → Does (settle time (answer y) (decode b)) b d x r
+does-answer time {b} {y} w l = rw (answer-settle time y (decode b)) (record { laid = l; holds = holds-self w })
+
+pub changes-answer : (time : ℕ) (z : Signed) {b : List ℕ} → wellFormed b ≡ true → within lowest64 highest64 (integerOf z) ≡ true
+    → Changes time (answer (integer (integerOf z))) b b (settleds.Replied z)
+unfolding settledReply
+changes-answer time z {b} w k about = rw (answer-settle time (integer (integerOf z)) (decode b)) (replied-settles (holds-self w) z k about refl)
 
 -- ---- one entry written
 
@@ -82,93 +115,77 @@ slot-room time k f ss i h n =
     go true q = both-ways (p .own q) (any-at (holds k f) ss none n i (p .inside))
     go false q = q
 
-module _ (time : ℕ) (e : Entry) (ss : List Slot) where
-  checks : Option ℕ
-  checks = lowest (lateChecks time (writing false e []) ss)
+module _ (time : ℕ) (e : Entry) (y : List ℕ) (ss : List Slot) where
+  lateOf : Option ℕ
+  lateOf = lowest (lateChecks time (writing false e y) ss)
 
-  passing : versionMost < e .version → checks ≡ some 23
-  unfolding checks lateChecks lowest any passes
-  passing h = rw (lt-ltb versionMost (e .version) h) refl
+  -- only 23 and 24 can refuse it
+  late-write : lateOf ≡ lowest (23 when any passes (write e ∷ []) ∷ 24 when ltb (room time ss) (added (write e ∷ []) ss) ∷ [])
+  unfolding lateOf lateChecks
+  late-write = check-passed 20 _ refl ∙ check-passed 21 _ refl ∙ check-passed 22 _ refl
+
+  passing : versionMost < e .version → lateOf ≡ some 23
+  unfolding any passes
+  passing h = late-write ∙ check-applies 23 _ (rw (lt-ltb versionMost (e .version) h))
 
   module _ (l : e .version ≤ versionMost) where
-    full : slotFor time (e .key) (e .field) ss ≡ none → checks ≡ some 24
-    unfolding checks lateChecks lowest any passes added adds
-    full h =
-        let n = slot-none time (e .key) (e .field) ss h in
-        rw (le-ltb versionMost (e .version) l, n .0, n .1) refl
+    late-last : lateOf ≡ lowest (24 when ltb (room time ss) (added (write e ∷ []) ss) ∷ [])
+    unfolding any passes
+    late-last = late-write ∙ check-passed 23 _ (rw (le-ltb versionMost (e .version) l))
 
-    clear : (i : ℕ) → slotFor time (e .key) (e .field) ss ≡ some i → checks ≡ none
-    unfolding checks lateChecks lowest any passes added adds
-    clear i h = rw (le-ltb versionMost (e .version) l) (go (any (holds (e .key) (e .field)) ss) refl)
+    full : slotFor time (e .key) (e .field) ss ≡ none → lateOf ≡ some 24
+    unfolding any added adds
+    full h = let n = slot-none time (e .key) (e .field) ss h in late-last ∙ check-applies 24 [] (rw (n .0, n .1))
+
+    clear : (i : ℕ) → slotFor time (e .key) (e .field) ss ≡ some i → lateOf ≡ none
+    unfolding lowest any added adds
+    clear i h = late-last ∙ check-passed 24 [] (go (any (holds (e .key) (e .field)) ss) refl)
       where
-        last : ℕ → Option ℕ
-        last n = cond (ltb (room time ss) n) (some 24) none
-
-        go : (t : Bool) → any (holds (e .key) (e .field)) ss ≡ t → last (cond (not (t || false)) 1 0) ≡ none
-        go true q = rw (le-ltb (room time ss) 0 (omega arith)) refl
-        go false q = rw (le-ltb (room time ss) 1 (slot-room time (e .key) (e .field) ss i h q)) refl
+        go : (t : Bool) → any (holds (e .key) (e .field)) ss ≡ t → ltb (room time ss) (cond (not (t || false)) 1 0) ≡ false
+        go true q = le-ltb (room time ss) 0 (omega arith)
+        go false q = le-ltb (room time ss) 1 (slot-room time (e .key) (e .field) ss i h q)
 
 -- what a write comes to, by its outcome
-wrote : (time : ℕ) (e : Entry) (b : List ℕ) (o : Outcome) {after : List ℕ} {r : Written} → settle time (writing false e []) (decode b) ≡ o
-    → r ≡ writtenFor (o .refusal) → Holds after (o .store) → Wrote time e b after r
+wrote : (time : ℕ) (e : Entry) (b : List ℕ) (o : Outcome) {after : List ℕ} {r : WriteOutcome} → settle time (writing false e []) (decode b) ≡ o
+    → r ≡ outcomeFor (o .refusal) → Holds after (o .store) → Wrote time e b after r
 wrote time e b o h q x = record { answer = rw h q; holds = rw h x }
 
 module _ (time : ℕ) (e : Entry) {b : List ℕ} (w : wellFormed b ≡ true) where
   -- Its version passes the largest.
   pub wrote-passes : versionMost < e .version → Wrote time e b b (writes.Refused 23)
-  unfolding settle orElse checks writtenFor
-  wrote-passes h = wrote time e b (refusing 23 (decode b)) (rw (passing time e (decode b .slots) h) refl) refl (holds-self w)
+  unfolding settle orElse lateOf outcomeFor
+  wrote-passes h = wrote time e b (refusedWith 23 (decode b)) (rw (passing time e [] (decode b .slots) h) refl) refl (holds-self w)
 
   module _ (l : e .version ≤ versionMost) where
     -- There is no place for it.
     pub wrote-full : founds.Nothing ≡ lookFor time (e .key) (e .field) (decode b .slots) → Wrote time e b b (writes.Refused 24)
-    unfolding settle orElse checks writtenFor lookFor
+    unfolding settle orElse lateOf outcomeFor lookFor
     wrote-full h =
         let given = found-nothing (slotFor time (e .key) (e .field) (decode b .slots)) h in
-        wrote time e b (refusing 24 (decode b)) (rw (full time e (decode b .slots) l given) refl) refl (holds-self w)
+        wrote time e b (refusedWith 24 (decode b)) (rw (full time e [] (decode b .slots) l given) refl) refl (holds-self w)
 
     -- It stands in its place.
     pub wrote-done : {i : ℕ} {d : List ℕ} → founds.At i ≡ lookFor time (e .key) (e .field) (decode b .slots)
         → Holds d (withSlot i (some e) (decode b)) → Wrote time e b d writes.Done
-    unfolding settle orElse checks writtenFor lookFor changeAll change put
+    unfolding settle orElse lateOf outcomeFor lookFor changeAll change put
     wrote-done {i} h x =
         let given = found-at (slotFor time (e .key) (e .field) (decode b .slots)) i h in
-        wrote time e b (record { refusal = none; reply = []; store = withSlot i (some e) (decode b) })
-        (rw (clear time e (decode b .slots) l i given, given) refl)
-        refl
-        x
+        wrote time e b (doneWith [] (withSlot i (some e) (decode b))) (rw (clear time e [] (decode b .slots) l i given, given) refl) refl x
 
--- What is replied of it
-module _ (time : ℕ) (e : Entry) {b after : List ℕ} {w : Written} (h : Wrote time e b after w) where
-  abbrev done : List ℕ → Outcome
-  done z = record { refusal = none; reply = z; store = record { clock = decode b .clock; slots = changeAll time (write e ∷ []) (decode b .slots) } }
+-- A write that is replied with an integer settles by its outcome.
+pub wrote-settles : (time : ℕ) (e : Entry) (z : Signed) {b after : List ℕ} {w : WriteOutcome} {r : Settled}
+    → within lowest64 highest64 (integerOf z) ≡ true → Wrote time e b after w → r ≡ writeSettled w z
+    → Changes time (writing false e (integer (integerOf z))) b after r
+unfolding settle orElse outcomeFor lateChecks writeSettled settledReply
+wrote-settles time e z {b} {after} {w} {r} k h q about =
+    go (lowest (lateChecks time (writing false e []) (decode b .slots))) refl (h .answer) (h .holds)
+  where
+    done : List ℕ → Outcome
+    done y = doneWith y (withSlots (changeAll time (write e ∷ []) (decode b .slots)) (decode b))
 
-  -- is one of the refusals' lines,
-  pub wrote-known : {n : ℕ} → w ≡ writes.Refused n → isRefusal n ≡ true
-  unfolding settle orElse writtenFor lateChecks isRefusal any table all
-  wrote-known {n} q = go (lowest (lateChecks time (writing false e []) (decode b .slots))) refl (sym q ∙ h .answer)
-    where
-      go : (o : Option ℕ) → lowest (lateChecks time (writing false e []) (decode b .slots)) ≡ o
-          → writes.Refused n ≡ writtenFor (orElse o (done []) (λ m. refusing m (decode b)) .refusal) → isRefusal n ≡ true
-      go none p a = let z : _≡_ {A = ℕ} 0 1 = cc in absurd (omega arith)
-      go (some m) p a = let z : n ≡ m = cc in rw z (lowest-number isRefusal _ m refl p)
-
-  module _ (y : List ℕ) {d x : List ℕ} {r : ℕ} where
-    pub wrote-refused : {n : ℕ} → w ≡ writes.Refused n → Laid (errorLine n) d x r → Does (settle time (writing false e y) (decode b)) after d x r
-    unfolding settle orElse writtenFor lateChecks
-    wrote-refused {n} q l = go (lowest (lateChecks time (writing false e []) (decode b .slots))) (sym q ∙ h .answer) (h .holds)
-      where
-        go : (o : Option ℕ) → writes.Refused n ≡ writtenFor (orElse o (done []) (λ m. refusing m (decode b)) .refusal)
-            → Holds after (orElse o (done []) (λ m. refusing m (decode b)) .store) → Does (orElse o (done y) (λ m. refusing m (decode b))) after d x r
-        go none a s = let z : _≡_ {A = ℕ} 0 1 = cc in absurd (omega arith)
-        go (some m) a s = let z : n ≡ m = cc in record { laid = rw z at l; holds = s }
-
-    -- or what the effect replies.
-    pub wrote-replied : w ≡ writes.Done → Laid y d x r → Does (settle time (writing false e y) (decode b)) after d x r
-    unfolding settle orElse writtenFor lateChecks
-    wrote-replied q l = go (lowest (lateChecks time (writing false e []) (decode b .slots))) (sym q ∙ h .answer) (h .holds)
-      where
-        go : (o : Option ℕ) → writes.Done ≡ writtenFor (orElse o (done []) (λ m. refusing m (decode b)) .refusal)
-            → Holds after (orElse o (done []) (λ m. refusing m (decode b)) .store) → Does (orElse o (done y) (λ m. refusing m (decode b))) after d x r
-        go none a s = record { laid = l; holds = s }
-        go (some m) a s = let z : _≡_ {A = ℕ} 0 1 = cc in absurd (omega arith)
+    go : (o : Option ℕ) → lowest (lateChecks time (writing false e []) (decode b .slots)) ≡ o
+        → w ≡ outcomeFor (orElse o (done []) (λ m. refusedWith m (decode b)) .refusal)
+        → Holds after (orElse o (done []) (λ m. refusedWith m (decode b)) .store)
+        → Settles about (orElse o (done (integer (integerOf z))) (λ m. refusedWith m (decode b))) b after r
+    go none p a s = rw (q, a) (replied-settles s z k about refl)
+    go (some m) p a s = rw (q, a) (refused-settles s m (late-known time (writing false e []) (decode b .slots) m p) about refl)

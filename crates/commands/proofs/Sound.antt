@@ -25,18 +25,18 @@ use Rattle.commands.specs.Parse.Parsed.{accepted}
 use Rattle.commands.proofs.Checks.{checks-clear, Accepted, parse-accepted, givenIn, builtOf}
 
 -- a word of at most so many bytes
-pub record Short (most : ℕ) (w : Word) : Type 0 where
+pub record Bounded (most : ℕ) (w : Word) : Type 0 where
   pub short : length w ≤ most
   pub bytes : Bytes w
 
 -- every word of a list; past its end there is the empty one
-abbrev pub AllShort : ℕ → List Word → Type 0
-AllShort most ws = (i : ℕ) → Short most (getD ws i [])
+abbrev pub AllBounded : ℕ → List Word → Type 0
+AllBounded most ws = (i : ℕ) → Bounded most (getD ws i [])
 
 pub record Sound (c : Command) : Type 0 where
-  pub key : Short keyMost (keyOf c)
-  pub fields : AllShort fieldMost (fieldsOf c)
-  pub values : AllShort valueMost (valuesOf c)
+  pub key : Bounded keyMost (keyOf c)
+  pub fields : AllBounded fieldMost (fieldsOf c)
+  pub values : AllBounded valueMost (valuesOf c)
   pub within : onDeed (λ d. beyond (deedLifetime d)) c ≡ false
 
 -- ---- every word of the command is a word of the array, or empty
@@ -127,7 +127,7 @@ module _ (P : Word → Type 0) (empty : P []) where
 
 -- ---- no word is too long
 
-all-short : (most : ℕ) (ws : List Word) → any (λ w. ltb most (length w)) ws ≡ false → AllHave Bytes ws → AllShort most ws
+all-short : (most : ℕ) (ws : List Word) → any (λ w. ltb most (length w)) ws ≡ false → AllHave Bytes ws → AllBounded most ws
 all-short most ws a h i = record { short = go (ltb i (length ws)) refl; bytes = h i }
   where
     go : (t : Bool) → ltb i (length ws) ≡ t → length (getD ws i []) ≤ most

@@ -19,6 +19,7 @@ use Rattle.store.specs.declared.Expiry.{Expiry}
 use Rattle.store.specs.declared.Expiry.the-variants.{Never, At}
 use Rattle.store.specs.Store.{Entry, Slot, instantOf}
 use Rattle.store.specs.Time.{entryOf, put}
+use Rattle.store.specs.Promises.{stamped}
 use Rattle.store.specs.Valid.{Fits, FitsSlot, AllFit, Apart}
 use Rattle.store.proofs.Slots.{entry-fits}
 use Rattle.store.proofs.Put.{length-put, put-fits, put-apart}
@@ -34,7 +35,7 @@ use Rattle.commands.specs.Parse.{beyond, deedLifetime, onDeed}
 use Rattle.commands.specs.Effect.{Change, Effect, answer, writing, change, changeAll, nextExpiry, hasExpiry, barred, isStale, written, setEffect, counted, incrementEffect, expireEffect, persistEffect, renumberEffect, deedEffect, writesOf, effect}
 use Rattle.commands.specs.Effect.Change.{write, remove}
 use Rattle.commands.specs.Execute.{passes}
-use Rattle.commands.proofs.Sound.{Short, AllShort, Sound}
+use Rattle.commands.proofs.Sound.{Bounded, AllBounded, Sound}
 
 -- ---- slots that are changed
 
@@ -100,14 +101,12 @@ next-expiry Keep none b h = omega arith
 next-expiry Keep (some e) b h = h .expiry
 next-expiry (Until t) found b h = ltb-false timeLimit t b
 
-writing-fits : (k f v : Word) (n : Versioning) (t : Lifetime) (found : Option Entry) → Short keyMost k → Short fieldMost f → Short valueMost v
+writing-fits : (k f v : Word) (n : Versioning) (t : Lifetime) (found : Option Entry) → Bounded keyMost k → Bounded fieldMost f → Bounded valueMost v
     → instantOf (nextExpiry t found) ≤ timeLimit → Writable (write (written k f v n t found))
 unfolding written
 writing-fits k f v n t found hk hf hv x m =
     record {
-      key = hk .short;
-      field = hf .short;
-      value = hv .short;
+      short = record { key = hk .short; field = hf .short; value = hv .short };
       version = m;
       expiry = x;
       keyBytes = hk .bytes;
@@ -115,16 +114,10 @@ writing-fits k f v n t found hk hf hv x m =
       valueBytes = hv .bytes;
     }
 
-restamped : Entry → ℕ → Expiry → Entry
-restamped e v t = record { key = e .key; field = e .field; value = e .value; version = v; expiry = t }
-
-restamped-fits : (e : Entry) (v : ℕ) (t : Expiry) → Fits e → instantOf t ≤ timeLimit → Writable (write (restamped e v t))
-unfolding restamped
-restamped-fits e v t h x m =
+stamped-fits : (e : Entry) (v : ℕ) (t : Expiry) → Fits e → instantOf t ≤ timeLimit → Writable (write (stamped v t e))
+stamped-fits e v t h x m =
     record {
-      key = h .key;
-      field = h .field;
-      value = h .value;
+      short = h .short;
       version = m;
       expiry = x;
       keyBytes = h .keyBytes;
@@ -133,7 +126,7 @@ restamped-fits e v t h x m =
     }
 
 -- the text of a sum within 64 bits
-sum-short : (z : ℤ) (t : Bool) → not (within lowest64 highest64 z && t) ≡ false → Short valueMost (integerText z)
+sum-short : (z : ℤ) (t : Bool) → not (within lowest64 highest64 z && t) ≡ false → Bounded valueMost (integerText z)
 sum-short z t h =
     record {
       short = omega (arith, length-integerText z (and-left (within lowest64 highest64 z) t (not-false (within lowest64 highest64 z && t) h)));
@@ -144,10 +137,10 @@ either-writable : (t : Bool) (a b : Effect) → AllWritable (a .changes) → All
 either-writable true a b h g = h
 either-writable false a b h g = g
 
-module _ (now : ℕ) (ss : List Slot) (k f : Word) (hk : Short keyMost k) (hf : Short fieldMost f) where
-  deed-writable : (d : Deed) (found : Option Entry) → AllShort valueMost (deedValues d) → beyond (deedLifetime d) ≡ false → FitsSlot found
+module _ (now : ℕ) (ss : List Slot) (k f : Word) (hk : Bounded keyMost k) (hf : Bounded fieldMost f) where
+  deed-writable : (d : Deed) (found : Option Entry) → AllBounded valueMost (deedValues d) → beyond (deedLifetime d) ≡ false → FitsSlot found
       → deedEffect now ss k f d found .overflows ≡ false → AllWritable (deedEffect now ss k f d found .changes)
-  unfolding deedEffect deedValues deedLifetime setEffect incrementEffect expireEffect persistEffect renumberEffect orElse restamped beyond instantOf
+  unfolding deedEffect deedValues deedLifetime setEffect incrementEffect expireEffect persistEffect renumberEffect orElse beyond instantOf
   deed-writable (assign v c n t) found hv b h o =
       either-writable (barred c found) (answer (integer (negsuc 0)))
       (writing (isStale n found) (written k f v n t found) (number (orElse found 1 (λ e. 0))))
@@ -156,18 +149,18 @@ module _ (now : ℕ) (ss : List Slot) (k f : Word) (hk : Short keyMost k) (hf : 
   deed-writable (increment a l g n t) found hv b h o =
       (writing-fits k f (integerText (Option·getD (counted found) (pos 0) +ℤ a)) n t found hk hf (sum-short _ _ o) (next-expiry t found b h), tt)
   deed-writable (expire t n) none hv b h o = tt
-  deed-writable (expire t n) (some e) hv b h o = (restamped-fits e _ (At t) h (ltb-false timeLimit t b), tt)
+  deed-writable (expire t n) (some e) hv b h o = (stamped-fits e _ (At t) h (ltb-false timeLimit t b), tt)
   deed-writable persist none hv b h o = tt
   deed-writable persist (some e) hv b h o =
-      either-writable (hasExpiry (e .expiry)) (writing false (restamped e (e .version) Never) (number 1)) (answer (number 0))
-      (restamped-fits e (e .version) Never h (omega arith), tt)
+      either-writable (hasExpiry (e .expiry)) (writing false (stamped (e .version) Never e) (number 1)) (answer (number 0))
+      (stamped-fits e (e .version) Never h (omega arith), tt)
       tt
   deed-writable (renumber v) none hv b h o = tt
-  deed-writable (renumber v) (some e) hv b h o = (restamped-fits e v (e .expiry) h (h .expiry), tt)
+  deed-writable (renumber v) (some e) hv b h o = (stamped-fits e v (e .expiry) h (h .expiry), tt)
   deed-writable (ask q) found hv b h o = tt
 
-pairs-writable : (now : ℕ) (k : Word) (ps : List Pair) (ss : List Slot) → Short keyMost k → AllShort fieldMost (map (λ p. p .field) ps)
-    → AllShort valueMost (map (λ p. p .value) ps) → AllWritable (writesOf now k ps ss)
+pairs-writable : (now : ℕ) (k : Word) (ps : List Pair) (ss : List Slot) → Bounded keyMost k → AllBounded fieldMost (map (λ p. p .field) ps)
+    → AllBounded valueMost (map (λ p. p .value) ps) → AllWritable (writesOf now k ps ss)
 unfolding writesOf nextExpiry instantOf
 pairs-writable now k [] ss hk hf hv = tt
 pairs-writable now k (p ∷ ps) ss hk hf hv =

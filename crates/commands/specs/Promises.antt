@@ -5,20 +5,20 @@ use mathlib.Core.List.{List, [], _∷_, map, flatMap}
 use mathlib.Core.Option.{Option, none, some}
 use Prim.Native.Nat.{ℕ, suc, _+_, _-_, _≤_, _<_}
 use lib.Dec.{ltb, eqb}
-use lib.IntN.{negsuc}
+use lib.IntN.{ℤ, negsuc, _+ℤ_}
 use lib.ListN.{length}
-use Rattle.wire.specs.Lists.{any, keep, orElse}
+use Rattle.wire.specs.Lists.{any, keep, orElse, onlyIf}
 use Rattle.wire.specs.Bytes.{same}
 use Rattle.wire.specs.Integer.{lowest64, highest64, within}
 use Rattle.wire.specs.Words.{Word, wordsMost}
 use Rattle.wire.specs.declared.integers.Signed.{Signed}
-use Rattle.wire.specs.Reply.{laidOver}
+use Rattle.wire.specs.Reply.{integer, laidOver}
 use Rattle.wire.specs.Promises.{signedFor, integerOf, Inside, Laid}
 use Rattle.store.specs.declared.Expiry.{Expiry}
 use Rattle.store.specs.declared.Expiry.the-variants.{Never}
 use Rattle.store.specs.declared.Found.{Found}
 use Rattle.store.specs.declared.Found.the-variants as founds
-use Rattle.store.specs.Layout.{versionMost}
+use Rattle.store.specs.Layout.{versionMost, timeLimit}
 use Rattle.store.specs.Store.{Entry, entry, Slot, Store, withSlots, decode, wellFormed, holds}
 use Rattle.store.specs.Time.{keyExists, liveOfKey, lowestSlot, entryOf, slotFor, put, emptySlot, deadSlot}
 use Rattle.store.specs.Valid.{Short}
@@ -28,21 +28,27 @@ use Rattle.commands.specs.declared.FieldDeed.the-variants as fieldDeeds
 use Rattle.commands.specs.declared.Lifetime.{Lifetime}
 use Rattle.commands.specs.declared.Lifetime.the-variants.{Clear}
 use Rattle.commands.specs.declared.Versioning.the-variants.{Next}
-use Rattle.commands.specs.declared.field.Written.{Written}
-use Rattle.commands.specs.declared.field.Written.the-variants as writes
+use Rattle.commands.specs.declared.Sum.{Sum}
+use Rattle.commands.specs.declared.Stamping.{Stamping}
+use Rattle.commands.specs.declared.Sight.{Sight}
+use Rattle.commands.specs.declared.Executed.{Executed}
+use Rattle.commands.specs.declared.field.Settled.{Settled}
+use Rattle.commands.specs.declared.field.Settled.the-variants as settleds
+use Rattle.commands.specs.declared.field.WriteOutcome.{WriteOutcome}
+use Rattle.commands.specs.declared.field.WriteOutcome.the-variants as writes
 use Rattle.commands.specs.declared.pairs.Survey.{Survey}
 use Rattle.commands.specs.declared.pairs.Survey.the-variants as surveys
-use Rattle.commands.specs.Refusal.{bufferLeast}
+use Rattle.commands.specs.Refusal.{bufferLeast, errorLine}
 use Rattle.commands.specs.Command.{Pair, Command}
 use Rattle.commands.specs.Command.Command.{setMany}
 use Rattle.commands.specs.Parse.{pairsOf, tooLong, onDeed, beyond, deedLifetime}
 use Rattle.commands.specs.declared.Listing.{Listing}
 use Rattle.commands.specs.declared.Listing.the-variants.{Fields, Values, Both}
 use Rattle.commands.specs.declared.Question.{Question}
-use Rattle.commands.specs.Effect.{change, changeAll, timeLeft, reply, listedSlot, written, writesOf, writing}
+use Rattle.commands.specs.Effect.{Effect, change, changeAll, timeLeft, reply, listedSlot, writesOf, written, writing, incrementEffect}
 use Rattle.commands.specs.Effect.Change.{remove}
-use Rattle.commands.specs.declared.Executed.{Executed}
 use Rattle.commands.specs.Execute.{Outcome, Done, passes, settle}
+use Rattle.commands.specs.ParsePromises.{isRefusal}
 
 -- ---- the store
 
@@ -76,9 +82,15 @@ noVersionOf now k ss = signedFor (cond (keyExists now k ss) (negsuc 1) (negsuc 0
 -- ---- commands done
 
 -- what checks 14 and 18 leave: words that a slot can hold, and an instant within its limit
-pub record Passed (c : Command) : Type 0 where
+pub record WithinLimits (c : Command) : Type 0 where
   pub short : tooLong c ≡ false
   pub timed : onDeed (λ d. beyond (deedLifetime d)) c ≡ false
+
+-- what every command asks: a well-formed store, a time before the limit, and a buffer for any reply
+pub record Opened (time : ℕ) (bytes out : List ℕ) : Type 0 where
+  pub well : wellFormed bytes ≡ true
+  pub soon : time < timeLimit
+  pub room : bufferLeast ≤ length out
 
 -- the longest answer about one field: an array of a value and a version
 abbrev pub answerMost : ℕ
@@ -105,6 +117,10 @@ entryFor ss founds.Nothing = none
 -- the answer about a field of a key
 unfoldable pub answerAbout : ℕ → List ℕ → Word → Question → Word → List ℕ
 answerAbout now b k q f = reply now (decode b .slots) k q (entryOf k f (decode b .slots))
+
+-- the answers about a field, by the question
+abbrev pub answersAbout : ℕ → List ℕ → Word → Word → Question → List ℕ
+answersAbout now b k f q = answerAbout now b k q f
 
 -- the answers about some fields of a key
 abbrev pub answersOf : ℕ → List ℕ → Word → Question → List Word → List (List ℕ)
@@ -208,12 +224,19 @@ pub record Placing (now : ℕ) (k : Word) (ps : List Pair) (b : List ℕ) : Type
 unfoldable pub withAll : ℕ → Word → List Pair → Store → Store
 withAll now k ps s = withSlots (changeAll now (writesOf now k ps (s .slots)) (s .slots)) s
 
+-- ---- one field
+
 -- a slot that was found holds an entry
 abbrev pub HeldAt : List ℕ → Found → Type 0
 HeldAt b found = (i : ℕ) → found ≡ founds.At i → Held b i
 
+-- a well-formed store in which a slot was found, or none
+pub record FoundIn (b : List ℕ) (found : Found) : Type 0 where
+  pub well : wellFormed b ≡ true
+  pub held : HeldAt b found
+
 -- a well-formed store in which a key and a field were looked for
-pub record Seen (b k f : List ℕ) (found : Found) : Type 0 where
+pub record Sought (b k f : List ℕ) (found : Found) : Type 0 where
   pub well : wellFormed b ≡ true
   pub looked : Looked b k f found
 
@@ -221,6 +244,10 @@ pub record Seen (b k f : List ℕ) (found : Found) : Type 0 where
 pub record Storable (k f v : List ℕ) (t : Lifetime) : Type 0 where
   pub short : Short k f v
   pub lifetime : beyond t ≡ false
+
+-- the entry that is written where one was looked for
+abbrev pub writtenAt : Sight → Stamping → Word → Word → Word → List Slot → Entry
+writtenAt sight stamping k f v ss = written k f v (stamping .versioning) (stamping .lifetime) (entryFor ss (sight .found))
 
 -- the amount that a deed adds is of signed 64 bits
 unfoldable pub amountFits : FieldDeed → Bool
@@ -231,11 +258,57 @@ amountFits fieldDeeds.Persist = true
 amountFits (fieldDeeds.Renumber n) = true
 amountFits (fieldDeeds.Ask q) = true
 
-unfoldable pub writtenFor : Option ℕ → Written
-writtenFor none = writes.Done
-writtenFor (some n) = writes.Refused n
+-- EXHINCRBY
+abbrev pub incremented : Sum → Stamping → Word → Word → Option Entry → Effect
+incremented sum stamping k f found =
+    incrementEffect k f (integerOf (sum .amount)) (integerOf (sum .least)) (integerOf (sum .greatest)) (stamping .versioning) (stamping .lifetime) found
+
+-- what EXHINCRBY makes of the integer that it finds
+unfoldable pub boundedSum : ℤ → Sum → Option ℤ
+boundedSum start sum =
+    let z : ℤ = start +ℤ integerOf (sum .amount) in
+    onlyIf (within lowest64 highest64 z && within (integerOf (sum .least)) (integerOf (sum .greatest)) z) z
+
+-- ---- how a deed settles
+
+unfoldable pub outcomeFor : Option ℕ → WriteOutcome
+outcomeFor none = writes.Done
+outcomeFor (some n) = writes.Refused n
 
 -- an entry was written in its place, or refused by 23 or 24
-pub record Wrote (now : ℕ) (e : Entry) (before after : List ℕ) (r : Written) : Type 0 where
-  pub answer : r ≡ writtenFor (settle now (writing false e []) (decode before) .refusal)
+pub record Wrote (now : ℕ) (e : Entry) (before after : List ℕ) (r : WriteOutcome) : Type 0 where
+  pub answer : r ≡ outcomeFor (settle now (writing false e []) (decode before) .refusal)
   pub holds : Holds after (settle now (writing false e []) (decode before) .store)
+
+-- a write that is replied with an integer
+unfoldable pub writeSettled : WriteOutcome → Signed → Settled
+writeSettled writes.Done z = settleds.Replied z
+writeSettled (writes.Refused n) z = settleds.Refused n
+
+-- how many fields a write adds, by what was found
+unfoldable pub fieldsAdded : Found → Signed
+fieldsAdded (founds.At i) = record { negative = false; magnitude = 0 }
+fieldsAdded founds.Nothing = record { negative = false; magnitude = 1 }
+
+-- the reply by how a deed settled, where questions are still to be answered
+unfoldable pub settledReply : (Question → List ℕ) → Settled → List ℕ
+settledReply about (settleds.Replied z) = integer (integerOf z)
+settledReply about (settleds.Refused n) = errorLine n
+settledReply about (settleds.Asked q) = about q
+
+-- a reply that there is room for
+unfoldable pub tellable : Settled → Bool
+tellable (settleds.Replied z) = within lowest64 highest64 (integerOf z)
+tellable (settleds.Refused n) = isRefusal n
+tellable (settleds.Asked q) = true
+
+-- a deed's outcome: its reply, and the bytes, which a question leaves as they are
+pub record Settles (about : Question → List ℕ) (o : Outcome) (before after : List ℕ) (r : Settled) : Type 0 where
+  pub reply : o .reply ≡ settledReply about r
+  pub told : tellable r ≡ true
+  pub holds : Holds after (o .store)
+  pub asked : (q : Question) → r ≡ settleds.Asked q → after ≡ before
+
+-- an effect, of a deed that is no question, on a store's bytes
+abbrev pub Changes : ℕ → Effect → List ℕ → List ℕ → Settled → Type 0
+Changes now e before after r = (about : Question → List ℕ) → Settles about (settle now e (decode before)) before after r

@@ -6,14 +6,20 @@ use store::find;
 use store::read;
 ghost use mathlib.Core.Path.{_≡_};
 ghost use mathlib.Core.Bool.{true};
-ghost use Rattle.store.specs.Store.{decode, wellFormed};
-ghost use Rattle.store.specs.Promises.{Holds, entry};
-ghost use Rattle.commands.specs.Promises.{Looked, slotAfter, withSwept, withPut, Fitting};
+ghost use mathlib.Core.List.{[], _∷_};
+ghost use Rattle.store.specs.Store.{decode, wellFormed, entry};
+ghost use Rattle.store.specs.Valid.{Fits};
+ghost use Rattle.store.specs.Promises.{Holds};
+ghost use Rattle.commands.specs.Execute.{swept};
+ghost use Rattle.commands.specs.Promises.{Looked, slotAfter, withPut};
 
 // Looks for the entry of a key and a field. A dead one is removed, so what is found is live.
 pub fn look(bytes: &mut [u8], key: &[u8], field: &[u8], time: u64) -> Found
     requires { ⌜ wellFormed (now bytes) ≡ true ⌝ }
-    ensures { λ r. ⌜ (Holds (now (bytes .exit)) (withSwept time (now (key .entry)) (now (field .entry)) (decode (now (bytes .entry))))) × (Looked (now (bytes .exit)) (now (key .entry)) (now (field .entry)) r) ⌝ }
+    ensures { λ r.
+        let k = now (key .entry) in
+        let f = now (field .entry) in
+        ⌜ (Holds (now (bytes .exit)) (swept time k (f ∷ []) (decode (now (bytes .entry))))) × (Looked (now (bytes .exit)) k f r) ⌝ }
 {
     let found = find::named(bytes, key, field);
     let Found::At(i) = found else {
@@ -52,8 +58,11 @@ pub fn place(
     expiry: Expiry,
     time: u64,
 )
-    requires { ⌜ (Looked (now bytes) (now key) (now field) own) × (Fitting (now bytes) (entry (now key) (now field) (now value) version expiry)) ⌝ }
-    ensures { λ _. ⌜ Holds (now (bytes .exit)) (withPut time (entry (now (key .entry)) (now (field .entry)) (now (value .entry)) version expiry) (decode (now (bytes .entry)))) ⌝ }
+    requires { let e = entry (now key) (now field) (now value) version expiry in
+        ⌜ (Looked (now bytes) (now key) (now field) own) × (wellFormed (now bytes) ≡ true) × (Fits e) ⌝ }
+    ensures { λ _.
+        let e = entry (now (key .entry)) (now (field .entry)) (now (value .entry)) version expiry in
+        ⌜ Holds (now (bytes .exit)) (withPut time e (decode (now (bytes .entry)))) ⌝ }
 {
     let found = slot_for(bytes, own, time);
     let Found::At(i) = found else {

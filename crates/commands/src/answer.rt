@@ -19,10 +19,9 @@ ghost use lib.ListN.{length};
 ghost use Rattle.wire.specs.Reply.{bulk, number, array};
 ghost use Rattle.wire.specs.Promises.{Laid};
 ghost use Rattle.store.specs.Store.{decode, wellFormed};
-ghost use Rattle.store.specs.Time.{entryOf};
 ghost use Rattle.store.specs.Promises.{Held, entryAt};
 ghost use Rattle.commands.specs.Effect.{reply};
-ghost use Rattle.commands.specs.Promises.{Looked, timeLeftOf, noVersionOf};
+ghost use Rattle.commands.specs.Promises.{Looked, timeLeftOf, noVersionOf, answerMost, answerAbout};
 
 // What is left of an entry's time, in units of so many ms: -1 where it has no expiry.
 fn time_left(expiry: Expiry, time: u64, unit: u64) -> Signed
@@ -68,8 +67,10 @@ fn no_version(bytes: &[u8], key: &[u8], time: u64) -> Signed
 
 // An array of value and version.
 fn put_versioned(bytes: &[u8], i: usize, out: &mut [u8]) -> usize
-    requires { ⌜ (Held (now bytes) i) × (146 ≤ length (now out)) ⌝ }
-    ensures { λ r. ⌜ Laid (array (bulk (entryAt (decode (now (bytes .entry)) .slots) i .value) ∷ number (entryAt (decode (now (bytes .entry)) .slots) i .version) ∷ [])) (now (out .entry)) (now (out .exit)) r ⌝ }
+    requires { ⌜ (Held (now bytes) i) × (answerMost ≤ length (now out)) ⌝ }
+    ensures { λ r.
+        let e = entryAt (decode (now (bytes .entry)) .slots) i in
+        ⌜ Laid (array (bulk (e .value) ∷ number (e .version) ∷ [])) (now (out .entry)) (now (out .exit)) r ⌝ }
 {
     let first = put_header(2, out);
     let second = put_bulk(read::value(bytes, i), &mut out[first..]) + first;
@@ -78,8 +79,10 @@ fn put_versioned(bytes: &[u8], i: usize, out: &mut [u8]) -> usize
 
 // The reply where the field is there, in slot i.
 fn put_found(bytes: &[u8], question: Question, i: usize, time: u64, out: &mut [u8]) -> usize
-    requires { ⌜ (Held (now bytes) i) × (146 ≤ length (now out)) ⌝ }
-    ensures { λ r. ⌜ Laid (reply time [] [] question (some (entryAt (decode (now (bytes .entry)) .slots) i))) (now (out .entry)) (now (out .exit)) r ⌝ }
+    requires { ⌜ (Held (now bytes) i) × (answerMost ≤ length (now out)) ⌝ }
+    ensures { λ r.
+        let e = entryAt (decode (now (bytes .entry)) .slots) i in
+        ⌜ Laid (reply time [] [] question (some e)) (now (out .entry)) (now (out .exit)) r ⌝ }
 {
     match question {
         Question::Value => put_bulk(read::value(bytes, i), out),
@@ -94,8 +97,10 @@ fn put_found(bytes: &[u8], question: Question, i: usize, time: u64, out: &mut [u
 
 // The reply where the field is missing.
 fn put_missing(bytes: &[u8], question: Question, key: &[u8], time: u64, out: &mut [u8]) -> usize
-    requires { ⌜ (wellFormed (now bytes) ≡ true) × (146 ≤ length (now out)) ⌝ }
-    ensures { λ r. ⌜ Laid (reply time (decode (now (bytes .entry)) .slots) (now (key .entry)) question none) (now (out .entry)) (now (out .exit)) r ⌝ }
+    requires { ⌜ (wellFormed (now bytes) ≡ true) × (answerMost ≤ length (now out)) ⌝ }
+    ensures { λ r.
+        let ss = decode (now (bytes .entry)) .slots in
+        ⌜ Laid (reply time ss (now (key .entry)) question none) (now (out .entry)) (now (out .exit)) r ⌝ }
 {
     let minus_two = Signed {
         negative: true,
@@ -122,8 +127,10 @@ pub fn put_answer(
     time: u64,
     out: &mut [u8],
 ) -> usize
-    requires { ⌜ (wellFormed (now bytes) ≡ true) × (Looked (now bytes) (now key) (now field) found) × (146 ≤ length (now out)) ⌝ }
-    ensures { λ r. ⌜ Laid (reply time (decode (now (bytes .entry)) .slots) (now (key .entry)) question (entryOf (now (key .entry)) (now (field .entry)) (decode (now (bytes .entry)) .slots))) (now (out .entry)) (now (out .exit)) r ⌝ }
+    requires { ⌜ (wellFormed (now bytes) ≡ true) × (Looked (now bytes) (now key) (now field) found) × (answerMost ≤ length (now out)) ⌝ }
+    ensures { λ r.
+        let x = answerAbout time (now (bytes .entry)) (now (key .entry)) question (now (field .entry)) in
+        ⌜ Laid x (now (out .entry)) (now (out .exit)) r ⌝ }
 {
     match found {
         Found::At(i) => put_found(bytes, question, i, time, out),

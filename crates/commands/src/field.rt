@@ -1,7 +1,8 @@
 // What is done with one field, and replied.
-use crate::Condition;
 use crate::FieldDeed;
-use crate::Lifetime;
+use crate::Question;
+use crate::Sight;
+use crate::Stamping;
 use crate::Sum;
 use crate::Versioning;
 use crate::act::look;
@@ -25,30 +26,38 @@ use wire::integers::at_most;
 use wire::integers::read_integer;
 use wire::integers::write_integer;
 use wire::replies::put_integer;
-use wire::replies::put_number;
 ghost use mathlib.Core.Path.{_≡_};
-ghost use mathlib.Core.Bool.{true, false, _&&_};
-ghost use mathlib.Core.List.{[], _∷_};
+ghost use mathlib.Core.Bool.{true, false};
+ghost use mathlib.Core.List.{[]};
 ghost use Prim.Native.Nat.{ℕ, _≤_};
-ghost use lib.IntN.{_+ℤ_};
 ghost use lib.ListN.{length};
-ghost use Rattle.wire.specs.Lists.{onlyIf};
 ghost use Rattle.wire.specs.Integer.{lowest64, highest64, within, integerText};
-ghost use Rattle.wire.specs.Reply.{number};
-ghost use Rattle.wire.specs.Promises.{integerFor, integerOf};
+ghost use Rattle.wire.specs.Reply.{number, integer};
+ghost use Rattle.wire.specs.Promises.{integerFor, integerOf, Laid};
 ghost use Rattle.store.specs.Layout.{timeLimit};
 ghost use Rattle.store.specs.Store.{decode, wellFormed, instantOf};
-ghost use Rattle.store.specs.Time.{entryOf};
 ghost use Rattle.store.specs.Promises.{Held, entryAt, stamped};
+ghost use Rattle.commands.specs.declared.Question.{Question};
+ghost use Rattle.commands.specs.declared.Condition.the-variants.{Always};
+ghost use Rattle.commands.specs.Refusal.{bufferLeast};
 ghost use Rattle.commands.specs.Command.Command.{onField};
-ghost use Rattle.commands.specs.Effect.{writing, written, counted, setEffect, incrementEffect, expireEffect, persistEffect, renumberEffect, effect};
+ghost use Rattle.commands.specs.Effect.{writing, counted, setEffect, expireEffect, persistEffect, renumberEffect, effect};
+ghost use Rattle.commands.specs.Execute.{settle, runOn};
 ghost use Rattle.commands.specs.ParsePromises.{deedOf};
-ghost use Rattle.commands.specs.Promises.{HeldAt, Seen, Storable, Wrote, Does, Passed, entryFor, heldVersion, heldExpiry, amountFits, settle, withoutDead};
+ghost use Rattle.commands.specs.Promises.{HeldAt, FoundIn, Sought, Storable, WithinLimits, Wrote, Changes, Settles, Does, answerMost, entryFor, writtenAt, heldVersion, heldExpiry, amountFits, boundedSum, incremented, fieldsAdded, writeSettled, settledReply, tellable, answersAbout};
+ghost use Rattle.commands.specs.declared.field.Settled.the-variants.{Asked};
 
 // An entry was written in its place, or the number of its refusal.
-pub enum Written {
+pub enum WriteOutcome {
     Done,
     Refused(u32),
+}
+
+// How a deed settled: the integer that it replies, the number of its refusal, or a question that is still to be answered.
+pub enum Settled {
+    Replied(Signed),
+    Refused(u32),
+    Asked(Question),
 }
 
 // The version of a field, 0 where it is missing.
@@ -79,64 +88,84 @@ fn write(
     key: &[u8],
     field: &[u8],
     value: &[u8],
-    found: Found,
-    versioning: Versioning,
-    lifetime: Lifetime,
-    time: u64,
-) -> Written
-    requires { ⌜ (Seen (now bytes) (now key) (now field) found) × (Storable (now key) (now field) (now value) lifetime) ⌝ }
-    ensures { λ r. ⌜ Wrote time (written (now (key .entry)) (now (field .entry)) (now (value .entry)) versioning lifetime (entryOf (now (key .entry)) (now (field .entry)) (decode (now (bytes .entry)) .slots))) (now (bytes .entry)) (now (bytes .exit)) r ⌝ }
+    sight: Sight,
+    stamping: Stamping,
+) -> WriteOutcome
+    requires { ⌜ (Sought (now bytes) (now key) (now field) (sight .found)) × (Storable (now key) (now field) (now value) (stamping .lifetime)) ⌝ }
+    ensures { λ r.
+        let b = now (bytes .entry) in
+        let e = writtenAt sight stamping (now (key .entry)) (now (field .entry)) (now (value .entry)) (decode b .slots) in
+        ⌜ Wrote (sight .time) e b (now (bytes .exit)) r ⌝ }
 {
+    let found = sight.found;
+    let versioning = stamping.versioning;
     let held = held_version(bytes, found);
     let version = next_version(versioning, held);
     if VERSION_MOST < version {
-        return Written::Refused(23);
+        return WriteOutcome::Refused(23);
     }
-    let slot = slot_for(bytes, found, time);
+    let slot = slot_for(bytes, found, sight.time);
     let Found::At(i) = slot else {
-        return Written::Refused(24);
+        return WriteOutcome::Refused(24);
     };
+    let lifetime = stamping.lifetime;
     let until = held_expiry(bytes, found);
     let expiry = next_expiry(lifetime, until);
     change::put(bytes, i, key, field, value, version, expiry);
-    Written::Done
+    WriteOutcome::Done
 }
 
-// EXHSET.
+// The reply to a write that was to be replied with an integer.
+fn write_settled(wrote: WriteOutcome, z: Signed) -> Settled
+    ensures { λ r. ⌜ r ≡ writeSettled wrote z ⌝ }
+{
+    match wrote {
+        WriteOutcome::Done => Settled::Replied(z),
+        WriteOutcome::Refused(n) => Settled::Refused(n),
+    }
+}
+
+// How many fields a write adds, by what was found: 1 or 0.
+fn fields_added(found: Found) -> Signed
+    ensures { λ r. ⌜ r ≡ fieldsAdded found ⌝ }
+{
+    match found {
+        Found::At(_) => Signed {
+            negative: false,
+            magnitude: 0,
+        },
+        Found::Nothing => Signed {
+            negative: false,
+            magnitude: 1,
+        },
+    }
+}
+
+// EXHSET where no condition bars it.
 fn assign(
     bytes: &mut [u8],
     key: &[u8],
     field: &[u8],
     value: &[u8],
-    found: Found,
-    condition: Condition,
-    versioning: Versioning,
-    lifetime: Lifetime,
-    time: u64,
-    out: &mut [u8],
-) -> usize
-    requires { ⌜ (Seen (now bytes) (now key) (now field) found) × (Storable (now key) (now field) (now value) lifetime) × (146 ≤ length (now out)) ⌝ }
-    ensures { λ r. ⌜ Does (settle time (setEffect (now (key .entry)) (now (field .entry)) (now (value .entry)) condition versioning lifetime (entryOf (now (key .entry)) (now (field .entry)) (decode (now (bytes .entry)) .slots))) (decode (now (bytes .entry)))) (now (bytes .exit)) (now (out .entry)) (now (out .exit)) r ⌝ }
+    sight: Sight,
+    stamping: Stamping,
+) -> Settled
+    requires { ⌜ (Sought (now bytes) (now key) (now field) (sight .found)) × (Storable (now key) (now field) (now value) (stamping .lifetime)) ⌝ }
+    ensures { λ r.
+        let b = now (bytes .entry) in
+        let found = entryFor (decode b .slots) (sight .found) in
+        let n = stamping .versioning in
+        let e = setEffect (now (key .entry)) (now (field .entry)) (now (value .entry)) Always n (stamping .lifetime) found in
+        ⌜ Changes (sight .time) e b (now (bytes .exit)) r ⌝ }
 {
-    if is_barred(condition, found) {
-        let minus_one = Signed {
-            negative: true,
-            magnitude: 1,
-        };
-        return put_integer(minus_one, out);
-    }
+    let found = sight.found;
+    let versioning = stamping.versioning;
     let held = held_version(bytes, found);
     if is_stale(versioning, held) {
-        return put_error(20, out);
+        return Settled::Refused(20);
     }
-    let wrote = write(bytes, key, field, value, found, versioning, lifetime, time);
-    if let Written::Refused(n) = wrote {
-        return put_error(n, out);
-    }
-    match found {
-        Found::At(_) => put_number(0, out),
-        Found::Nothing => put_number(1, out),
-    }
+    let wrote = write(bytes, key, field, value, sight, stamping);
+    write_settled(wrote, fields_added(found))
 }
 
 // The integer of a field's value, 0 where it is missing.
@@ -156,7 +185,7 @@ fn stored(bytes: &[u8], found: Found) -> Integer
 // The sum of an integer and an amount, refused outside signed 64 bits and outside its bounds.
 fn bounded_sum(start: Signed, sum: Sum) -> Integer
     requires { ⌜ (within lowest64 highest64 (integerOf start) ≡ true) × (within lowest64 highest64 (integerOf (sum .amount)) ≡ true) ⌝ }
-    ensures { λ r. ⌜ r ≡ integerFor (onlyIf (within lowest64 highest64 (integerOf start +ℤ integerOf (sum .amount)) && within (integerOf (sum .least)) (integerOf (sum .greatest)) (integerOf start +ℤ integerOf (sum .amount))) (integerOf start +ℤ integerOf (sum .amount))) ⌝ }
+    ensures { λ r. ⌜ r ≡ integerFor (boundedSum (integerOf start) sum) ⌝ }
 {
     let total = add(start, sum.amount);
     let Integer::Value(z) = total else {
@@ -171,32 +200,28 @@ fn bounded_sum(start: Signed, sum: Sum) -> Integer
     Integer::Value(z)
 }
 
-// Writes a field's entry with an integer's text as its value.
+// Writes a field's entry with an integer's text as its value, and replies the integer.
 fn write_sum(
     bytes: &mut [u8],
     key: &[u8],
     field: &[u8],
     z: Signed,
-    found: Found,
-    versioning: Versioning,
-    lifetime: Lifetime,
-    time: u64,
-) -> Written
-    requires { ⌜ (Seen (now bytes) (now key) (now field) found) × (Storable (now key) (now field) [] lifetime) × (within lowest64 highest64 (integerOf z) ≡ true) ⌝ }
-    ensures { λ r. ⌜ Wrote time (written (now (key .entry)) (now (field .entry)) (integerText (integerOf z)) versioning lifetime (entryOf (now (key .entry)) (now (field .entry)) (decode (now (bytes .entry)) .slots))) (now (bytes .entry)) (now (bytes .exit)) r ⌝ }
+    sight: Sight,
+    stamping: Stamping,
+) -> Settled
+    requires { ⌜ (Sought (now bytes) (now key) (now field) (sight .found))
+        × (Storable (now key) (now field) [] (stamping .lifetime))
+        × (within lowest64 highest64 (integerOf z) ≡ true) ⌝ }
+    ensures { λ r.
+        let b = now (bytes .entry) in
+        let text = integerText (integerOf z) in
+        let e = writtenAt sight stamping (now (key .entry)) (now (field .entry)) text (decode b .slots) in
+        ⌜ Changes (sight .time) (writing false e (integer (integerOf z))) b (now (bytes .exit)) r ⌝ }
 {
     let mut text: [u8; 20] = [0; 20];
     let size = write_integer(z, &mut text);
-    write(
-        bytes,
-        key,
-        field,
-        &text[..size],
-        found,
-        versioning,
-        lifetime,
-        time,
-    )
+    let wrote = write(bytes, key, field, &text[..size], sight, stamping);
+    write_settled(wrote, z)
 }
 
 // EXHINCRBY.
@@ -205,110 +230,184 @@ fn increment(
     key: &[u8],
     field: &[u8],
     sum: Sum,
-    found: Found,
-    versioning: Versioning,
-    lifetime: Lifetime,
-    time: u64,
-    out: &mut [u8],
-) -> usize
-    requires { ⌜ (Seen (now bytes) (now key) (now field) found) × (Storable (now key) (now field) [] lifetime) × (within lowest64 highest64 (integerOf (sum .amount)) ≡ true) × (146 ≤ length (now out)) ⌝ }
-    ensures { λ r. ⌜ Does (settle time (incrementEffect (now (key .entry)) (now (field .entry)) (integerOf (sum .amount)) (integerOf (sum .least)) (integerOf (sum .greatest)) versioning lifetime (entryOf (now (key .entry)) (now (field .entry)) (decode (now (bytes .entry)) .slots))) (decode (now (bytes .entry)))) (now (bytes .exit)) (now (out .entry)) (now (out .exit)) r ⌝ }
+    sight: Sight,
+    stamping: Stamping,
+) -> Settled
+    requires { ⌜ (Sought (now bytes) (now key) (now field) (sight .found))
+        × (Storable (now key) (now field) [] (stamping .lifetime))
+        × (within lowest64 highest64 (integerOf (sum .amount)) ≡ true) ⌝ }
+    ensures { λ r.
+        let b = now (bytes .entry) in
+        let found = entryFor (decode b .slots) (sight .found) in
+        ⌜ Changes (sight .time) (incremented sum stamping (now (key .entry)) (now (field .entry)) found) b (now (bytes .exit)) r ⌝ }
 {
+    let found = sight.found;
+    let versioning = stamping.versioning;
     let held = held_version(bytes, found);
     if is_stale(versioning, held) {
-        return put_error(20, out);
+        return Settled::Refused(20);
     }
     let before = stored(bytes, found);
     let Integer::Value(start) = before else {
-        return put_error(21, out);
+        return Settled::Refused(21);
     };
     let total = bounded_sum(start, sum);
     let Integer::Value(z) = total else {
-        return put_error(22, out);
+        return Settled::Refused(22);
     };
-    let wrote = write_sum(bytes, key, field, z, found, versioning, lifetime, time);
-    if let Written::Refused(n) = wrote {
-        return put_error(n, out);
-    }
-    put_integer(z, out)
+    write_sum(bytes, key, field, z, sight, stamping)
 }
 
 // Writes the version and the expiry of the entry in slot i, unless the version passes the largest.
-fn stamp(bytes: &mut [u8], i: usize, version: u64, expiry: Expiry, out: &mut [u8]) -> usize
-    requires { ⌜ (Held (now bytes) i) × (instantOf expiry ≤ timeLimit) × (146 ≤ length (now out)) ⌝ }
-    ensures { λ r. ⌜ ((t : ℕ) → Does (settle t (writing false (stamped version expiry (entryAt (decode (now (bytes .entry)) .slots) i)) (number 1)) (decode (now (bytes .entry)))) (now (bytes .exit)) (now (out .entry)) (now (out .exit)) r) ⌝ }
+fn stamp(bytes: &mut [u8], i: usize, version: u64, expiry: Expiry) -> Settled
+    requires { ⌜ (Held (now bytes) i) × (instantOf expiry ≤ timeLimit) ⌝ }
+    ensures { λ r.
+        let b = now (bytes .entry) in
+        let e = stamped version expiry (entryAt (decode b .slots) i) in
+        ⌜ ((time : ℕ) → Changes time (writing false e (number 1)) b (now (bytes .exit)) r) ⌝ }
 {
     if VERSION_MOST < version {
-        return put_error(23, out);
+        return Settled::Refused(23);
     }
     change::restamp(bytes, i, version, expiry);
-    put_number(1, out)
+    Settled::Replied(Signed {
+        negative: false,
+        magnitude: 1,
+    })
 }
 
 // EXHEXPIRE, EXHPEXPIRE, EXHEXPIREAT and EXHPEXPIREAT.
-fn expire(
-    bytes: &mut [u8],
-    key: &[u8],
-    field: &[u8],
-    instant: u64,
-    found: Found,
-    versioning: Versioning,
-    time: u64,
-    out: &mut [u8],
-) -> usize
-    requires { ⌜ (Seen (now bytes) (now key) (now field) found) × (instant ≤ timeLimit) × (146 ≤ length (now out)) ⌝ }
-    ensures { λ r. ⌜ Does (settle time (expireEffect instant versioning (entryOf (now (key .entry)) (now (field .entry)) (decode (now (bytes .entry)) .slots))) (decode (now (bytes .entry)))) (now (bytes .exit)) (now (out .entry)) (now (out .exit)) r ⌝ }
+fn expire(bytes: &mut [u8], found: Found, instant: u64, versioning: Versioning) -> Settled
+    requires { ⌜ (FoundIn (now bytes) found) × (instant ≤ timeLimit) ⌝ }
+    ensures { λ r.
+        let b = now (bytes .entry) in
+        let e = expireEffect instant versioning (entryFor (decode b .slots) found) in
+        ⌜ ((time : ℕ) → Changes time e b (now (bytes .exit)) r) ⌝ }
 {
     let Found::At(i) = found else {
-        return put_number(0, out);
+        return Settled::Replied(Signed {
+            negative: false,
+            magnitude: 0,
+        });
     };
     let held = read::version(bytes, i);
     if is_stale(versioning, held) {
-        return put_error(20, out);
+        return Settled::Refused(20);
     }
     let version = setter_version(versioning, held);
-    stamp(bytes, i, version, Expiry::At(instant), out)
+    stamp(bytes, i, version, Expiry::At(instant))
 }
 
 // EXHPERSIST.
-fn persist(
-    bytes: &mut [u8],
-    key: &[u8],
-    field: &[u8],
-    found: Found,
-    time: u64,
-    out: &mut [u8],
-) -> usize
-    requires { ⌜ (Seen (now bytes) (now key) (now field) found) × (146 ≤ length (now out)) ⌝ }
-    ensures { λ r. ⌜ Does (settle time (persistEffect (entryOf (now (key .entry)) (now (field .entry)) (decode (now (bytes .entry)) .slots))) (decode (now (bytes .entry)))) (now (bytes .exit)) (now (out .entry)) (now (out .exit)) r ⌝ }
+fn persist(bytes: &mut [u8], found: Found) -> Settled
+    requires { ⌜ FoundIn (now bytes) found ⌝ }
+    ensures { λ r.
+        let b = now (bytes .entry) in
+        let e = persistEffect (entryFor (decode b .slots) found) in
+        ⌜ ((time : ℕ) → Changes time e b (now (bytes .exit)) r) ⌝ }
 {
     let Found::At(i) = found else {
-        return put_number(0, out);
+        return Settled::Replied(Signed {
+            negative: false,
+            magnitude: 0,
+        });
     };
     let until = read::expiry(bytes, i);
     let Expiry::At(_) = until else {
-        return put_number(0, out);
+        return Settled::Replied(Signed {
+            negative: false,
+            magnitude: 0,
+        });
     };
-    stamp(bytes, i, read::version(bytes, i), Expiry::Never, out)
+    stamp(bytes, i, read::version(bytes, i), Expiry::Never)
 }
 
 // EXHSETVER.
-fn renumber(
+fn renumber(bytes: &mut [u8], found: Found, version: u64) -> Settled
+    requires { ⌜ FoundIn (now bytes) found ⌝ }
+    ensures { λ r.
+        let b = now (bytes .entry) in
+        let e = renumberEffect version (entryFor (decode b .slots) found) in
+        ⌜ ((time : ℕ) → Changes time e b (now (bytes .exit)) r) ⌝ }
+{
+    let Found::At(i) = found else {
+        return Settled::Replied(Signed {
+            negative: false,
+            magnitude: 0,
+        });
+    };
+    stamp(bytes, i, version, read::expiry(bytes, i))
+}
+
+// Does a deed on the field that was looked for. A question changes nothing.
+fn settle_deed(
+    deed: FieldDeed,
     bytes: &mut [u8],
     key: &[u8],
     field: &[u8],
-    version: u64,
-    found: Found,
-    time: u64,
+    value: &[u8],
+    sight: Sight,
+) -> Settled
+    requires { let c = onField (now key) (now field) (deedOf (now value) deed) in
+        ⌜ (Sought (now bytes) (now key) (now field) (sight .found)) × (WithinLimits c) × (amountFits deed ≡ true) ⌝ }
+    ensures { λ r.
+        let b = now (bytes .entry) in
+        let after = now (bytes .exit) in
+        let k = now (key .entry) in
+        let f = now (field .entry) in
+        let e = effect (sight .time) (onField k f (deedOf (now (value .entry)) deed)) (decode b .slots) in
+        ⌜ Settles (answersAbout (sight .time) after k f) (settle (sight .time) e (decode b)) b after r ⌝ }
+{
+    let found = sight.found;
+    match deed {
+        FieldDeed::Assign(condition, versioning, lifetime) => {
+            if is_barred(condition, found) {
+                return Settled::Replied(Signed {
+                    negative: true,
+                    magnitude: 1,
+                });
+            }
+            let stamping = Stamping {
+                versioning: versioning,
+                lifetime: lifetime,
+            };
+            assign(bytes, key, field, value, sight, stamping)
+        },
+        FieldDeed::Increment(sum, versioning, lifetime) => {
+            let stamping = Stamping {
+                versioning: versioning,
+                lifetime: lifetime,
+            };
+            increment(bytes, key, field, sum, sight, stamping)
+        },
+        FieldDeed::Expire(instant, versioning) => expire(bytes, found, instant, versioning),
+        FieldDeed::Persist => persist(bytes, found),
+        FieldDeed::Renumber(version) => renumber(bytes, found, version),
+        FieldDeed::Ask(question) => Settled::Asked(question),
+    }
+}
+
+// Writes the reply by how a deed settled, and answers its length.
+fn put_settled(
+    settled: Settled,
+    bytes: &[u8],
+    key: &[u8],
+    field: &[u8],
+    sight: Sight,
     out: &mut [u8],
 ) -> usize
-    requires { ⌜ (Seen (now bytes) (now key) (now field) found) × (146 ≤ length (now out)) ⌝ }
-    ensures { λ r. ⌜ Does (settle time (renumberEffect version (entryOf (now (key .entry)) (now (field .entry)) (decode (now (bytes .entry)) .slots))) (decode (now (bytes .entry)))) (now (bytes .exit)) (now (out .entry)) (now (out .exit)) r ⌝ }
+    requires { let asked = (q : Question) → settled ≡ Asked q → Sought (now bytes) (now key) (now field) (sight .found) in
+        ⌜ (tellable settled ≡ true) × asked × (answerMost ≤ length (now out)) ⌝ }
+    ensures { λ r.
+        let about = answersAbout (sight .time) (now (bytes .entry)) (now (key .entry)) (now (field .entry)) in
+        ⌜ Laid (settledReply about settled) (now (out .entry)) (now (out .exit)) r ⌝ }
 {
-    let Found::At(i) = found else {
-        return put_number(0, out);
-    };
-    stamp(bytes, i, version, read::expiry(bytes, i), out)
+    let found = sight.found;
+    match settled {
+        Settled::Replied(z) => put_integer(z, out),
+        Settled::Refused(n) => put_error(n, out),
+        Settled::Asked(question) => put_answer(bytes, question, key, field, found, sight.time, out),
+    }
 }
 
 // Does a command on one field of a store whose clock is set, and answers the length of its reply.
@@ -321,16 +420,17 @@ pub fn on_field(
     time: u64,
     out: &mut [u8],
 ) -> usize
-    requires { ⌜ (wellFormed (now bytes) ≡ true) × (56000 ≤ length (now out)) × (Passed (onField (now key) (now field) (deedOf (now value) deed))) × (amountFits deed ≡ true) ⌝ }
-    ensures { λ r. ⌜ Does (settle time (effect time (onField (now (key .entry)) (now (field .entry)) (deedOf (now (value .entry)) deed)) (withoutDead time (now (key .entry)) (now (field .entry) ∷ []) (decode (now (bytes .entry))) .slots)) (withoutDead time (now (key .entry)) (now (field .entry) ∷ []) (decode (now (bytes .entry))))) (now (bytes .exit)) (now (out .entry)) (now (out .exit)) r ⌝ }
+    requires { let c = onField (now key) (now field) (deedOf (now value) deed) in
+        ⌜ (wellFormed (now bytes) ≡ true) × (WithinLimits c) × (amountFits deed ≡ true) × (bufferLeast ≤ length (now out)) ⌝ }
+    ensures { λ r.
+        let c = onField (now (key .entry)) (now (field .entry)) (deedOf (now (value .entry)) deed) in
+        ⌜ Does (runOn time c (decode (now (bytes .entry)))) (now (bytes .exit)) (now (out .entry)) (now (out .exit)) r ⌝ }
 {
     let found = look(bytes, key, field, time);
-    match deed {
-        FieldDeed::Assign(c, n, t) => assign(bytes, key, field, value, found, c, n, t, time, out),
-        FieldDeed::Increment(s, n, t) => increment(bytes, key, field, s, found, n, t, time, out),
-        FieldDeed::Expire(t, n) => expire(bytes, key, field, t, found, n, time, out),
-        FieldDeed::Persist => persist(bytes, key, field, found, time, out),
-        FieldDeed::Renumber(version) => renumber(bytes, key, field, version, found, time, out),
-        FieldDeed::Ask(question) => put_answer(bytes, question, key, field, found, time, out),
-    }
+    let sight = Sight {
+        found: found,
+        time: time,
+    };
+    let settled = settle_deed(deed, bytes, key, field, value, sight);
+    put_settled(settled, bytes, key, field, sight, out)
 }

@@ -13,6 +13,7 @@ mod parse;
 mod table;
 mod versions;
 
+use store::Found;
 use wire::integers::Signed;
 
 // What decides an entry's version: nothing is given, VER v, ABS v.
@@ -59,6 +60,18 @@ pub struct Sum {
     pub amount: Signed,
     pub least: Signed,
     pub greatest: Signed,
+}
+
+// What decides the version and the expiry of an entry that is written.
+pub struct Stamping {
+    pub versioning: Versioning,
+    pub lifetime: Lifetime,
+}
+
+// What a look for a field found, and the time of the look.
+pub struct Sight {
+    pub found: Found,
+    pub time: u64,
 }
 
 // What is done with one field; key and field are words 1 and 2 of the command, the value is word 3.

@@ -5,39 +5,32 @@ use borrow.Author.Needs.{needs}
 use Rattle.commands.proofs.act.place.Statement.{statement}
 use Rattle.commands.proofs.act.place.Tie as tie
 
-slot-for-requires : tie.Need-slot-for-requires
-slot-for-requires c κs = search needs
-
-enum-known-found : tie.Need-enum-known-found
-enum-known-found c = search needs
-
-enum-told : tie.Need-enum-told
-enum-told c = search needs
-
-same-length : tie.Need-same-length
-same-length c = search needs
-
 returns : tie.Need-returns
-returns c = places-nothing (now (c .before .before .before .before .before .before .before .before .args .bytes)) (c .before .before .before .before .before .before .before .before .args .time) _ (c .before .before .before .before .before .before .before .before .pre .1) (after-look (c .before .before .before .before .before .before .before .before .args .time) (now (c .before .before .before .before .before .before .before .before .args .bytes)) (now (c .before .before .before .before .before .before .before .before .args .key)) (now (c .before .before .before .before .before .before .before .before .args .field)) (c .before .before .before .before .before .before .before .before .pre .0) (sym (c .enum-told .given .1) ∙ c .before .before .slot-for .ensures))
+returns c =
+    let start = c .before .before .before .before .before .before .before .before in
+    places-nothing (now (start .args .bytes)) (start .args .time) _ (start .pre .1) (after-look (start .args .time) (now (start .args .bytes)) (now (start .args .key)) (now (start .args .field)) (start .pre .0) (sym (c .enum-told .given .1) ∙ c .before .before .slot-for .ensures))
 
 put-requires : tie.Need-put-requires
-put-requires c κs = may-place (now (c .before .before .before .before .before .before .before .before .before .before .args .bytes)) (c .before .before .before .before .before .before .before .before .before .before .args .time) _ (c .before .before .before .before .before .before .before .before .before .before .pre .1) (c .before .before .found .given .0 .0) (after-look (c .before .before .before .before .before .before .before .before .before .before .args .time) (now (c .before .before .before .before .before .before .before .before .before .before .args .bytes)) (now (c .before .before .before .before .before .before .before .before .before .before .args .key)) (now (c .before .before .before .before .before .before .before .before .before .before .args .field)) (c .before .before .before .before .before .before .before .before .before .before .pre .0) (sym (c .before .before .found .given .1) ∙ c .before .before .before .before .slot-for .ensures))
-
-same-length-2 : tie.Need-same-length-2
-same-length-2 c = search needs
+put-requires c κs =
+    let start = c .before .before .before .before .before .before .before .before .before .before in
+    let found = c .before .before .found .given in
+    may-place (now (start .args .bytes)) (start .args .time) _ (start .pre .1) (found .0 .0) (after-look (start .args .time) (now (start .args .bytes)) (now (start .args .key)) (now (start .args .field)) (start .pre .0) (sym (found .1) ∙ c .before .before .before .before .slot-for .ensures)) (start .pre .2)
 
 returns-2 : tie.Need-returns-2
-returns-2 c = places (now (c .before .before .before .before .before .before .before .before .before .before .before .before .before .args .bytes)) (c .before .before .before .before .before .before .before .before .before .before .before .before .before .args .time) _ (c .before .before .before .before .before .before .before .before .before .before .before .before .before .pre .1) (c .before .before .before .before .before .found .given .0 .0) (after-look (c .before .before .before .before .before .before .before .before .before .before .before .before .before .args .time) (now (c .before .before .before .before .before .before .before .before .before .before .before .before .before .args .bytes)) (now (c .before .before .before .before .before .before .before .before .before .before .before .before .before .args .key)) (now (c .before .before .before .before .before .before .before .before .before .before .before .before .before .args .field)) (c .before .before .before .before .before .before .before .before .before .before .before .before .before .pre .0) (sym (c .before .before .before .before .before .found .given .1) ∙ c .before .before .before .before .before .before .before .slot-for .ensures)) (c .before .before .put .ensures)
+returns-2 c =
+    let start = c .before .before .before .before .before .before .before .before .before .before .before .before .before in
+    let found = c .before .before .before .before .before .found .given in
+    places (now (start .args .bytes)) (start .args .time) _ (start .pre .1) (found .0 .0) (after-look (start .args .time) (now (start .args .bytes)) (now (start .args .key)) (now (start .args .field)) (start .pre .0) (sym (found .1) ∙ c .before .before .before .before .before .before .before .slot-for .ensures)) (c .before .before .put .ensures)
 
 pub place-spec : {M : Type 1} → statement M
 place-spec =
     tie.close
     (tie.spec
-    slot-for-requires
-    enum-known-found
-    enum-told
-    same-length
+    (λ c κs. search needs)
+    (λ c. search needs)
+    (λ c. search needs)
+    (λ c. search needs)
     returns
     put-requires
-    same-length-2
+    (λ c. search needs)
     returns-2)

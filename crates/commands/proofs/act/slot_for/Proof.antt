@@ -6,43 +6,32 @@ use borrow.Author.Needs.{needs}
 use Rattle.commands.proofs.act.slot_for.Statement.{statement}
 use Rattle.commands.proofs.act.slot_for.Tie as tie
 
-enum-known-own : tie.Need-enum-known-own
-enum-known-own c = search needs
-
 returns : tie.Need-returns
-returns c = after-own (c .before .before .before .before .args .time) (decode (now (c .before .before .before .before .args .bytes)) .slots) (c .before .own .given .1)
-
-enum-told : tie.Need-enum-told
-enum-told c = search needs
-
-empty-requires : tie.Need-empty-requires
-empty-requires c κs = search needs
-
-enum-known-empty : tie.Need-enum-known-empty
-enum-known-empty c = search needs
+returns c =
+    let start = c .before .before .before .before in
+    after-own (start .args .time) (decode (now (start .args .bytes)) .slots) (c .before .own .given .1)
 
 returns-2 : tie.Need-returns-2
-returns-2 c = after-empty (c .before .before .before .before .before .before .before .args .time) (decode (now (c .before .before .before .before .before .before .before .args .bytes)) .slots) (c .before .before .before .before .enum-told .given .1) (c .before .empty2 .given .0 .0) (sym (c .before .empty2 .given .1) ∙ c .before .before .before .empty .ensures)
-
-enum-told-2 : tie.Need-enum-told-2
-enum-told-2 c = search needs
-
-dead-requires : tie.Need-dead-requires
-dead-requires c κs = search needs
+returns-2 c =
+    let start = c .before .before .before .before .before .before .before in
+    let empty2 = c .before .empty2 .given in
+    after-empty (start .args .time) (decode (now (start .args .bytes)) .slots) (c .before .before .before .before .enum-told .given .1) (empty2 .0 .0) (sym (empty2 .1) ∙ c .before .before .before .empty .ensures)
 
 returns-3 : tie.Need-returns-3
-returns-3 c = after-dead (c .before .before .before .before .before .before .before .args .time) (decode (now (c .before .before .before .before .before .before .before .args .bytes)) .slots) (c .before .before .before .before .enum-told .given .1) (sym (c .before .enum-told2 .given .1) ∙ c .before .before .before .empty .ensures) (c .dead .ensures)
+returns-3 c =
+    let start = c .before .before .before .before .before .before .before in
+    after-dead (start .args .time) (decode (now (start .args .bytes)) .slots) (c .before .before .before .before .enum-told .given .1) (sym (c .before .enum-told2 .given .1) ∙ c .before .before .before .empty .ensures) (c .dead .ensures)
 
 pub slot-for-spec : {M : Type 1} → statement M
 slot-for-spec =
     tie.close
     (tie.spec
-    enum-known-own
+    (λ c. search needs)
     returns
-    enum-told
-    empty-requires
-    enum-known-empty
+    (λ c. search needs)
+    (λ c κs. search needs)
+    (λ c. search needs)
     returns-2
-    enum-told-2
-    dead-requires
+    (λ c. search needs)
+    (λ c κs. search needs)
     returns-3)

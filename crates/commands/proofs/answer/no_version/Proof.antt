@@ -5,14 +5,15 @@ use borrow.Author.Needs.{needs}
 use Rattle.commands.proofs.answer.no_version.Statement.{statement}
 use Rattle.commands.proofs.answer.no_version.Tie as tie
 
-key-exists-requires : tie.Need-key-exists-requires
-key-exists-requires c κs = search needs
-
 returns : tie.Need-returns
-returns c = version-missing (c .before .before .before .before .args .time) (now (c .before .before .before .before .args .key)) (decode (now (c .before .before .before .before .args .bytes)) .slots) (c .before .key-exists .ensures) (c .if1 .taken)
+returns c =
+    let start = c .before .before .before .before in
+    version-missing (start .args .time) (now (start .args .key)) (decode (now (start .args .bytes)) .slots) (c .before .key-exists .ensures) (c .if1 .taken)
 
 returns-2 : tie.Need-returns-2
-returns-2 c = key-missing (c .before .before .before .before .args .time) (now (c .before .before .before .before .args .key)) (decode (now (c .before .before .before .before .args .bytes)) .slots) (c .before .key-exists .ensures) (c .if1 .left)
+returns-2 c =
+    let start = c .before .before .before .before in
+    key-missing (start .args .time) (now (start .args .key)) (decode (now (start .args .bytes)) .slots) (c .before .key-exists .ensures) (c .if1 .left)
 
 pub no-version-spec : {M : Type 1} → statement M
-no-version-spec = tie.close (tie.spec key-exists-requires returns returns-2)
+no-version-spec = tie.close (tie.spec (λ c κs. search needs) returns returns-2)

@@ -4,39 +4,30 @@ use borrow.Author.Needs.{needs}
 use Rattle.commands.proofs.answer.put_answer.Statement.{statement}
 use Rattle.commands.proofs.answer.put_answer.Tie as tie
 
-enum-known-found : tie.Need-enum-known-found
-enum-known-found c = search needs
-
 put-found-requires : tie.Need-put-found-requires
-put-found-requires c κs = (looked-held (now (c .before .before .before .before .before .before .before .before .args .bytes)) (now (c .before .before .before .before .before .before .before .before .args .key)) (now (c .before .before .before .before .before .before .before .before .args .field)) (c .before .before .before .before .before .before .before .before .pre .1) (c .before .before .before .before .before .before .before .before .pre .0) (c .before .before .found .given .1), c .before .before .before .before .before .before .before .before .pre .2)
-
-enum-told : tie.Need-enum-told
-enum-told c = search needs
-
-put-missing-requires : tie.Need-put-missing-requires
-put-missing-requires c κs = search needs
-
-same-length : tie.Need-same-length
-same-length c = search needs
+put-found-requires c κs =
+    let start = c .before .before .before .before .before .before .before .before in
+    (looked-held (now (start .args .bytes)) (now (start .args .key)) (now (start .args .field)) (start .pre .1) (start .pre .0) (c .before .before .found .given .1), start .pre .2)
 
 returns : tie.Need-returns
-returns c = laid-reply (found-reply (now (c .before .before .before .before .before .before .before .before .before .before .before .args .bytes)) (now (c .before .before .before .before .before .before .before .before .before .before .before .args .key)) (now (c .before .before .before .before .before .before .before .before .before .before .before .args .field)) (c .before .before .before .before .before .before .before .before .before .before .before .pre .1) (c .before .before .before .before .before .before .before .before .before .before .before .args .time) (c .before .before .before .before .before .before .before .before .before .before .before .args .question) (c .before .before .before .before .before .before .before .before .before .before .before .pre .0) (c .before .before .before .before .before .found .given .1)) (c .before .before .put-found .ensures)
-
-same-length-2 : tie.Need-same-length-2
-same-length-2 c = search needs
+returns c =
+    let start = c .before .before .before .before .before .before .before .before .before .before .before in
+    laid-reply (found-reply (now (start .args .bytes)) (now (start .args .key)) (now (start .args .field)) (start .pre .1) (start .args .time) (start .args .question) (start .pre .0) (c .before .before .before .before .before .found .given .1)) (c .before .before .put-found .ensures)
 
 returns-2 : tie.Need-returns-2
-returns-2 c = laid-reply (missing-reply (now (c .before .before .before .before .before .before .before .before .before .before .args .bytes)) (now (c .before .before .before .before .before .before .before .before .before .before .args .key)) (now (c .before .before .before .before .before .before .before .before .before .before .args .field)) (c .before .before .before .before .before .before .before .before .before .before .pre .1) (c .before .before .before .before .before .before .before .before .before .before .args .time) (c .before .before .before .before .before .before .before .before .before .before .args .question) (c .before .before .before .before .enum-told .given .1)) (c .before .before .put-missing .ensures)
+returns-2 c =
+    let start = c .before .before .before .before .before .before .before .before .before .before in
+    laid-reply (missing-reply (now (start .args .bytes)) (now (start .args .key)) (now (start .args .field)) (start .pre .1) (start .args .time) (start .args .question) (c .before .before .before .before .enum-told .given .1)) (c .before .before .put-missing .ensures)
 
 pub put-answer-spec : {M : Type 1} → statement M
 put-answer-spec =
     tie.close
     (tie.spec
-    enum-known-found
+    (λ c. search needs)
     put-found-requires
-    enum-told
-    put-missing-requires
-    same-length
+    (λ c. search needs)
+    (λ c κs. search needs)
+    (λ c. search needs)
     returns
-    same-length-2
+    (λ c. search needs)
     returns-2)

@@ -12,46 +12,50 @@ use Rattle.commands.proofs.answer.put_versioned.Statement.{statement}
 use Rattle.commands.proofs.answer.put_versioned.Tie as tie
 
 put-header-requires : tie.Need-put-header-requires
-put-header-requires c κs = front-room (header 2) (bulk (entryAt (decode (now (c .before .before .before .args .bytes)) .slots) (c .before .before .before .args .i) .value)) (front-room (header 2 ++ bulk (entryAt (decode (now (c .before .before .before .args .bytes)) .slots) (c .before .before .before .args .i) .value)) (number (entryAt (decode (now (c .before .before .before .args .bytes)) .slots) (c .before .before .before .args .i) .version)) (pair-room (c .before .before .before .pre .0) (c .before .before .before .pre .1) refl refl))
-
-value-requires : tie.Need-value-requires
-value-requires c κs = search needs
+put-header-requires c κs =
+    let start = c .before .before .before in
+    front-room (header 2) (bulk (entryAt (decode (now (start .args .bytes)) .slots) (start .args .i) .value)) (front-room (header 2 ++ bulk (entryAt (decode (now (start .args .bytes)) .slots) (start .args .i) .value)) (number (entryAt (decode (now (start .args .bytes)) .slots) (start .args .i) .version)) (pair-room (start .pre .0) (start .pre .1) refl refl))
 
 sub-put-bulk : tie.Need-sub-put-bulk
-sub-put-bulk c = tail-inside (bulk (entryAt (decode (now (c .before .before .before .before .before .before .before .args .bytes)) .slots) (c .before .before .before .before .before .before .before .args .i) .value)) (c .before .before .before .put-header .ensures) (front-room (header 2 ++ bulk (entryAt (decode (now (c .before .before .before .before .before .before .before .args .bytes)) .slots) (c .before .before .before .before .before .before .before .args .i) .value)) (number (entryAt (decode (now (c .before .before .before .before .before .before .before .args .bytes)) .slots) (c .before .before .before .before .before .before .before .args .i) .version)) (pair-room (c .before .before .before .before .before .before .before .pre .0) (c .before .before .before .before .before .before .before .pre .1) refl refl))
+sub-put-bulk c =
+    let start = c .before .before .before .before .before .before .before in
+    tail-inside (bulk (entryAt (decode (now (start .args .bytes)) .slots) (start .args .i) .value)) (c .before .before .before .put-header .ensures) (front-room (header 2 ++ bulk (entryAt (decode (now (start .args .bytes)) .slots) (start .args .i) .value)) (number (entryAt (decode (now (start .args .bytes)) .slots) (start .args .i) .version)) (pair-room (start .pre .0) (start .pre .1) refl refl))
 
 part-put-bulk-start : tie.Need-part-put-bulk-start
-part-put-bulk-start c = tail-inside (bulk (entryAt (decode (now (c .before .before .before .before .before .before .before .args .bytes)) .slots) (c .before .before .before .before .before .before .before .args .i) .value)) (c .before .before .before .put-header .ensures) (front-room (header 2 ++ bulk (entryAt (decode (now (c .before .before .before .before .before .before .before .args .bytes)) .slots) (c .before .before .before .before .before .before .before .args .i) .value)) (number (entryAt (decode (now (c .before .before .before .before .before .before .before .args .bytes)) .slots) (c .before .before .before .before .before .before .before .args .i) .version)) (pair-room (c .before .before .before .before .before .before .before .pre .0) (c .before .before .before .before .before .before .before .pre .1) refl refl))
-
-part-put-bulk-end : tie.Need-part-put-bulk-end
-part-put-bulk-end c = search needs
+part-put-bulk-start c =
+    let start = c .before .before .before .before .before .before .before in
+    tail-inside (bulk (entryAt (decode (now (start .args .bytes)) .slots) (start .args .i) .value)) (c .before .before .before .put-header .ensures) (front-room (header 2 ++ bulk (entryAt (decode (now (start .args .bytes)) .slots) (start .args .i) .value)) (number (entryAt (decode (now (start .args .bytes)) .slots) (start .args .i) .version)) (pair-room (start .pre .0) (start .pre .1) refl refl))
 
 put-bulk-requires : tie.Need-put-bulk-requires
-put-bulk-requires c κs = tail-room (bulk (now (c .before .value .result))) (c .before .before .before .before .put-header .ensures) (front-room (header 2 ++ bulk (now (c .before .value .result))) (number (entryAt (decode (now (c .before .before .before .before .before .before .before .before .args .bytes)) .slots) (c .before .before .before .before .before .before .before .before .args .i) .version)) (pair-room (c .before .before .before .before .before .before .before .before .pre .0) (c .before .before .before .before .before .before .before .before .pre .1) (c .before .value .ensures) refl))
+put-bulk-requires c κs =
+    let start = c .before .before .before .before .before .before .before .before in
+    let value = c .before .value .result in
+    tail-room (bulk (now value)) (c .before .before .before .before .put-header .ensures) (front-room (header 2 ++ bulk (now value)) (number (entryAt (decode (now (start .args .bytes)) .slots) (start .args .i) .version)) (pair-room (start .pre .0) (start .pre .1) (c .before .value .ensures) refl))
 
 add-second : tie.Need-add-second
-add-second c = omega (arith, laid-within (laid-tail (c .before .before .before .before .before .before .before .put-header .ensures) (c .before .before .put-bulk .ensures)) (front-room (header 2 ++ bulk (now (c .before .before .before .before .value .result))) (number (entryAt (decode (now (c .before .before .before .before .before .before .before .before .before .before .before .args .bytes)) .slots) (c .before .before .before .before .before .before .before .before .before .before .before .args .i) .version)) (pair-room (c .before .before .before .before .before .before .before .before .before .before .before .pre .0) (c .before .before .before .before .before .before .before .before .before .before .before .pre .1) (c .before .before .before .before .value .ensures) refl)))
-
-version-requires : tie.Need-version-requires
-version-requires c κs = search needs
+add-second c =
+    let start = c .before .before .before .before .before .before .before .before .before .before .before in
+    omega (arith, laid-within (laid-tail (c .before .before .before .before .before .before .before .put-header .ensures) (c .before .before .put-bulk .ensures)) (front-room (header 2 ++ bulk (now (c .before .before .before .before .value .result))) (number (entryAt (decode (now (start .args .bytes)) .slots) (start .args .i) .version)) (pair-room (start .pre .0) (start .pre .1) (c .before .before .before .before .value .ensures) refl)))
 
 sub-put-number : tie.Need-sub-put-number
-sub-put-number c = tail-inside (number (c .version .result)) (laid-tail (c .before .before .before .before .before .before .before .before .put-header .ensures) (c .before .before .before .put-bulk .ensures)) (pair-room (c .before .before .before .before .before .before .before .before .before .before .before .before .pre .0) (c .before .before .before .before .before .before .before .before .before .before .before .before .pre .1) (c .before .before .before .before .before .value .ensures) (c .version .ensures))
+sub-put-number c =
+    let start = c .before .before .before .before .before .before .before .before .before .before .before .before in
+    tail-inside (number (c .version .result)) (laid-tail (c .before .before .before .before .before .before .before .before .put-header .ensures) (c .before .before .before .put-bulk .ensures)) (pair-room (start .pre .0) (start .pre .1) (c .before .before .before .before .before .value .ensures) (c .version .ensures))
 
 part-put-number-start : tie.Need-part-put-number-start
-part-put-number-start c = tail-inside (number (c .version .result)) (laid-tail (c .before .before .before .before .before .before .before .before .put-header .ensures) (c .before .before .before .put-bulk .ensures)) (pair-room (c .before .before .before .before .before .before .before .before .before .before .before .before .pre .0) (c .before .before .before .before .before .before .before .before .before .before .before .before .pre .1) (c .before .before .before .before .before .value .ensures) (c .version .ensures))
-
-part-put-number-end : tie.Need-part-put-number-end
-part-put-number-end c = search needs
+part-put-number-start c =
+    let start = c .before .before .before .before .before .before .before .before .before .before .before .before in
+    tail-inside (number (c .version .result)) (laid-tail (c .before .before .before .before .before .before .before .before .put-header .ensures) (c .before .before .before .put-bulk .ensures)) (pair-room (start .pre .0) (start .pre .1) (c .before .before .before .before .before .value .ensures) (c .version .ensures))
 
 put-number-requires : tie.Need-put-number-requires
-put-number-requires c κs = tail-room (number (c .before .version .result)) (laid-tail (c .before .before .before .before .before .before .before .before .before .put-header .ensures) (c .before .before .before .before .put-bulk .ensures)) (pair-room (c .before .before .before .before .before .before .before .before .before .before .before .before .before .pre .0) (c .before .before .before .before .before .before .before .before .before .before .before .before .before .pre .1) (c .before .before .before .before .before .before .value .ensures) (c .before .version .ensures))
+put-number-requires c κs =
+    let start = c .before .before .before .before .before .before .before .before .before .before .before .before .before in
+    tail-room (number (c .before .version .result)) (laid-tail (c .before .before .before .before .before .before .before .before .before .put-header .ensures) (c .before .before .before .before .put-bulk .ensures)) (pair-room (start .pre .0) (start .pre .1) (c .before .before .before .before .before .before .value .ensures) (c .before .version .ensures))
 
 add-result : tie.Need-add-result
-add-result c = omega (arith, laid-within (laid-tail (laid-tail (c .before .before .before .before .before .before .before .before .before .before .before .before .put-header .ensures) (c .before .before .before .before .before .before .before .put-bulk .ensures)) (c .before .before .put-number .ensures)) (pair-room (c .before .before .before .before .before .before .before .before .before .before .before .before .before .before .before .before .pre .0) (c .before .before .before .before .before .before .before .before .before .before .before .before .before .before .before .before .pre .1) (c .before .before .before .before .before .before .before .before .before .value .ensures) (c .before .before .before .before .version .ensures)))
-
-same-length : tie.Need-same-length
-same-length c = search needs
+add-result c =
+    let start = c .before .before .before .before .before .before .before .before .before .before .before .before .before .before .before .before in
+    omega (arith, laid-within (laid-tail (laid-tail (c .before .before .before .before .before .before .before .before .before .before .before .before .put-header .ensures) (c .before .before .before .before .before .before .before .put-bulk .ensures)) (c .before .before .put-number .ensures)) (pair-room (start .pre .0) (start .pre .1) (c .before .before .before .before .before .before .before .before .before .value .ensures) (c .before .before .before .before .version .ensures)))
 
 returns : tie.Need-returns
 returns c = laid-reply (pair-reply (c .before .before .before .before .before .before .before .before .before .value .ensures) (c .before .before .before .before .version .ensures)) (laid-tail (laid-tail (c .before .before .before .before .before .before .before .before .before .before .before .before .put-header .ensures) (c .before .before .before .before .before .before .before .put-bulk .ensures)) (c .before .before .put-number .ensures))
@@ -61,17 +65,17 @@ put-versioned-spec =
     tie.close
     (tie.spec
     put-header-requires
-    value-requires
+    (λ c κs. search needs)
     sub-put-bulk
     part-put-bulk-start
-    part-put-bulk-end
+    (λ c. search needs)
     put-bulk-requires
     add-second
-    version-requires
+    (λ c κs. search needs)
     sub-put-number
     part-put-number-start
-    part-put-number-end
+    (λ c. search needs)
     put-number-requires
     add-result
-    same-length
+    (λ c. search needs)
     returns)

@@ -1,31 +1,7 @@
-use Rattle.commands.proofs.Plans.{always-open, missing-barred, live-open, missing-open, live-barred}
+use Rattle.commands.proofs.VersionPlans.{always-open, missing-barred, live-open, missing-open, live-barred}
 use borrow.Author.Needs.{needs}
 use Rattle.commands.proofs.versions.is_barred.Statement.{statement}
 use Rattle.commands.proofs.versions.is_barred.Tie as tie
-
-enum-told : tie.Need-enum-told
-enum-told c = search needs
-
-enum-told-2 : tie.Need-enum-told-2
-enum-told-2 c = search needs
-
-enum-told-3 : tie.Need-enum-told-3
-enum-told-3 c = search needs
-
-enum-told-4 : tie.Need-enum-told-4
-enum-told-4 c = search needs
-
-enum-told-5 : tie.Need-enum-told-5
-enum-told-5 c = search needs
-
-enum-told-6 : tie.Need-enum-told-6
-enum-told-6 c = search needs
-
-enum-told-7 : tie.Need-enum-told-7
-enum-told-7 c = search needs
-
-enum-told-8 : tie.Need-enum-told-8
-enum-told-8 c = search needs
 
 returns : tie.Need-returns
 returns c = always-open (c .before .before .before .before .args .found) (c .enum-told2 .given .1)
@@ -49,14 +25,14 @@ pub is-barred-spec : {M : Type 1} → statement M
 is-barred-spec =
     tie.close
     (tie.spec
-    enum-told
-    enum-told-2
-    enum-told-3
-    enum-told-4
-    enum-told-5
-    enum-told-6
-    enum-told-7
-    enum-told-8
+    (λ c. search needs)
+    (λ c. search needs)
+    (λ c. search needs)
+    (λ c. search needs)
+    (λ c. search needs)
+    (λ c. search needs)
+    (λ c. search needs)
+    (λ c. search needs)
     returns
     returns-2
     returns-3

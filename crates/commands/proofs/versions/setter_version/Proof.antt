@@ -1,19 +1,7 @@
-use Rattle.commands.proofs.Plans.{next-setter, match-setter, exactly-setter}
+use Rattle.commands.proofs.VersionPlans.{next-setter, match-setter, exactly-setter}
 use borrow.Author.Needs.{needs}
 use Rattle.commands.proofs.versions.setter_version.Statement.{statement}
 use Rattle.commands.proofs.versions.setter_version.Tie as tie
-
-enum-known-versioning : tie.Need-enum-known-versioning
-enum-known-versioning c = search needs
-
-enum-told : tie.Need-enum-told
-enum-told c = search needs
-
-enum-told-2 : tie.Need-enum-told-2
-enum-told-2 c = search needs
-
-add-result : tie.Need-add-result
-add-result c = search needs
 
 returns : tie.Need-returns
 returns c = exactly-setter (c .before .before .before .args .held) (c .before .versioning .given .1)
@@ -27,4 +15,4 @@ returns-3 c = match-setter (c .before .before .args .held) (c .enum-told2 .given
 pub setter-version-spec : {M : Type 1} → statement M
 setter-version-spec =
     tie.close
-    (tie.spec enum-known-versioning enum-told enum-told-2 add-result returns returns-2 returns-3)
+    (tie.spec (λ c. search needs) (λ c. search needs) (λ c. search needs) (λ c. search needs) returns returns-2 returns-3)

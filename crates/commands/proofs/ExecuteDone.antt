@@ -1,56 +1,68 @@
 -- From what a command's function does to what `execBytes` says.
 use mathlib.Core.Path.{_≡_, refl, sym, ap, subst, _∙_}
-use mathlib.Core.Bool.{Bool, true, false, cond, _||_}
+use mathlib.Core.Bool.{Bool, true, false, cond, _&&_}
 use mathlib.Core.List.{List, [], _∷_}
 use mathlib.Core.Option.{none, some}
-use Prim.Native.Nat.{ℕ, _%_, _≤_, _<_}
+use Prim.Native.Nat.{ℕ, zero, suc, _+_, _%_, _≤_, _<_}
+use native.Mathlib.Numerals.{lt-of-le-of-ne}
 use native.Mathlib.Omega.{arith}
-use borrow.Author.Tests.{ltb-true, leb-true, eqb-true, not-false}
-use lib.Dec.{leb, ltb, eqb}
-use lib.ListN.{length, drop}
+use borrow.Author.Tests.{leb-true, eqb-true, eqb-false, not-false}
+use lib.Dec.{leb, eqb}
+use lib.ListN.{length, take, drop}
+use lib.Seq.{length-take-le}
 use Rattle.wire.specs.Lists.{all, any}
 use Rattle.wire.specs.Bytes.{spells}
 use Rattle.wire.specs.Words.{Word, wordsOf, wordAt}
-use Rattle.wire.specs.Reply.{laidOver}
 use Rattle.wire.specs.Promises.{Laid, wordsIn, Places}
-use Rattle.wire.proofs.Lists.{and-left, and-right}
+use Rattle.wire.proofs.Lists.{impossible, and-left, and-right}
+use Rattle.wire.proofs.Cursor.{length-words}
 use Rattle.store.specs.Layout.{timeLimit}
-use Rattle.store.specs.Store.{Store, decode, encode, wellFormed}
+use Rattle.store.specs.Store.{Store, withClock, decode, encode, wellFormed}
 use Rattle.store.specs.Time.{nowAt}
-use Rattle.store.specs.Promises.{Holds, withClock}
+use Rattle.store.specs.Promises.{Holds}
 use Rattle.store.proofs.Encode.{encode-decode, decode-valid}
 use Rattle.commands.specs.declared.FieldDeed.{FieldDeed}
 use Rattle.commands.specs.declared.FieldDeed.the-variants as fieldDeeds
 use Rattle.commands.specs.declared.KeyDeed.{KeyDeed}
 use Rattle.commands.specs.declared.Parsed.{Parsed}
 use Rattle.commands.specs.declared.Parsed.the-variants as parses
-use Rattle.commands.specs.Refusal.{table, errorLine}
+use Rattle.commands.specs.Refusal.{earlyLeast, earlyMost, bufferLeast, table, errorLine}
 use Rattle.commands.specs.Command.{Command}
 use Rattle.commands.specs.Command.Command.{onField}
 use Rattle.commands.specs.Parse as P
 use Rattle.commands.specs.Parse.{commands, commandNamed, countFits, parse}
 use Rattle.commands.specs.Parse.Parsed.{refused, accepted}
-use Rattle.commands.specs.Execute.{run, perform, exec, execBytes, sweep, namedDead}
-use Rattle.commands.specs.ParsePromises.{meant, deedOf, commandFor, isRefusal}
-use Rattle.commands.specs.Promises.{Does, Passed, runOn, settle, withoutDead, amountFits}
+use Rattle.commands.specs.Execute.{runOn, run, perform, exec, execBytes}
+use Rattle.commands.specs.ParsePromises.{Divided, meant, deedOf, commandFor, isRefusal}
+use Rattle.commands.specs.Promises.{Does, Replied, Opened, WithinLimits, amountFits}
 use Rattle.commands.proofs.Acts.{holds-self}
 use Rattle.commands.proofs.Checks.{checks-clear, givenIn, builtOf, parse-refused, parse-accepted}
 use Rattle.commands.proofs.Sound.{parse-clock}
 use Rattle.commands.proofs.Keeps.{now-early}
-use Rattle.commands.proofs.WordPlaces.{length-words}
-use Rattle.commands.proofs.Tallies.{allBelow, below-at}
 use Rattle.commands.proofs.FromBytes.{parse-amount}
 
--- the three equations
+-- what is done on what the bytes mean is done on the bytes
 pub does-exec : (clock : ℕ) (command b : List ℕ) {after d x : List ℕ} {r : ℕ} → Does (exec clock command (decode b)) after d x r
-    → (r ≡ length (execBytes clock command b .reply)) × (after ≡ execBytes clock command b .store) × (x ≡ laidOver (execBytes clock command b .reply) d)
+    → Replied (execBytes clock command b) after d x (record { replied = r })
 unfolding execBytes
 does-exec clock command b {after} w =
-    (w .laid .size, sym (encode-decode after (w .holds .well)) ∙ ap encode (w .holds .means), w .laid .bytes)
+    record {
+      size = w .laid .size;
+      stored = sym (encode-decode after (w .holds .well)) ∙ ap encode (w .holds .means);
+      bytes = w .laid .bytes;
+    }
+
+-- The places that a command's split answers are those of its words.
+module _ {s : List ℕ} {places : List (List ℕ)} {count : ℕ} (h : Places s places count) where
+  pub places-size : count ≡ length (take count places)
+  places-size = sym (length-take-le count places (h .room))
+
+  pub places-divided : Divided s (take count places)
+  places-divided = record { words = rw (← places-size) (h .words); within = h .within }
 
 -- a command on a store whose clock was set
 pub clock-does : (now : ℕ) (c : Command) (s : Store) {b after d x : List ℕ} {r : ℕ} → Holds b (withClock now s) → Does (runOn now c (decode b)) after d x r → Does (run now c s) after d x r
-unfolding run runOn settle withoutDead sweep namedDead
+unfolding run
 clock-does now c s {b} {after} {d} {x} {r} h w = subst (λ (t : Store). Does (runOn now c t) after d x r) (h .means) w
 
 -- now is below the limit where the record's clock is
@@ -59,14 +71,26 @@ now-soon clock b w t l = rw t (now-early clock (decode b) (decode-valid b w .clo
 
 -- ---- which refusals parsing gives
 
--- 10 to 18 have a line
-early-known : (n : ℕ) → 10 ≤ n → n ≤ 18 → isRefusal n ≡ true
-unfolding allBelow isRefusal any table
-early-known n a b = go (ltb n 10) refl (below-at (λ i. ltb i 10 || isRefusal i) 19 refl n (omega arith))
+-- so many numbers from one on have a line
+unfoldable known-from : ℕ → ℕ → Bool
+known-from zero n = true
+known-from (suc k) n = isRefusal n && known-from k (suc n)
+
+known-at : (k lo : ℕ) → known-from k lo ≡ true → (n : ℕ) → lo ≤ n → n < lo + k → isRefusal n ≡ true
+unfolding known-from
+known-at zero lo h n a b = absurd (omega arith)
+known-at (suc k) lo h n a b =
+    go (eqb lo n) refl
+    (λ d. known-at k (suc lo) (and-right (isRefusal lo) (known-from k (suc lo)) h) n (lt-of-le-of-ne a d) (omega arith))
   where
-    go : (t : Bool) → ltb n 10 ≡ t → t || isRefusal n ≡ true → isRefusal n ≡ true
-    go true q h = absurd (let z : ⊥ = omega (arith, ltb-true n 10 q) in z)
-    go false q h = h
+    go : (t : Bool) → eqb lo n ≡ t → ((lo ≡ n → ⊥) → isRefusal n ≡ true) → isRefusal n ≡ true
+    go true q later = rw (← eqb-true lo n q) (and-left (isRefusal lo) (known-from k (suc lo)) h)
+    go false q later = later (eqb-false lo n q)
+
+-- 10 to 18 do.
+early-known : (n : ℕ) → earlyLeast ≤ n → n ≤ earlyMost → isRefusal n ≡ true
+unfolding known-from isRefusal any table
+early-known n a b = known-at 9 earlyLeast refl n a (omega arith)
 
 -- ---- how many words a command has
 
@@ -113,8 +137,8 @@ two-words time clock s c ws e v =
 
 -- an accepted command
 module _ (clock : ℕ) (command b : List ℕ) (w : wellFormed b ≡ true) {time : ℕ} (t : time ≡ nowAt clock (decode b)) (c : Command) (e : parse time clock command ≡ accepted c) where
-  accepted-passed : Passed c
-  accepted-passed =
+  accepted-limits : WithinLimits c
+  accepted-limits =
       let a = parse-accepted time clock command c e in
       let r = a .row in
       let k = checks-clear (r .form) (r .count) (a .words) (givenIn r (a .words)) (builtOf time r (a .words)) (a .clear) in
@@ -148,11 +172,11 @@ module _ (clock : ℕ) (command b : List ℕ) (w : wellFormed b ≡ true) (ws : 
     unfolding meant
     on-field = sym m ∙ ap (meant ws) q
 
-    pub field-passed : Passed fieldCommand
-    field-passed = accepted-passed clock command b w t fieldCommand on-field
+    pub field-limits : WithinLimits fieldCommand
+    field-limits = accepted-limits clock command b w t fieldCommand on-field
 
-    pub field-time : time < timeLimit
-    field-time = accepted-time clock command b w t fieldCommand on-field
+    pub field-opened : {o : List ℕ} → bufferLeast ≤ length o → Opened time b o
+    field-opened l = record { well = w; soon = accepted-time clock command b w t fieldCommand on-field; room = l }
 
     pub field-amount : amountFits d ≡ true
     unfolding amountFits deedOf
@@ -177,24 +201,21 @@ module _ (clock : ℕ) (command b : List ℕ) (w : wellFormed b ≡ true) (ws : 
     unfolding meant
     on-key = sym m ∙ ap (meant ws) q
 
-    pub key-passed : Passed keyCommand
-    key-passed = accepted-passed clock command b w t keyCommand on-key
+    pub key-limits : WithinLimits keyCommand
+    key-limits = accepted-limits clock command b w t keyCommand on-key
 
-    pub key-time : time < timeLimit
-    key-time = accepted-time clock command b w t keyCommand on-key
+    pub key-opened : {o : List ℕ} → bufferLeast ≤ length o → Opened time b o
+    key-opened l = record { well = w; soon = accepted-time clock command b w t keyCommand on-key; room = l }
 
-    pub key-words : (count : ℕ) (starts sizes : List ℕ) → ws ≡ wordsIn count command starts sizes → Places command starts sizes count → 2 ≤ count
-    key-words count starts sizes v h = go (eqb count 0) refl
+    pub key-words : (places : List (List ℕ)) → Divided command places → 2 ≤ length places
+    key-words places h = go (eqb (length places) 0) refl
       where
-        go : (z : Bool) → eqb count 0 ≡ z → 2 ≤ count
+        go : (z : Bool) → eqb (length places) 0 ≡ z → 2 ≤ length places
         go true y =
             let a = parse-accepted time clock command keyCommand on-key in
-            absurd (none-some (sym (h .words ∙ rw y) ∙ a .split))
-          where
-            none-some : {x : List Word} → none ≡ some x → ⊥
-            none-some n = let z : _≡_ {A = ℕ} 0 1 = cc in omega arith
-        go false y =
-            rw length-words at (two-words time clock command keyCommand (wordsIn count command starts sizes) on-key (h .words ∙ rw y))
+            let e : none ≡ some (a .words) = sym (h .words ∙ rw y) ∙ a .split in
+            impossible cc
+        go false y = rw length-words at (two-words time clock command keyCommand (wordsIn command places) on-key (h .words ∙ rw y))
 
     pub key-done : {after o x : List ℕ} {r : ℕ} → Does (run time keyCommand (decode b)) after o x r → Does (exec clock command (decode b)) after o x r
     key-done h = accepted-done clock command b w t keyCommand on-key h
@@ -202,17 +223,9 @@ module _ (clock : ℕ) (command b : List ℕ) (w : wellFormed b ≡ true) (ws : 
 -- ---- the words that a command's function is handed
 
 module _ (d : FieldDeed) {k f v k₂ f₂ v₂ : Word} (a : k ≡ k₂) (b : f ≡ f₂) (c : v ≡ v₂) where
-  pub field-requires : Passed (onField k₂ f₂ (deedOf v₂ d)) → Passed (onField k f (deedOf v d))
+  pub field-requires : WithinLimits (onField k₂ f₂ (deedOf v₂ d)) → WithinLimits (onField k f (deedOf v d))
   field-requires h = rw (a, b, c) h
 
   pub field-does : (now : ℕ) (s : Store) {b₀ after o x : List ℕ} {r : ℕ} → Holds b₀ (withClock now s)
       → Does (runOn now (onField k f (deedOf v d)) (decode b₀)) after o x r → Does (run now (onField k₂ f₂ (deedOf v₂ d)) s) after o x r
   field-does now s h w = clock-does now (onField k₂ f₂ (deedOf v₂ d)) s h (rw (a, b, c) at w)
-
-module _ (d : KeyDeed) (ws : List Word) {k k₂ : Word} (a : k ≡ k₂) where
-  pub key-requires : Passed (commandFor k₂ ws d) → Passed (commandFor k ws d)
-  key-requires h = rw a h
-
-  pub key-does : (now : ℕ) (s : Store) {b₀ after o x : List ℕ} {r : ℕ} → Holds b₀ (withClock now s)
-      → Does (runOn now (commandFor k ws d) (decode b₀)) after o x r → Does (run now (commandFor k₂ ws d) s) after o x r
-  key-does now s h w = clock-does now (commandFor k₂ ws d) s h (rw a at w)

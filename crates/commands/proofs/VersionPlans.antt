@@ -1,7 +1,7 @@
 -- What decides a version, an expiry and a condition, said of plain values: each case of the code, and that they are the field's.
-use mathlib.Core.Path.{_≡_, refl}
+use mathlib.Core.Path.{_≡_, refl, sym}
 use mathlib.Core.Logic.{_≢_}
-use mathlib.Core.Bool.{true, false, not}
+use mathlib.Core.Bool.{Bool, true, false, not}
 use mathlib.Core.List.{List, []}
 use mathlib.Core.Option.{Option, none, some}
 use Prim.Native.Nat.{ℕ, _+_}
@@ -107,14 +107,14 @@ module _ {c : Condition} (r : Found) where
 
 -- ---- they are the field's
 
-pub stale-held : (n : Versioning) (found : Option Entry) → isStale n (some (versioned (heldVersion found))) ≡ isStale n found
+stale-held : (n : Versioning) (found : Option Entry) → isStale n (some (versioned (heldVersion found))) ≡ isStale n found
 unfolding isStale heldVersion orElse
 stale-held Next found = refl
 stale-held (Match v) none = refl
 stale-held (Match v) (some e) = refl
 stale-held (Exactly v) found = refl
 
-pub version-held : (n : Versioning) (found : Option Entry) → nextVersion n (some (versioned (heldVersion found))) ≡ nextVersion n found
+version-held : (n : Versioning) (found : Option Entry) → nextVersion n (some (versioned (heldVersion found))) ≡ nextVersion n found
 unfolding nextVersion heldVersion orElse
 version-held Next none = refl
 version-held Next (some e) = refl
@@ -128,17 +128,32 @@ setter-held Next e = refl
 setter-held (Match v) e = refl
 setter-held (Exactly v) e = refl
 
-pub expiry-held : (t : Lifetime) (found : Option Entry) → nextExpiry t (some (expiring (heldExpiry found))) ≡ nextExpiry t found
+expiry-held : (t : Lifetime) (found : Option Entry) → nextExpiry t (some (expiring (heldExpiry found))) ≡ nextExpiry t found
 unfolding nextExpiry heldExpiry orElse
 expiry-held Clear found = refl
 expiry-held Keep none = refl
 expiry-held Keep (some e) = refl
 expiry-held (Until i) found = refl
 
-pub barred-held : (c : Condition) (ss : List Slot) (r : Found) → barred c (entryFor [] r) ≡ barred c (entryFor ss r)
+barred-held : (c : Condition) (ss : List Slot) (r : Found) → barred c (entryFor [] r) ≡ barred c (entryFor ss r)
 unfolding barred entryFor isSome
 barred-held Always ss r = refl
 barred-held Missing ss (founds.At i) = refl
 barred-held Missing ss founds.Nothing = refl
 barred-held Live ss (founds.At i) = refl
 barred-held Live ss founds.Nothing = refl
+
+-- ---- so what the code decides is what the definitions say
+
+module _ (found : Option Entry) where
+  pub stale-is : (n : Versioning) {v : ℕ} {t : Bool} → v ≡ heldVersion found → t ≡ isStale n (some (versioned v)) → isStale n found ≡ t
+  stale-is n h q = rw (q, h) (sym (stale-held n found))
+
+  pub version-is : (n : Versioning) {v m : ℕ} → v ≡ heldVersion found → m ≡ nextVersion n (some (versioned v)) → m ≡ nextVersion n found
+  version-is n h q = rw (q, h) (version-held n found)
+
+  pub expiry-is : (t : Lifetime) {x y : Expiry} → x ≡ heldExpiry found → y ≡ nextExpiry t (some (expiring x)) → y ≡ nextExpiry t found
+  expiry-is t h q = rw (q, h) (expiry-held t found)
+
+pub barred-is : (c : Condition) (ss : List Slot) (r : Found) {t : Bool} → t ≡ barred c (entryFor [] r) → barred c (entryFor ss r) ≡ t
+barred-is c ss r q = rw q (sym (barred-held c ss r))
