@@ -36,7 +36,7 @@ use Rattle.commands.specs.Options.OptionKind.{bound}
 use Rattle.commands.specs.Parse.{Form, allowed, optionWords, numberRange, build, isZero, deedVersioning, beyond, deedLifetime, onDeed, laterChecks}
 use Rattle.commands.specs.Parse.Parsed.{refused, accepted}
 use Rattle.commands.specs.Tables.{kindIn}
-use Rattle.commands.specs.ParsePromises.{groupsFrom, notGiven, numbered, optionAt, givenAt, Scanned, lifetimeBy, versionBy, readOf, timedFor, versionedFor, termChecks, termsFor, conditionFor, boundFor, boundGiven, parseRest, meant}
+use Rattle.commands.specs.ParsePromises.{notGiven, numbered, optionAt, givenAt, Scanned, lifetimeBy, versionBy, readOf, timedFor, versionedFor, termChecks, termsFor, conditionFor, boundFor, boundGiven, parseRest, meant}
 use Rattle.commands.proofs.Checks.{check-applies, check-passed, checks-end}
 use Rattle.commands.proofs.Scanning.{option-some, option-none}
 use Rattle.commands.proofs.OneEach.{scan-allowed, all-groups}
@@ -106,7 +106,7 @@ module _ (time : ℕ) (f : Form) (ws : List Word) where
 
 -- the groups and the words from which a form takes options
 pub record Takes (f : Form) (al : List ℕ) (from : ℕ) : Type 0 where
-  pub groups : allowed f ≡ groupsFrom 0 al
+  pub groups : allowed f ≡ al
   pub words : (ws : List Word) → optionWords f ws ≡ drop from ws
 
 -- A scan that is clean: the options of the groups stand in the code's arrays, and all numbers are read where each group's is.
@@ -116,7 +116,7 @@ pub record Ready (f : Form) (ws : List Word) (r : ScannedOptions) : Type 0 where
   pub read : all readableOperand (givenIn f ws) ≡ all (λ n. readOf (givenOf n (givenIn f ws))) (allowed f)
 
 module _ {f : Form} {al : List ℕ} {from : ℕ} (k : Takes f al from) {ws : List Word} {r : ScannedOptions} (s : Scanned ws al from r) where
-  same-scan : scan (groupsFrom 0 al) none (drop from ws) ≡ scannedOf f ws
+  same-scan : scan al none (drop from ws) ≡ scannedOf f ws
   same-scan = rw (k .groups, k .words ws)
 
   pub not-clean : (time : ℕ) → not (r .clean) ≡ true → meant ws (parses.Refused 15) ≡ parseRest time f ws

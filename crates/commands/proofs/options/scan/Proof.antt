@@ -21,7 +21,7 @@ loop-holds c = scanning-begins _ _ _
 option-at-requires : tie.Need-option-at-requires Inv-loop μ-loop
 option-at-requires c κs =
     let a = c .before .before .before .before in
-    (a .pre .0, c .loop-test .taken, a .pre .1)
+    (a .pre, c .loop-test .taken)
 
 enum-known-found : tie.Need-enum-known-found Inv-loop μ-loop
 enum-known-found c = search needs
@@ -94,7 +94,7 @@ add-i c =
     let b = a .before .before in
     let d = b .before .before .before .before .before in
     let found = rw (a .found .given .1) at (b .option-at .ensures) in
-    omega (arith, found .inside, length-words (d .args .command .now) (d .args .places .now), d .pre .0 .most)
+    omega (arith, found .inside, length-words (d .args .command .now) (d .args .places .now), d .pre .most)
 
 loop-less : tie.Need-loop-less Inv-loop μ-loop
 loop-less c =
