@@ -7,18 +7,6 @@ use borrow.Author.Needs.{needs}
 use Rattle.commands.proofs.options.option_at.Statement.{statement}
 use Rattle.commands.proofs.options.option_at.Tie as tie
 
-word-requires : tie.Need-word-requires
-word-requires c κs = search needs
-
-option-named-requires : tie.Need-option-named-requires
-option-named-requires c κs = search needs
-
-enum-known-found : tie.Need-enum-known-found
-enum-known-found c = search needs
-
-enum-told : tie.Need-enum-told
-enum-told c = search needs
-
 returns : tie.Need-returns
 returns c =
     let a = c .before .before in
@@ -31,9 +19,6 @@ option-datum-requires c κs =
     let a = c .before in
     let b = a .before .before in
     (option-number _ (b .option-named .ensures) (a .found .given .0 .0) (a .found .given .1), omega arith)
-
-takes-requires : tie.Need-takes-requires
-takes-requires c κs = search needs
 
 returns-2 : tie.Need-returns-2
 returns-2 c =
@@ -70,15 +55,6 @@ sub-next-word c =
     let a = c .before .before .before .before .before .before in
     omega (arith, c .option-datum3 .ensures, size-range (optionOf (a .found .given .0 .0) .kind))
 
-next-word-requires : tie.Need-next-word-requires
-next-word-requires c κs = search needs
-
-enum-known-end : tie.Need-enum-known-end
-enum-known-end c = search needs
-
-enum-told-2 : tie.Need-enum-told-2
-enum-told-2 c = search needs
-
 returns-3 : tie.Need-returns-3
 returns-3 c =
     let a = c .before .before in
@@ -111,20 +87,20 @@ pub option-at-spec : {M : Type 1} → statement M
 option-at-spec =
     tie.close
     (tie.spec
-    word-requires
-    option-named-requires
-    enum-known-found
-    enum-told
+    (λ c κs. search needs)
+    (λ c κs. search needs)
+    (λ c. search needs)
+    (λ c. search needs)
     returns
     option-datum-requires
-    takes-requires
+    (λ c κs. search needs)
     returns-2
     option-datum-requires-2
     option-datum-requires-3
     add-next-word
     sub-next-word
-    next-word-requires
-    enum-known-end
-    enum-told-2
+    (λ c κs. search needs)
+    (λ c. search needs)
+    (λ c. search needs)
     returns-3
     returns-4)

@@ -23,12 +23,6 @@ option-at-requires c κs =
     let a = c .before .before .before .before in
     (a .pre, c .loop-test .taken)
 
-enum-known-found : tie.Need-enum-known-found Inv-loop μ-loop
-enum-known-found c = search needs
-
-enum-told : tie.Need-enum-told Inv-loop μ-loop
-enum-told c = search needs
-
 returns : tie.Need-returns Inv-loop μ-loop
 returns c =
     let a = c .before .before in
@@ -123,8 +117,8 @@ scan-spec =
     μ-loop
     loop-holds
     option-at-requires
-    enum-known-found
-    enum-told
+    (λ c. search needs)
+    (λ c. search needs)
     returns
     mul-if1
     element-copy-out-if1

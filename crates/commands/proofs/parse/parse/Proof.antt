@@ -20,15 +20,6 @@ word-requires c κs =
     let a = c .before .before .before in
     a .pre .0 .within
 
-command-named-requires : tie.Need-command-named-requires
-command-named-requires c κs = search needs
-
-enum-known-found : tie.Need-enum-known-found
-enum-known-found c = search needs
-
-enum-told : tie.Need-enum-told
-enum-told c = search needs
-
 returns-3 : tie.Need-returns-3
 returns-3 c =
     let a = c .before .before in
@@ -104,9 +95,9 @@ parse-spec =
     returns
     returns-2
     word-requires
-    command-named-requires
-    enum-known-found
-    enum-told
+    (λ c κs. search needs)
+    (λ c. search needs)
+    (λ c. search needs)
     returns-3
     count-fits-requires
     returns-4
