@@ -67,7 +67,7 @@ pair-stays now k p ps ss i a q n =
 pairs-written : (now : ℕ) (k : Word) (ps : List Pair) (ss : List Slot) → Ready now k (map (λ p. p .field) ps) ss
     → (f v : Word) → lastOf f ps ≡ some v → Written k f v (changeAll now (writesOf now k ps ss) ss)
 unfolding writesOf changeAll change lastOf orElse written nextExpiry live before
-pairs-written now k [] ss r f v h = impossible (cc)
+pairs-written now k [] ss r f v h = impossible cc
 pairs-written now k (p ∷ ps) ss r f v h =
     let q = put-ready now (pairEntry k (p .field) (p .value) ss) (map (λ p. p .field) ps) ss refl r in
     go q (pairs-written now k ps (put now (pairEntry k (p .field) (p .value) ss) ss) (q .2) f v) (lastOf f ps) refl (same (p .field) f) refl h
@@ -83,7 +83,7 @@ pairs-written now k (p ∷ ps) ss r f v h =
         let d : p .field ≡ f = same-true (p .field) f b in
         let m : p .value ≡ v = cc in
         rw (← d, ← m) (pair-stays now k p ps ss (q .0) (r .apart) (q .1) (rw d (unnamed f ps a)))
-    go q ih none a false b h = impossible (cc)
+    go q ih none a false b h = impossible cc
 
 -- ---- after the sweep
 
@@ -113,8 +113,8 @@ unfolding effect
 all-set clock command s k ps a p = go (went clock command s)
   where
     go : {o : Outcome} → Went clock command s o → o .refusal ≡ none → (f v : Word) → lastOf f ps ≡ some v → Written k f v (o .store .slots)
-    go (early n q) e f v h = impossible (cc)
-    go (late c n q l) e f v h = impossible (cc)
+    go (early n q) e f v h = impossible cc
+    go (late c n q l) e f v h = impossible cc
     go (done c q l) e f v h =
         let m : c ≡ setMany k ps = cc in
         rw m

@@ -42,7 +42,7 @@ use Rattle.commands.specs.Parse.{Form, allowed, optionWords, numberRange
 use Rattle.commands.specs.Parse.Form.{setForm, setManyForm, incrementForm, expireForm, persistForm, renumberForm, askForm, getManyForm, deleteForm, countForm, listForm}
 use Rattle.commands.specs.Parse.Parsed.{accepted}
 use Rattle.commands.specs.Tables.{listFamily, listingOf, firstForms, formOf, commandData, familyAt, argumentAt, commandOf, kindIn, unitOf}
-use Rattle.commands.specs.ParsePromises.{groupsFrom, notGiven, givenAt, instantIn, readOf, versionedFor, termsFor, conditionFor, onInteger, sumFor, lowestSigned, highestSigned, boundGiven, sumOf, parseRest, deedOf, commandFor, meant}
+use Rattle.commands.specs.ParsePromises.{notGiven, givenAt, instantIn, readOf, versionedFor, termsFor, conditionFor, onInteger, sumFor, lowestSigned, highestSigned, boundGiven, sumOf, parseRest, deedOf, commandFor, meant}
 use Rattle.commands.proofs.RowNumbers.{row-form}
 use Rattle.commands.proofs.OptionWords.{instant-read}
 use Rattle.commands.proofs.Scanning.{option-some, option-none}
@@ -54,8 +54,8 @@ givenOption f n ws = readOf (givenOf n (givenIn f ws))
 
 -- ---- EXHSET
 
-pub set-takes : Takes setForm (1 ∷ 1 ∷ 1 ∷ 0 ∷ 0 ∷ 0 ∷ []) 4
-unfolding allowed optionWords groupsFrom
+pub set-takes : Takes setForm (expiryGroup ∷ conditionGroup ∷ versionGroup ∷ []) 4
+unfolding allowed optionWords
 set-takes = record { groups = refl; words = λ ws. refl }
 
 module _ (time : ℕ) {ws : List Word} {r : ScannedOptions} (y : Ready setForm ws r)
@@ -119,8 +119,8 @@ one-fails true a b false d e = simp and-false
 one-fails true a b true false e = simp and-false
 one-fails true a b true true e = impossible cc
 
-pub increment-takes : Takes incrementForm (1 ∷ 0 ∷ 1 ∷ 1 ∷ 1 ∷ 0 ∷ []) 4
-unfolding allowed optionWords groupsFrom
+pub increment-takes : Takes incrementForm (expiryGroup ∷ versionGroup ∷ minGroup ∷ maxGroup ∷ []) 4
+unfolding allowed optionWords
 increment-takes = record { groups = refl; words = λ ws. refl }
 
 module _ (time : ℕ) {ws : List Word} {r : ScannedOptions} (y : Ready incrementForm ws r) where
@@ -199,8 +199,8 @@ module _ (time : ℕ) {ws : List Word} {r : ScannedOptions} (y : Ready increment
 abbrev expiring : ℕ → Form
 expiring unit = expireForm (unitOf unit)
 
-pub expire-takes : (unit : ℕ) → Takes (expireForm (unitOf unit)) (0 ∷ 0 ∷ 1 ∷ 0 ∷ 0 ∷ 0 ∷ []) 4
-unfolding allowed optionWords groupsFrom
+pub expire-takes : (unit : ℕ) → Takes (expireForm (unitOf unit)) (versionGroup ∷ []) 4
+unfolding allowed optionWords
 expire-takes unit = record { groups = refl; words = λ ws. refl }
 
 module _ (time unit : ℕ) {ws : List Word} {r : ScannedOptions} (y : Ready (expireForm (unitOf unit)) ws r) where
@@ -263,8 +263,8 @@ module _ (time : ℕ) (ws : List Word) where
 
 -- ---- EXHLEN
 
-pub count-takes : Takes countForm (0 ∷ 0 ∷ 0 ∷ 0 ∷ 0 ∷ 1 ∷ []) 2
-unfolding allowed optionWords groupsFrom
+pub count-takes : Takes countForm (noExpGroup ∷ []) 2
+unfolding allowed optionWords
 count-takes = record { groups = refl; words = λ ws. refl }
 
 module _ (time : ℕ) {ws : List Word} {r : ScannedOptions} (y : Ready countForm ws r) where

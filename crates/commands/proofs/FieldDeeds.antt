@@ -329,22 +329,22 @@ module _ {b : List ℕ} {found : Found} (s : FoundIn b found) where
 -- an integer that was read, and one that was not
 read-as : (o : Option ℤ) {z : Signed} → integers.Value z ≡ integerFor o → o ≡ some (integerOf z)
 unfolding integerFor
-read-as none h = impossible (cc)
+read-as none h = impossible cc
 read-as (some w) {z} h = let e : z ≡ signedFor w = cc in rw (e, sign-said) refl
 
 read-not : (o : Option ℤ) → integers.Refused ≡ integerFor o → o ≡ none
 unfolding integerFor
 read-not none h = refl
-read-not (some w) h = impossible (cc)
+read-not (some w) h = impossible cc
 
 only-some : (t : Bool) (z : ℤ) {w : ℤ} → onlyIf t z ≡ some w → (t ≡ true) × (z ≡ w)
 unfolding onlyIf
 only-some true z h = (refl, cc)
-only-some false z h = impossible (cc)
+only-some false z h = impossible cc
 
 only-none : (t : Bool) (z : ℤ) → onlyIf t z ≡ none → t ≡ false
 unfolding onlyIf
-only-none true z h = impossible (cc)
+only-none true z h = impossible cc
 only-none false z h = refl
 
 -- The integer of a field

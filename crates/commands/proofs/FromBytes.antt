@@ -29,13 +29,13 @@ use Rattle.commands.specs.Command.Deed.{increment}
 use Rattle.commands.specs.Command.Command.{onField, countLive, countHeld}
 use Rattle.commands.specs.Options.{signed64, noExpGroup, Given, givenOf, readIn, numberIn}
 use Rattle.commands.specs.Parse as P
-use Rattle.commands.specs.Parse.{Form, commands, commandCount, commandNamed, countFits, build, tooLong, laterChecks, checks, parseWords}
+use Rattle.commands.specs.Parse.{Form, commands, commandNamed, countFits, build, tooLong, laterChecks, checks, parseWords}
 use Rattle.commands.specs.Parse.Form.{setForm, setManyForm, incrementForm, expireForm, persistForm, renumberForm, askForm, getManyForm, deleteForm, countForm, listForm}
 use Rattle.commands.specs.Parse.Parsed.{refused, accepted}
 use Rattle.commands.specs.Tables.{commandTable, commandOf}
 use Rattle.commands.specs.ParsePromises.{Divided, parseRest, meant}
 use Rattle.commands.proofs.Checks.{check-applies, check-passed, parse-accepted}
-use Rattle.commands.proofs.RowNumbers.{command-row, command-below}
+use Rattle.commands.proofs.RowNumbers.{command-row}
 use Rattle.commands.proofs.Parsing.{scannedOf, givenIn, saidBy}
 
 -- the places of a command's words, cut to their count
@@ -106,9 +106,6 @@ module _ {s : List ℕ} {places : List (List ℕ)} (p : Divided s places) (time 
       module _ (i : ℕ) (h : r ≡ rows.At i) where
         numbered-so : rowNamed commandTable (wordAt 0 words) ≡ some i
         numbered-so = row-at (rowNamed commandTable (wordAt 0 words)) i (rw ew at (sym er ∙ h))
-
-        pub parse-row : i < commandCount
-        parse-row = command-below (wordAt 0 words) i numbered-so
 
         known : P.parse time clock s ≡ parseWords time (commandOf i) words
         unfolding orElse

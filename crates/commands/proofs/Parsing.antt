@@ -36,7 +36,7 @@ use Rattle.commands.specs.Options.OptionKind.{bound}
 use Rattle.commands.specs.Parse.{Form, allowed, optionWords, numberRange, build, isZero, deedVersioning, beyond, deedLifetime, onDeed, laterChecks}
 use Rattle.commands.specs.Parse.Parsed.{refused, accepted}
 use Rattle.commands.specs.Tables.{kindIn}
-use Rattle.commands.specs.ParsePromises.{groupsFrom, notGiven, numbered, optionAt, givenAt, Scanned, lifetimeBy, versionBy, readOf, timedFor, versionedFor, termChecks, termsFor, conditionFor, boundFor, boundGiven, parseRest, meant}
+use Rattle.commands.specs.ParsePromises.{notGiven, numbered, optionAt, givenAt, Scanned, lifetimeBy, versionBy, readOf, timedFor, versionedFor, termChecks, termsFor, conditionFor, boundFor, boundGiven, parseRest, meant}
 use Rattle.commands.proofs.Checks.{check-applies, check-passed, checks-end}
 use Rattle.commands.proofs.Scanning.{option-some, option-none}
 use Rattle.commands.proofs.OneEach.{scan-allowed, all-groups}
@@ -106,7 +106,7 @@ module _ (time : ℕ) (f : Form) (ws : List Word) where
 
 -- the groups and the words from which a form takes options
 pub record Takes (f : Form) (al : List ℕ) (from : ℕ) : Type 0 where
-  pub groups : allowed f ≡ groupsFrom 0 al
+  pub groups : allowed f ≡ al
   pub words : (ws : List Word) → optionWords f ws ≡ drop from ws
 
 -- A scan that is clean: the options of the groups stand in the code's arrays, and all numbers are read where each group's is.
@@ -116,7 +116,7 @@ pub record Ready (f : Form) (ws : List Word) (r : ScannedOptions) : Type 0 where
   pub read : all readableOperand (givenIn f ws) ≡ all (λ n. readOf (givenOf n (givenIn f ws))) (allowed f)
 
 module _ {f : Form} {al : List ℕ} {from : ℕ} (k : Takes f al from) {ws : List Word} {r : ScannedOptions} (s : Scanned ws al from r) where
-  same-scan : scan (groupsFrom 0 al) none (drop from ws) ≡ scannedOf f ws
+  same-scan : scan al none (drop from ws) ≡ scannedOf f ws
   same-scan = rw (k .groups, k .words ws)
 
   pub not-clean : (time : ℕ) → not (r .clean) ≡ true → meant ws (parses.Refused 15) ≡ parseRest time f ws
@@ -135,39 +135,33 @@ module _ {f : Form} {al : List ℕ} {from : ℕ} (k : Takes f al from) {ws : Lis
 
 -- ---- what the code read
 
+-- an answer is a value where the numbers are read, and a refusal where they are not
+module _ {A T : Type 0} (value : A → T) (no-value : T) (same : (a b : A) → value a ≡ value b → a ≡ b) (apart : (a : A) → value a ≡ no-value → ⊥) where
+  answer-value : (b : Bool) (a l : A) → cond b (value a) no-value ≡ value l → (b ≡ true) × (a ≡ l)
+  answer-value true a l k = (refl, same a l k)
+  answer-value false a l k = absurd (apart l (sym k))
+
+  answer-refused : (b : Bool) (a : A) → cond b (value a) no-value ≡ no-value → b ≡ false
+  answer-refused true a k = absurd (apart a k)
+  answer-refused false a k = refl
+
 module _ (time : ℕ) (x : Option Given) {t : Timed} (e : t ≡ timedFor time x) where
   timed-value : {l : Lifetime} → t ≡ timeds.Value l → (readOf x ≡ true) × (lifetimeBy time x ≡ l)
   unfolding timedFor
-  timed-value {l} h = go (readOf x) refl (sym e ∙ h)
-    where
-      go : (b : Bool) → readOf x ≡ b → cond b (timeds.Value (lifetimeBy time x)) timeds.Refused ≡ timeds.Value l → (readOf x ≡ true) × (lifetimeBy time x ≡ l)
-      go true q k = (q, cc)
-      go false q k = impossible cc
+  timed-value {l} h = answer-value timeds.Value timeds.Refused (λ a b q. cc) (λ a q. impossible cc) (readOf x) (lifetimeBy time x) l (sym e ∙ h)
 
   timed-refused : t ≡ timeds.Refused → readOf x ≡ false
   unfolding timedFor
-  timed-refused h = go (readOf x) (sym e ∙ h)
-    where
-      go : (b : Bool) → cond b (timeds.Value (lifetimeBy time x)) timeds.Refused ≡ timeds.Refused → b ≡ false
-      go true k = impossible cc
-      go false k = refl
+  timed-refused h = answer-refused timeds.Value timeds.Refused (λ a b q. cc) (λ a q. impossible cc) (readOf x) (lifetimeBy time x) (sym e ∙ h)
 
 module _ (x : Option Given) {v : Versioned} (e : v ≡ versionedFor x) where
   versioned-value : {n : Versioning} → v ≡ versioneds.Value n → (readOf x ≡ true) × (versionBy x ≡ n)
   unfolding versionedFor
-  versioned-value {n} h = go (readOf x) refl (sym e ∙ h)
-    where
-      go : (b : Bool) → readOf x ≡ b → cond b (versioneds.Value (versionBy x)) versioneds.Refused ≡ versioneds.Value n → (readOf x ≡ true) × (versionBy x ≡ n)
-      go true q k = (q, cc)
-      go false q k = impossible cc
+  versioned-value {n} h = answer-value versioneds.Value versioneds.Refused (λ a b q. cc) (λ a q. impossible cc) (readOf x) (versionBy x) n (sym e ∙ h)
 
   versioned-refused : v ≡ versioneds.Refused → readOf x ≡ false
   unfolding versionedFor
-  versioned-refused h = go (readOf x) (sym e ∙ h)
-    where
-      go : (b : Bool) → cond b (versioneds.Value (versionBy x)) versioneds.Refused ≡ versioneds.Refused → b ≡ false
-      go true k = impossible cc
-      go false k = refl
+  versioned-refused h = answer-refused versioneds.Value versioneds.Refused (λ a b q. cc) (λ a q. impossible cc) (readOf x) (versionBy x) (sym e ∙ h)
 
 -- what the code answers of both, x of the expiry and y of the version
 module _ (time : ℕ) (x y : Option Given) where

@@ -65,7 +65,7 @@ late-refusal clock command s n = go (went clock command s)
         let q : k ≡ n = cc in
         let b : (20 ≤ k) × (k ≤ lateMost) = late-number (nowAt clock s) c s k l in
         (c, p, refl, omega arith, omega arith)
-    go (done c p l) e h = impossible (cc)
+    go (done c p l) e h = impossible cc
 
 -- A refused command keeps every live entry in its slot.
 pub refused-keeps-live : (clock : ℕ) (command : List ℕ) (s : Store) (n : ℕ) → exec clock command s .refusal ≡ some n

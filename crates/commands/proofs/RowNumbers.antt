@@ -11,11 +11,14 @@ use borrow.Author.Tests.{ltb-true, leb-true, not-true}
 use lib.Dec.{leb, ltb, eqb}
 use lib.ListN.{length, getD, drop, replicate, length-append, List·getD-append, List·getD-map}
 use lib.Seq.{getD-at, getD-append-add, drop-at, take-append-seam}
+use Rattle.wire.specs.declared.names.RowFound.{RowFound}
+use Rattle.wire.specs.declared.names.RowFound.the-variants as rows
 use Rattle.wire.specs.Lists.{all, any, onlyIf, orElse}
 use Rattle.wire.specs.Bytes.{part, padded, same, text, upper, spells}
 use Rattle.wire.specs.Words.{Word}
-use Rattle.wire.specs.Promises.{nameSize, dataSize, rowSize, nameIn, rowFrom, rowNamed, datumIn, Table}
+use Rattle.wire.specs.Promises.{nameSize, dataSize, rowSize, nameIn, rowFrom, rowNamed, rowFor, datumIn, Table}
 use Rattle.wire.proofs.Lists.{and-left, and-right, all-at}
+use Rattle.wire.proofs.Rows.{row-at}
 use Rattle.wire.proofs.Bytes.{same-true, length-padded, padded-at}
 use Rattle.commands.specs.Options.{OptionRow, OptionKind, _means_, options, optionCount, groupCount, group, optionNamed}
 use Rattle.commands.specs.Options.OptionKind.{noExp}
@@ -298,9 +301,12 @@ pub command-row : (w : Word) → commandNamed commands w ≡ Option·map command
 unfolding tableOf commandTable commandOf
 command-row w = command-named commands w ∙ sym (row-named (λ r. r .name) commandData commands w (row "EXHSET" (atLeast 4) setForm) commands-fit)
 
-pub command-below : (w : Word) (i : ℕ) → rowNamed commandTable w ≡ some i → i < commandCount
+command-below : (w : Word) (i : ℕ) → rowNamed commandTable w ≡ some i → i < commandCount
 unfolding tableOf commandTable
 command-below w i e = omega (arith, commands-counted, number-inside (λ r. r .name) commandData commands w i commands-fit e)
+
+pub command-number : (w : Word) {r : RowFound} → r ≡ rowFor (rowNamed commandTable w) → (i : ℕ) → r ≡ rows.At i → i < commandCount
+command-number w e i h = command-below w i (row-at (rowNamed commandTable w) i (sym e ∙ h))
 
 -- no name is another's
 unfoldable distinct : List OptionRow → Bool
@@ -358,6 +364,9 @@ module _ (w : Word) (allowed : List ℕ) where
       go none = refl
       go (some i) = refl
 
-pub option-below : (w : Word) (i : ℕ) → rowNamed optionTable w ≡ some i → i < optionCount
+option-below : (w : Word) (i : ℕ) → rowNamed optionTable w ≡ some i → i < optionCount
 unfolding tableOf optionTable
 option-below w i e = omega (arith, options-counted, number-inside (λ r. r .name) optionData options w i options-fit e)
+
+pub option-number : (w : Word) {r : RowFound} → r ≡ rowFor (rowNamed optionTable w) → (i : ℕ) → r ≡ rows.At i → i < optionCount
+option-number w e i h = option-below w i (row-at (rowNamed optionTable w) i (sym e ∙ h))

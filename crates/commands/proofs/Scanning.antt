@@ -3,9 +3,10 @@ use mathlib.Core.Path.{_≡_, refl, sym, ap, _∙_}
 use mathlib.Core.Bool.{Bool, true, false, cond, not, _||_}
 use mathlib.Core.List.{List, [], _∷_, _++_, append-assoc, append-nil}
 use mathlib.Core.Option.{Option, none, some, Option·map}
-use Prim.Native.Nat.{ℕ, zero, suc, _+_, _≤_, _<_, _-_}
+use Prim.Native.Nat.{ℕ, suc, _+_, _≤_, _<_, _-_}
+use native.Mathlib.Numerals.{add-one}
 use native.Mathlib.Omega.{arith}
-use borrow.Author.Tests.{lt-ltb, le-ltb, eq-eqb, ne-eqb, eqb-true, eqb-false}
+use borrow.Author.Tests.{not-true, not-false, lt-ltb, le-ltb, eq-eqb, ne-eqb, eqb-true, eqb-false}
 use lib.Dec.{eqb}
 use lib.ListN.{length, getD, drop, set, replicate, length-set, getD-replicate, drop-of-length-le}
 use lib.Seq.{drop-cons, getD-set-same, getD-set-other}
@@ -20,42 +21,26 @@ use Rattle.wire.proofs.Lists.{or-left, or-right, or-neither, or-late, both-ways
 use Rattle.wire.proofs.Rows.{row-nothing, row-at}
 use Rattle.wire.proofs.Cursor.{next-end, next-at}
 use Rattle.commands.specs.declared.options.ScannedOptions as code
-use Rattle.commands.specs.Options.{OptionKind, Range, Given, _with_, options, optionCount, group, groupCount, operandRange, optionNamed, scan, conflicting, givenOf}
+use Rattle.commands.specs.Options.{OptionKind, Range, Given, _with_, options, group, groupCount, operandRange, optionNamed, scan, conflicting, givenOf}
 use Rattle.commands.specs.Tables.{kindIn, sizeOf, optionData, groupAt, saidAt, sizeAt, optionTable, optionOf}
-use Rattle.commands.specs.ParsePromises.{groupsFrom, notGiven, numbered, optionAt, givenAt, Found, Scanned}
-use Rattle.commands.proofs.RowNumbers.{option-row, option-below, row-kind, row-below}
+use Rattle.commands.specs.ParsePromises.{notGiven, numbered, optionAt, givenAt, Found, Scanned}
+use Rattle.commands.proofs.RowNumbers.{option-row, option-number, row-kind, row-below}
 
 -- ---- the groups that are allowed
 
-any-below : (k n : ℕ) (allowed : List ℕ) → k < n → any (eqb k) (groupsFrom n allowed) ≡ false
-unfolding any groupsFrom
-any-below k n [] l = refl
-any-below k n (a ∷ rest) l = go (eqb a 0) (ne-eqb k n (λ e. omega arith)) (any-below k (suc n) rest (omega arith))
-  where
-    go : (t : Bool) → eqb k n ≡ false → any (eqb k) (groupsFrom (suc n) rest) ≡ false
-        → any (eqb k) (cond t (groupsFrom (suc n) rest) (n ∷ groupsFrom (suc n) rest)) ≡ false
-    go true e later = later
-    go false e later = rw e later
+-- the groups from i on do the same as all
+module _ (g : ℕ) (gs : List ℕ) (i : ℕ) (h : any (eqb g) gs ≡ any (eqb g) (drop i gs)) where
+  pub takes-found : i < length gs → getD gs i 0 ≡ g → true ≡ any (eqb g) gs
+  unfolding any
+  takes-found l e = sym (h ∙ rw (drop-cons gs i 0 l, eq-eqb g (getD gs i 0) (sym e)))
 
-any-from : (k n g : ℕ) (allowed : List ℕ) → k ≡ n + g → any (eqb k) (groupsFrom n allowed) ≡ not (eqb (getD allowed g 0) 0)
-unfolding any groupsFrom
-any-from k n g [] e = refl
-any-from k n zero (a ∷ rest) e = go (eqb a 0) (eq-eqb k n (omega arith)) (any-below k (suc n) rest (omega arith))
-  where
-    go : (t : Bool) → eqb k n ≡ true → any (eqb k) (groupsFrom (suc n) rest) ≡ false
-        → any (eqb k) (cond t (groupsFrom (suc n) rest) (n ∷ groupsFrom (suc n) rest)) ≡ not t
-    go true q later = later
-    go false q later = rw q
-any-from k n (suc g) (a ∷ rest) e = go (eqb a 0) (ne-eqb k n (λ q. omega arith)) (any-from k (suc n) g rest (omega arith))
-  where
-    go : (t : Bool) → eqb k n ≡ false → any (eqb k) (groupsFrom (suc n) rest) ≡ not (eqb (getD rest g 0) 0)
-        → any (eqb k) (cond t (groupsFrom (suc n) rest) (n ∷ groupsFrom (suc n) rest)) ≡ not (eqb (getD rest g 0) 0)
-    go true q later = later
-    go false q later = rw q later
+  pub takes-on : i < length gs → (getD gs i 0 ≡ g → ⊥) → any (eqb g) gs ≡ any (eqb g) (drop (i + 1) gs)
+  unfolding any
+  takes-on l ne = h ∙ rw (drop-cons gs i 0 l, add-one i, ne-eqb g (getD gs i 0) (λ e. ne (sym e)))
 
--- a group is allowed where its entry is not 0
-pub group-allowed : (g : ℕ) (allowed : List ℕ) → any (eqb g) (groupsFrom 0 allowed) ≡ not (eqb (getD allowed g 0) 0)
-group-allowed g allowed = any-from g 0 g allowed (omega arith)
+  pub takes-ends : length gs ≤ i → false ≡ any (eqb g) gs
+  unfolding any
+  takes-ends l = sym (h ∙ rw (drop-of-length-le gs {i = i} l))
 
 -- ---- options that were given
 
@@ -212,74 +197,72 @@ module _ (ws : List Word) (allowed : List ℕ) (i : ℕ) {count : ℕ} (size : l
   inside = omega arith
 
   -- it names no option
-  pub option-unknown : row ≡ rows.Nothing → scan (groupsFrom 0 allowed) none (drop i ws) ≡ none
+  pub option-unknown : row ≡ rows.Nothing → scan allowed none (drop i ws) ≡ none
   unfolding orElse
   option-unknown h =
       let nothing : rowNamed optionTable (wordAt i ws) ≡ none = row-nothing (rowNamed optionTable (wordAt i ws)) (rw ew at (sym er ∙ h)) in
-      none-here (groupsFrom 0 allowed) ws i inside (option-row (wordAt i ws) (groupsFrom 0 allowed) ∙ rw nothing)
+      none-here allowed ws i inside (option-row (wordAt i ws) allowed ∙ rw nothing)
 
   -- it names option k
   module _ (k : ℕ) (h : row ≡ rows.At k) where
     number-so : rowNamed optionTable (wordAt i ws) ≡ some k
     number-so = row-at (rowNamed optionTable (wordAt i ws)) k (rw ew at (sym er ∙ h))
 
-    pub option-number : k < optionCount
-    option-number = option-below (wordAt i ws) k number-so
-
-    named-so : optionNamed options (groupsFrom 0 allowed) (wordAt i ws) ≡ onlyIf (not (eqb (getD allowed (group (kindOf k)) 0) 0)) (kindOf k)
+    named-so : optionNamed options allowed (wordAt i ws) ≡ onlyIf (any (eqb (group (kindOf k))) allowed) (kindOf k)
     unfolding orElse
-    named-so = option-row (wordAt i ws) (groupsFrom 0 allowed) ∙ rw (number-so, group-allowed (group (kindOf k)) allowed)
+    named-so = option-row (wordAt i ws) allowed ∙ rw number-so
 
     -- of group g
     module _ {g : ℕ} (eg : g ≡ getD (optionData (optionOf k)) groupAt 0) where
       pub option-group : g < groupCount
       unfolding optionData
-      option-group = omega (arith, row-below k option-number)
+      option-group = omega (arith, row-below k (option-number _ er k h))
 
       -- which is not allowed
-      pub option-barred : getD allowed g 0 ≡ 0 → scan (groupsFrom 0 allowed) none (drop i ws) ≡ none
-      unfolding onlyIf optionData
-      option-barred z =
-          let barred : getD allowed (group (kindOf k)) 0 ≡ 0 = rw eg at z in
-          none-here (groupsFrom 0 allowed) ws i inside (named-so ∙ rw barred)
-
-      -- which is allowed; the code looked for its last word
-      module _ (a : getD allowed g 0 ≡ 0 → ⊥) {n : ℕ} (en : n ≡ getD (optionData (optionOf k)) sizeAt 0) {end : Next} (ee : end ≡ nextOf count (i + n - 1)) where
-        known-so : optionNamed options (groupsFrom 0 allowed) (wordAt i ws) ≡ some (kindOf k)
-        unfolding onlyIf optionData
-        known-so =
-            let there : eqb (getD allowed (group (kindOf k)) 0) 0 ≡ false = ne-eqb (getD allowed (group (kindOf k)) 0) 0 (rw eg at a) in
-            named-so ∙ rw there
-
-        size-so : (n ≡ sizeOf (kindOf k)) × (1 ≤ n) × (n ≤ 2)
+      module _ {t : Bool} (et : t ≡ any (eqb g) allowed) where
+        taken-so : any (eqb (group (kindOf k))) allowed ≡ t
         unfolding optionData
-        size-so = (en, omega (arith, size-range (kindOf k)), omega (arith, size-range (kindOf k)))
+        taken-so = rw (← eg) (sym et)
 
-        -- which is not there: its operand is missing
-        pub option-short : end ≡ nexts.End → scan (groupsFrom 0 allowed) none (drop i ws) ≡ none
-        option-short q = scan-short (groupsFrom 0 allowed) ws i inside (kindOf k) known-so (omega (arith, size-so, next-end count (i + n - 1) ee q))
+        pub option-barred : not t ≡ true → scan allowed none (drop i ws) ≡ none
+        unfolding onlyIf
+        option-barred z = none-here allowed ws i inside (named-so ∙ rw (taken-so, not-true t z))
 
-        -- which is there
-        pub option-found : (last : ℕ) → end ≡ nexts.Word last → {said : ℕ} → said ≡ getD (optionData (optionOf k)) saidAt 0 → Found ws allowed i g said last
-        unfolding optionData numbered
-        option-found last q {said} es =
-            let at : (last ≡ i + n - 1) × (i + n - 1 < count) = next-at count (i + n - 1) last ee q in
-            let same : kindIn g said ≡ kindOf k = rw (eg, es) (row-kind k) in
-            record {
-              left = rw same (scan-step (groupsFrom 0 allowed) ws i inside (kindOf k) known-so last (omega (arith, size-so)) (omega arith));
-              member = rw same (sym eg);
-              grouped = option-group;
-              given = omega (arith, row-below k option-number);
-              after = omega (arith, size-so);
-              inside = omega arith;
-            }
+        -- which is allowed; the code looked for its last word
+        module _ (a : not t ≡ false) {n : ℕ} (en : n ≡ getD (optionData (optionOf k)) sizeAt 0) {end : Next} (ee : end ≡ nextOf count (i + n - 1)) where
+          known-so : optionNamed options allowed (wordAt i ws) ≡ some (kindOf k)
+          unfolding onlyIf
+          known-so = named-so ∙ rw (taken-so, not-false t a)
+
+          size-so : (n ≡ sizeOf (kindOf k)) × (1 ≤ n) × (n ≤ 2)
+          unfolding optionData
+          size-so = (en, omega (arith, size-range (kindOf k)), omega (arith, size-range (kindOf k)))
+
+          -- which is not there: its operand is missing
+          pub option-short : end ≡ nexts.End → scan allowed none (drop i ws) ≡ none
+          option-short q = scan-short allowed ws i inside (kindOf k) known-so (omega (arith, size-so, next-end count (i + n - 1) ee q))
+
+          -- which is there
+          pub option-found : (last : ℕ) → end ≡ nexts.Word last → {said : ℕ} → said ≡ getD (optionData (optionOf k)) saidAt 0 → Found ws allowed i g said last
+          unfolding optionData numbered
+          option-found last q {said} es =
+              let at : (last ≡ i + n - 1) × (i + n - 1 < count) = next-at count (i + n - 1) last ee q in
+              let same : kindIn g said ≡ kindOf k = rw (eg, es) (row-kind k) in
+              record {
+                left = rw same (scan-step allowed ws i inside (kindOf k) known-so last (omega (arith, size-so)) (omega arith));
+                member = rw same (sym eg);
+                grouped = option-group;
+                given = omega (arith, row-below k (option-number _ er k h));
+                after = omega (arith, size-so);
+                inside = omega arith;
+              }
 
 -- ---- the loop
 
 -- The words up to i were scanned: what is left does the same as all words after the options found, none of which conflict, and which the code has by their groups.
 pub record Scanning (ws : List Word) (allowed : List ℕ) (from i : ℕ) (r : code.ScannedOptions) : Type 0 where
   pub found : List Given
-  pub left : scan (groupsFrom 0 allowed) none (drop from ws) ≡ Option·map (λ more. found ++ more) (scan (groupsFrom 0 allowed) none (drop i ws))
+  pub left : scan allowed none (drop from ws) ≡ Option·map (λ more. found ++ more) (scan allowed none (drop i ws))
   pub clean : conflicting found ≡ false
   pub entries : (g : ℕ) → g < groupCount → givenOf g found ≡ givenAt ws r g
   pub unclean : r .clean ≡ false
@@ -311,7 +294,7 @@ unfolding conflicting givenOf
 scanning-begins ws allowed from =
     record {
       found = [];
-      left = map-none (scan (groupsFrom 0 allowed) none (drop from ws));
+      left = map-none (scan allowed none (drop from ws));
       clean = refl;
       entries = λ g l. sym (option-none ws g _ _ (omega (arith, getD-replicate {A = ℕ} groupCount g notGiven 0 l)));
       unclean = refl;
@@ -320,11 +303,11 @@ scanning-begins ws allowed from =
     }
 
 module _ {ws : List Word} {allowed : List ℕ} {from i : ℕ} {r : code.ScannedOptions} (s : Scanning ws allowed from i r) where
-  refused : orElse (scan (groupsFrom 0 allowed) none (drop from ws)) true conflicting ≡ true → Scanned ws allowed from r
+  refused : orElse (scan allowed none (drop from ws)) true conflicting ≡ true → Scanned ws allowed from r
   refused h = record { clean = rw h (s .unclean); given = λ e. both-ways e (s .unclean) }
 
   -- the scan of what is left fails
-  pub scanning-fails : scan (groupsFrom 0 allowed) none (drop i ws) ≡ none → Scanned ws allowed from r
+  pub scanning-fails : scan allowed none (drop i ws) ≡ none → Scanned ws allowed from r
   unfolding orElse
   scanning-fails e = refused (rw (s .left, e))
 
@@ -333,7 +316,7 @@ module _ {ws : List Word} {allowed : List ℕ} {from i : ℕ} {r : code.ScannedO
   unfolding scan orElse
   scanning-ends size l =
       let past : drop i ws ≡ [] = drop-of-length-le ws {i = i} (omega arith) in
-      let all : scan (groupsFrom 0 allowed) none (drop from ws) ≡ some (s .found) = s .left ∙ rw (past, append-nil) in
+      let all : scan allowed none (drop from ws) ≡ some (s .found) = s .left ∙ rw (past, append-nil) in
       record { clean = rw (all, s .clean); given = λ e g b. rw all (s .entries g b) }
 
   -- an option was found
@@ -348,7 +331,7 @@ module _ {ws : List Word} {allowed : List ℕ} {from i : ℕ} {r : code.ScannedO
     -- of a group that was given before
     pub scanning-again : getD (r .said) g 0 < notGiven → Scanned ws allowed from r
     unfolding orElse
-    scanning-again b = refused (rw (s .left, f .left) (go (scan (groupsFrom 0 allowed) none (drop (last + 1) ws))))
+    scanning-again b = refused (rw (s .left, f .left) (go (scan allowed none (drop (last + 1) ws))))
       where
         before : givenOf (group (x .kind)) (s .found) ≡ some (numbered ws g (getD (r .said) g 0) (getD (r .operands) g 0))
         before = rw member-so (s .entries g (f .grouped) ∙ option-some ws g _ _ b)
@@ -388,7 +371,7 @@ module _ {ws : List Word} {allowed : List ℕ} {from i : ℕ} {r : code.ScannedO
             left =
                 s .left
                 ∙ ap (Option·map (λ more. s .found ++ more)) (f .left)
-                ∙ map-last (s .found) x (scan (groupsFrom 0 allowed) none (drop (last + 1) ws));
+                ∙ map-last (s .found) x (scan allowed none (drop (last + 1) ws));
             clean = conflict-none x (s .found) (s .clean) none-before;
             entries = next-entries;
             unclean = s .unclean;

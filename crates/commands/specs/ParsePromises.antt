@@ -3,7 +3,7 @@ use mathlib.Core.Path.{_≡_}
 use mathlib.Core.Bool.{Bool, true, false, cond, not, _&&_, _||_}
 use mathlib.Core.List.{List, [], _∷_}
 use mathlib.Core.Option.{Option, none, some, Option·map, Option·getD}
-use Prim.Native.Nat.{ℕ, suc, _+_, _*_, _≤_, _<_}
+use Prim.Native.Nat.{ℕ, _+_, _*_, _≤_, _<_}
 use lib.Dec.{ltb, eqb}
 use lib.ListN.{length, drop, getD}
 use Rattle.wire.specs.Lists.{any, isSome, orElse}
@@ -60,11 +60,6 @@ isRefusal n = any (λ r. eqb (r .number) n) table
 
 -- ---- options that were given
 
--- the groups that a command takes, from a 1 for each
-unfoldable pub groupsFrom : ℕ → List ℕ → List ℕ
-groupsFrom n [] = []
-groupsFrom n (a ∷ rest) = cond (eqb a 0) (groupsFrom (suc n) rest) (n ∷ groupsFrom (suc n) rest)
-
 -- where the code has this as what an option of a group says, none was given
 abbrev pub notGiven : ℕ
 notGiven = 256
@@ -82,8 +77,8 @@ givenAt ws r g = optionAt ws g (getD (r .said) g 0) (getD (r .operands) g 0)
 
 -- an option stands at word i: what is left of a scan there is that option, and what is left behind its last word
 pub record Found (ws : List Word) (allowed : List ℕ) (i g said last : ℕ) : Type 0 where
-  pub left : scan (groupsFrom 0 allowed) none (drop i ws)
-      ≡ Option·map (λ gs. numbered ws g said last ∷ gs) (scan (groupsFrom 0 allowed) none (drop (last + 1) ws))
+  pub left : scan allowed none (drop i ws)
+      ≡ Option·map (λ gs. numbered ws g said last ∷ gs) (scan allowed none (drop (last + 1) ws))
   pub member : group (kindIn g said) ≡ g
   pub grouped : g < groupCount
   pub given : said < notGiven
@@ -93,13 +88,13 @@ pub record Found (ws : List Word) (allowed : List ℕ) (i g said last : ℕ) : T
 -- what the code found there; a scan fails where it found nothing
 abbrev pub FoundBy : List Word → List ℕ → ℕ → OptionFound → Type 0
 FoundBy ws allowed i (founds.At g said last) = Found ws allowed i g said last
-FoundBy ws allowed i founds.Nothing = scan (groupsFrom 0 allowed) none (drop i ws) ≡ none
+FoundBy ws allowed i founds.Nothing = scan allowed none (drop i ws) ≡ none
 
 -- what a scan of the words from one on found
 pub record Scanned (ws : List Word) (allowed : List ℕ) (from : ℕ) (r : ScannedOptions) : Type 0 where
-  pub clean : r .clean ≡ not (orElse (scan (groupsFrom 0 allowed) none (drop from ws)) true conflicting)
+  pub clean : r .clean ≡ not (orElse (scan allowed none (drop from ws)) true conflicting)
   pub given : r .clean ≡ true → (g : ℕ) → g < groupCount
-      → givenOf g (Option·getD (scan (groupsFrom 0 allowed) none (drop from ws)) []) ≡ givenAt ws r g
+      → givenOf g (Option·getD (scan allowed none (drop from ws)) []) ≡ givenAt ws r g
 
 -- ---- what the options say
 

@@ -11,9 +11,10 @@ use wire::places::next_word;
 use wire::places::word;
 ghost use mathlib.Core.Path.{_≡_};
 ghost use Prim.Native.Nat.{_<_};
+ghost use lib.Dec.{eqb};
 ghost use lib.ListN.{length};
+ghost use Rattle.wire.specs.Lists.{any};
 ghost use Rattle.wire.specs.Promises.{wordsIn, Inside};
-ghost use Rattle.commands.specs.Options.{groupCount};
 ghost use Rattle.commands.specs.ParsePromises.{FoundBy, Scanned};
 
 // Where this stands as what the option of a group says, none was given; no row of the table says it.
@@ -32,9 +33,23 @@ enum OptionFound {
     Nothing,
 }
 
-// The option at a word; `allowed` has a 1 for each group that the command takes. Nothing: it is unknown, or its operand is missing.
-fn option_at(command: &[u8], places: &[[usize; 2]], i: usize, allowed: &[u8]) -> OptionFound
-    requires { ⌜ (Inside (now command) (now places)) × (i < length (now places)) × (length (now allowed) ≡ groupCount) ⌝ }
+// Whether a group is among those that a command takes.
+fn takes(allowed: &[usize], group: usize) -> bool
+    ensures { λ r. ⌜ r ≡ any (eqb group) (now (allowed .entry)) ⌝ }
+{
+    let mut i = 0;
+    while i < allowed.len() {
+        if allowed[i] == group {
+            return true;
+        }
+        i += 1;
+    }
+    false
+}
+
+// The option at a word, of one of the groups that the command takes. Nothing: it is unknown, or its operand is missing.
+fn option_at(command: &[u8], places: &[[usize; 2]], i: usize, allowed: &[usize]) -> OptionFound
+    requires { ⌜ (Inside (now command) (now places)) × (i < length (now places)) ⌝ }
     ensures { λ r. ⌜ FoundBy (wordsIn (now (command .entry)) (now (places .entry))) (now (allowed .entry)) i r ⌝ }
 {
     let found = option_named(word(command, places, i));
@@ -42,7 +57,7 @@ fn option_at(command: &[u8], places: &[[usize; 2]], i: usize, allowed: &[u8]) ->
         return OptionFound::Nothing;
     };
     let g = option_datum(option, GROUP_AT);
-    if allowed[g] == 0 {
+    if !takes(allowed, g) {
         return OptionFound::Nothing;
     }
     let said = option_datum(option, SAID_AT);
@@ -55,8 +70,8 @@ fn option_at(command: &[u8], places: &[[usize; 2]], i: usize, allowed: &[u8]) ->
 }
 
 // The options among the words from a word on. Not clean: an option is unknown, repeated or conflicting, or its operand is missing.
-pub fn scan(command: &[u8], places: &[[usize; 2]], from: usize, allowed: &[u8]) -> ScannedOptions
-    requires { ⌜ (Inside (now command) (now places)) × (length (now allowed) ≡ groupCount) ⌝ }
+pub fn scan(command: &[u8], places: &[[usize; 2]], from: usize, allowed: &[usize]) -> ScannedOptions
+    requires { ⌜ Inside (now command) (now places) ⌝ }
     ensures { λ r. ⌜ Scanned (wordsIn (now (command .entry)) (now (places .entry))) (now (allowed .entry)) from r ⌝ }
 {
     let mut given = ScannedOptions {

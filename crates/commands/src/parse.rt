@@ -18,9 +18,12 @@ use crate::table::CONDITION_GROUP;
 use crate::table::COUNT_FAMILY;
 use crate::table::DELETE_FAMILY;
 use crate::table::EXPIRE_FAMILY;
+use crate::table::EXPIRY_GROUP;
 use crate::table::FAMILY_AT;
 use crate::table::GET_MANY_FAMILY;
 use crate::table::INCREMENT_FAMILY;
+use crate::table::MAX_GROUP;
+use crate::table::MIN_GROUP;
 use crate::table::NO_EXP_GROUP;
 use crate::table::PERSIST_FAMILY;
 use crate::table::RENUMBER_FAMILY;
@@ -49,7 +52,12 @@ fn parse_set(command: &[u8], places: &[[usize; 2]], time: u64) -> Parsed
     requires { ⌜ (Inside (now command) (now places)) × (time < timeLimit) ⌝ }
     ensures { λ r. let ws = wordsIn (now (command .entry)) (now (places .entry)) in ⌜ meant ws r ≡ parseRest time P.Form.setForm ws ⌝ }
 {
-    let given = scan(command, places, 4, &[1, 1, 1, 0, 0, 0]);
+    let given = scan(
+        command,
+        places,
+        4,
+        &[EXPIRY_GROUP, CONDITION_GROUP, VERSION_GROUP],
+    );
     if !given.clean {
         return Parsed::Refused(15);
     }
@@ -68,7 +76,12 @@ fn parse_increment(command: &[u8], places: &[[usize; 2]], time: u64) -> Parsed
     requires { ⌜ (Inside (now command) (now places)) × (time < timeLimit) ⌝ }
     ensures { λ r. let ws = wordsIn (now (command .entry)) (now (places .entry)) in ⌜ meant ws r ≡ parseRest time P.Form.incrementForm ws ⌝ }
 {
-    let given = scan(command, places, 4, &[1, 0, 1, 1, 1, 0]);
+    let given = scan(
+        command,
+        places,
+        4,
+        &[EXPIRY_GROUP, VERSION_GROUP, MIN_GROUP, MAX_GROUP],
+    );
     if !given.clean {
         return Parsed::Refused(15);
     }
@@ -89,7 +102,7 @@ fn parse_expire(command: &[u8], places: &[[usize; 2]], unit: usize, time: u64) -
     ensures { λ r. let ws = wordsIn (now (command .entry)) (now (places .entry)) in
         ⌜ meant ws r ≡ parseRest time (P.Form.expireForm (unitOf unit)) ws ⌝ }
 {
-    let given = scan(command, places, 4, &[0, 0, 1, 0, 0, 0]);
+    let given = scan(command, places, 4, &[VERSION_GROUP]);
     if !given.clean {
         return Parsed::Refused(15);
     }
@@ -132,7 +145,7 @@ fn parse_count(command: &[u8], places: &[[usize; 2]]) -> Parsed
     ensures { λ r. let ws = wordsIn (now (command .entry)) (now (places .entry)) in
         ⌜ ((time : ℕ) → meant ws r ≡ parseRest time P.Form.countForm ws) ⌝ }
 {
-    let given = scan(command, places, 2, &[0, 0, 0, 0, 0, 1]);
+    let given = scan(command, places, 2, &[NO_EXP_GROUP]);
     if !given.clean {
         return Parsed::Refused(15);
     }

@@ -36,12 +36,6 @@ returns c =
     let d = b .before in
     over-found _ (length-words _ _) (d .loop .i) (d .loop .inv) (b .loop-test .taken) (a .word .ensures) (c .if1 .taken)
 
-add-i : tie.Need-add-i Inv-loop μ-loop
-add-i c = search needs
-
-loop-less : tie.Need-loop-less Inv-loop μ-loop
-loop-less c = omega arith
-
 loop-again : tie.Need-loop-again Inv-loop μ-loop
 loop-again c =
     let a = c .before in
@@ -63,7 +57,7 @@ any-over-spec =
     loop-holds
     word-requires
     returns
-    add-i
-    loop-less
+    (λ c. search needs)
+    (λ c. omega arith)
     loop-again
     returns-2)

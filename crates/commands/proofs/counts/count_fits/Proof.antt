@@ -3,12 +3,6 @@ use borrow.Author.Needs.{needs}
 use Rattle.commands.proofs.counts.count_fits.Statement.{statement}
 use Rattle.commands.proofs.counts.count_fits.Tie as tie
 
-command-datum-requires : tie.Need-command-datum-requires
-command-datum-requires c κs = search needs
-
-command-datum-requires-2 : tie.Need-command-datum-requires-2
-command-datum-requires-2 c κs = search needs
-
 returns : tie.Need-returns
 returns c =
     let a = c .before in
@@ -44,8 +38,8 @@ pub count-fits-spec : {M : Type 1} → statement M
 count-fits-spec =
     tie.close
     (tie.spec
-    command-datum-requires
-    command-datum-requires-2
+    (λ c κs. search needs)
+    (λ c κs. search needs)
     returns
     returns-2
     returns-3

@@ -30,9 +30,6 @@ loop-holds : tie.Need-loop-holds Inv-loop μ-loop
 unfolding pairOver
 loop-holds c = (omega arith, refl)
 
-add-loop : tie.Need-add-loop Inv-loop μ-loop
-add-loop c = search needs
-
 word-requires : tie.Need-word-requires Inv-loop μ-loop
 word-requires c κs =
     let a = c .before .before .before in
@@ -44,9 +41,6 @@ returns c =
     let b = a .before in
     let d = b .before in
     pair-field _ (length-words _ _) (d .loop .i) (d .loop .inv .1) (b .loop-test .taken) (a .word .ensures) (c .if1 .taken)
-
-add-word : tie.Need-add-word Inv-loop μ-loop
-add-word c = search needs
 
 word-requires-2 : tie.Need-word-requires-2 Inv-loop μ-loop
 word-requires-2 c κs =
@@ -61,12 +55,6 @@ returns-2 c =
     let e = d .before in
     let f = e .before in
     pair-value _ (length-words _ _) (f .loop .i) (f .loop .inv .1) (e .loop-test .taken) (d .word .ensures) (b .if1 .left) (a .word2 .ensures) (c .if2 .taken)
-
-add-i : tie.Need-add-i Inv-loop μ-loop
-add-i c = search needs
-
-loop-less : tie.Need-loop-less Inv-loop μ-loop
-loop-less c = omega arith
 
 loop-again : tie.Need-loop-again Inv-loop μ-loop
 loop-again c =
@@ -90,13 +78,13 @@ pair-over-spec =
     Inv-loop
     μ-loop
     loop-holds
-    add-loop
+    (λ c. search needs)
     word-requires
     returns
-    add-word
+    (λ c. search needs)
     word-requires-2
     returns-2
-    add-i
-    loop-less
+    (λ c. search needs)
+    (λ c. omega arith)
     loop-again
     returns-3)

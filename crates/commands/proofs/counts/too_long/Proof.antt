@@ -3,17 +3,11 @@ use borrow.Author.Needs.{needs}
 use Rattle.commands.proofs.counts.too_long.Statement.{statement}
 use Rattle.commands.proofs.counts.too_long.Tie as tie
 
-word-requires : tie.Need-word-requires
-word-requires c κs = search needs
-
 returns : tie.Need-returns
 returns c =
     let a = c .before in
     let b = a .before .before in
     λ time gs. key-long _ (b .args .row) time gs (rw (a .word .ensures) at (c .if1 .taken))
-
-command-datum-requires : tie.Need-command-datum-requires
-command-datum-requires c κs = search needs
 
 returns-2 : tie.Need-returns-2
 returns-2 c =
@@ -22,9 +16,6 @@ returns-2 c =
     let d = b .before in
     let e = d .before .before in
     λ time gs. key-only _ (e .args .row) time gs (rw (d .word .ensures) at (b .if1 .left)) (a .command-datum .ensures) (c .if2 .taken)
-
-any-over-requires : tie.Need-any-over-requires
-any-over-requires c κs = search needs
 
 returns-3 : tie.Need-returns-3
 returns-3 c =
@@ -35,9 +26,6 @@ returns-3 c =
     let f = e .before .before in
     λ time gs. fields-long _ (f .args .row) time gs (rw (e .word .ensures) at (d .if1 .left)) (b .command-datum .ensures) (a .if3 .taken) (c .any-over .ensures)
 
-pair-over-requires : tie.Need-pair-over-requires
-pair-over-requires c κs = search needs
-
 returns-4 : tie.Need-returns-4
 returns-4 c =
     let a = c .before in
@@ -46,9 +34,6 @@ returns-4 c =
     let e = d .before in
     let f = e .before .before in
     λ time gs. pair-long _ (f .args .row) time gs (rw (e .word .ensures) at (d .if1 .left)) (b .command-datum .ensures) (a .if4 .taken) (c .pair-over .ensures)
-
-word-requires-2 : tie.Need-word-requires-2
-word-requires-2 c κs = search needs
 
 returns-5 : tie.Need-returns-5
 returns-5 c =
@@ -75,9 +60,6 @@ returns-6 c =
     let k = j .before .before in
     λ time gs. field-short _ (k .args .row) time gs (rw (j .word .ensures) at (h .if1 .left)) (g .command-datum .ensures) (f .if2 .left) (e .if3 .left) (d .if4 .left) (rw (b .word2 .ensures) at (a .if5 .left)) (c .if6 .taken)
 
-word-requires-3 : tie.Need-word-requires-3
-word-requires-3 c κs = search needs
-
 returns-7 : tie.Need-returns-7
 returns-7 c =
     let a = c .before in
@@ -96,16 +78,16 @@ pub too-long-spec : {M : Type 1} → statement M
 too-long-spec =
     tie.close
     (tie.spec
-    word-requires
+    (λ c κs. search needs)
     returns
-    command-datum-requires
+    (λ c κs. search needs)
     returns-2
-    any-over-requires
+    (λ c κs. search needs)
     returns-3
-    pair-over-requires
+    (λ c κs. search needs)
     returns-4
-    word-requires-2
+    (λ c κs. search needs)
     returns-5
     returns-6
-    word-requires-3
+    (λ c κs. search needs)
     returns-7)

@@ -10,14 +10,8 @@ use Rattle.commands.proofs.errors.put_error.Tie as tie
 sub-start : tie.Need-sub-start
 sub-start c = line-at (c .before .args .n) (c .before .pre .0) .first
 
-mul-start : tie.Need-mul-start
-mul-start c = search needs
-
 array-read-start : tie.Need-array-read-start
 array-read-start c = omega (arith, line-at (c .before .args .n) (c .before .pre .0) .last)
-
-mul-end : tie.Need-mul-end
-mul-end c = search needs
 
 array-read-end : tie.Need-array-read-end
 array-read-end c = omega (arith, line-at (c .before .args .n) (c .before .pre .0) .last)
@@ -40,9 +34,6 @@ put-line-requires c κs =
     let a = c .before .before .before .before in
     line-room (a .args .n) (length (now (a .args .out))) (a .pre .0) (a .pre .1)
 
-same-length : tie.Need-same-length
-same-length c = search needs
-
 returns : tie.Need-returns
 unfolding placing
 returns c =
@@ -55,13 +46,13 @@ put-error-spec =
     tie.close
     (tie.spec
     sub-start
-    mul-start
+    (λ c. search needs)
     array-read-start
-    mul-end
+    (λ c. search needs)
     array-read-end
     sub-put-line
     part-put-line-start
     part-put-line-end
     put-line-requires
-    same-length
+    (λ c. search needs)
     returns)

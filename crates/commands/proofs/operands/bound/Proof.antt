@@ -8,12 +8,6 @@ returns c =
     let a = c .before .before in
     bound-none (a .args .unbounded) (a .args .said) _ (c .if1 .taken)
 
-word-requires : tie.Need-word-requires
-word-requires c κs = search needs
-
-read-integer-requires : tie.Need-read-integer-requires
-read-integer-requires c κs = search needs
-
 returns-2 : tie.Need-returns-2
 returns-2 c =
     let a = c .before in
@@ -22,4 +16,4 @@ returns-2 c =
     bound-read (d .args .unbounded) (d .args .said) _ (b .if1 .left) (rw (a .word .ensures) at (c .read-integer .ensures))
 
 pub bound-spec : {M : Type 1} → statement M
-bound-spec = tie.close (tie.spec returns word-requires read-integer-requires returns-2)
+bound-spec = tie.close (tie.spec returns (λ c κs. search needs) (λ c κs. search needs) returns-2)

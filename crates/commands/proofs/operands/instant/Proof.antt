@@ -3,27 +3,15 @@ use borrow.Author.Needs.{needs}
 use Rattle.commands.proofs.operands.instant.Statement.{statement}
 use Rattle.commands.proofs.operands.instant.Tie as tie
 
-mul-result : tie.Need-mul-result
-mul-result c = search needs
-
-add-result : tie.Need-add-result
-add-result c = search needs
-
 returns : tie.Need-returns
 returns c =
     let a = c .before in
     instant-seconds (a .args .n) (a .args .time) (c .if1 .taken)
 
-mul-result-2 : tie.Need-mul-result-2
-mul-result-2 c = search needs
-
 returns-2 : tie.Need-returns-2
 returns-2 c =
     let a = c .before .before in
     instant-since (a .args .n) (a .args .time) (c .if2 .taken)
-
-add-result-2 : tie.Need-add-result-2
-add-result-2 c = search needs
 
 returns-3 : tie.Need-returns-3
 returns-3 c =
@@ -41,11 +29,11 @@ pub instant-spec : {M : Type 1} → statement M
 instant-spec =
     tie.close
     (tie.spec
-    mul-result
-    add-result
+    (λ c. search needs)
+    (λ c. search needs)
     returns
-    mul-result-2
+    (λ c. search needs)
     returns-2
-    add-result-2
+    (λ c. search needs)
     returns-3
     returns-4)

@@ -14,18 +14,6 @@ returns-2 c =
     let a = c .before .before .before in
     lifetime-keep _ (a .args .said) (a .args .operand) (a .args .time) (c .if2 .taken)
 
-word-requires : tie.Need-word-requires
-word-requires c κs = search needs
-
-read-natural-requires : tie.Need-read-natural-requires
-read-natural-requires c κs = search needs
-
-enum-known-read : tie.Need-enum-known-read
-enum-known-read c = search needs
-
-enum-told : tie.Need-enum-told
-enum-told c = search needs
-
 returns-3 : tie.Need-returns-3
 returns-3 c =
     let a = c .before .before in
@@ -59,10 +47,10 @@ lifetime-spec =
     (tie.spec
     returns
     returns-2
-    word-requires
-    read-natural-requires
-    enum-known-read
-    enum-told
+    (λ c κs. search needs)
+    (λ c κs. search needs)
+    (λ c. search needs)
+    (λ c. search needs)
     returns-3
     instant-requires
     returns-4)

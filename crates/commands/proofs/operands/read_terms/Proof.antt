@@ -3,41 +3,11 @@ use borrow.Author.Needs.{needs}
 use Rattle.commands.proofs.operands.read_terms.Statement.{statement}
 use Rattle.commands.proofs.operands.read_terms.Tie as tie
 
-element-copy-out-said : tie.Need-element-copy-out-said
-element-copy-out-said c = search needs
-
-element-copy-out-operand : tie.Need-element-copy-out-operand
-element-copy-out-operand c = search needs
-
-lifetime-requires : tie.Need-lifetime-requires
-lifetime-requires c κs = search needs
-
-enum-known-timed : tie.Need-enum-known-timed
-enum-known-timed c = search needs
-
-enum-told : tie.Need-enum-told
-enum-told c = search needs
-
 returns : tie.Need-returns
 returns c =
     let a = c .before .before in
     let b = a .before .before .before .before in
     terms-untimed (b .args .time) _ _ (a .lifetime .ensures) (c .enum-told .given .1)
-
-element-copy-out-said-2 : tie.Need-element-copy-out-said-2
-element-copy-out-said-2 c = search needs
-
-element-copy-out-operand-2 : tie.Need-element-copy-out-operand-2
-element-copy-out-operand-2 c = search needs
-
-versioning-requires : tie.Need-versioning-requires
-versioning-requires c κs = search needs
-
-enum-known-versioned : tie.Need-enum-known-versioned
-enum-known-versioned c = search needs
-
-enum-told-2 : tie.Need-enum-told-2
-enum-told-2 c = search needs
 
 returns-2 : tie.Need-returns-2
 returns-2 c =
@@ -46,9 +16,6 @@ returns-2 c =
     let d = b .before .before in
     let e = d .before .before .before .before in
     terms-unversioned (e .args .time) _ _ (d .lifetime .ensures) (a .versioning .ensures) (b .timed .given .1) (c .enum-told2 .given .1)
-
-is-zero-requires : tie.Need-is-zero-requires
-is-zero-requires c κs = search needs
 
 returns-3 : tie.Need-returns-3
 returns-3 c =
@@ -59,9 +26,6 @@ returns-3 c =
     let f = e .before .before in
     let g = f .before .before .before .before in
     terms-zero (g .args .time) _ _ (f .lifetime .ensures) (d .versioning .ensures) (e .timed .given .1) (b .versioned .given .1) (a .is-zero .ensures) (c .if1 .taken)
-
-is-beyond-requires : tie.Need-is-beyond-requires
-is-beyond-requires c κs = search needs
 
 returns-4 : tie.Need-returns-4
 returns-4 c =
@@ -91,20 +55,20 @@ pub read-terms-spec : {M : Type 1} → statement M
 read-terms-spec =
     tie.close
     (tie.spec
-    element-copy-out-said
-    element-copy-out-operand
-    lifetime-requires
-    enum-known-timed
-    enum-told
+    (λ c. search needs)
+    (λ c. search needs)
+    (λ c κs. search needs)
+    (λ c. search needs)
+    (λ c. search needs)
     returns
-    element-copy-out-said-2
-    element-copy-out-operand-2
-    versioning-requires
-    enum-known-versioned
-    enum-told-2
+    (λ c. search needs)
+    (λ c. search needs)
+    (λ c κs. search needs)
+    (λ c. search needs)
+    (λ c. search needs)
     returns-2
-    is-zero-requires
+    (λ c κs. search needs)
     returns-3
-    is-beyond-requires
+    (λ c κs. search needs)
     returns-4
     returns-5)

@@ -5,38 +5,11 @@ use borrow.Author.Needs.{needs}
 use Rattle.commands.proofs.operands.sum.Statement.{statement}
 use Rattle.commands.proofs.operands.sum.Tie as tie
 
-word-requires : tie.Need-word-requires
-word-requires c κs = search needs
-
-read-integer-requires : tie.Need-read-integer-requires
-read-integer-requires c κs = search needs
-
-enum-known-read : tie.Need-enum-known-read
-enum-known-read c = search needs
-
-enum-told : tie.Need-enum-told
-enum-told c = search needs
-
 returns : tie.Need-returns
 unfolding sumOf boundGiven
 returns c =
     let a = c .before .before in
     sum-0 _ _ _ (sym (rw (a .before .word .ensures) at (a .read-integer .ensures)) ∙ c .enum-told .given .1)
-
-element-copy-out-said : tie.Need-element-copy-out-said
-element-copy-out-said c = search needs
-
-element-copy-out-operand : tie.Need-element-copy-out-operand
-element-copy-out-operand c = search needs
-
-bound-requires : tie.Need-bound-requires
-bound-requires c κs = search needs
-
-enum-known-low : tie.Need-enum-known-low
-enum-known-low c = search needs
-
-enum-told-2 : tie.Need-enum-told-2
-enum-told-2 c = search needs
 
 returns-2 : tie.Need-returns-2
 unfolding sumOf boundGiven
@@ -45,24 +18,6 @@ returns-2 c =
     let b = a .before .before .before .before in
     let d = b .before .before in
     sum-1 _ _ _ (b .read .given .0 .0) (sym (rw (d .before .word .ensures) at (d .read-integer .ensures)) ∙ b .read .given .1) (sym (a .bound .ensures) ∙ c .enum-told2 .given .1)
-
-sub-t23 : tie.Need-sub-t23
-sub-t23 c = search needs
-
-element-copy-out-said-2 : tie.Need-element-copy-out-said-2
-element-copy-out-said-2 c = search needs
-
-element-copy-out-operand-2 : tie.Need-element-copy-out-operand-2
-element-copy-out-operand-2 c = search needs
-
-bound-requires-2 : tie.Need-bound-requires-2
-bound-requires-2 c κs = search needs
-
-enum-known-high : tie.Need-enum-known-high
-enum-known-high c = search needs
-
-enum-told-3 : tie.Need-enum-told-3
-enum-told-3 c = search needs
 
 returns-3 : tie.Need-returns-3
 unfolding sumOf boundGiven
@@ -89,22 +44,22 @@ pub sum-spec : {M : Type 1} → statement M
 sum-spec =
     tie.close
     (tie.spec
-    word-requires
-    read-integer-requires
-    enum-known-read
-    enum-told
+    (λ c κs. search needs)
+    (λ c κs. search needs)
+    (λ c. search needs)
+    (λ c. search needs)
     returns
-    element-copy-out-said
-    element-copy-out-operand
-    bound-requires
-    enum-known-low
-    enum-told-2
+    (λ c. search needs)
+    (λ c. search needs)
+    (λ c κs. search needs)
+    (λ c. search needs)
+    (λ c. search needs)
     returns-2
-    sub-t23
-    element-copy-out-said-2
-    element-copy-out-operand-2
-    bound-requires-2
-    enum-known-high
-    enum-told-3
+    (λ c. search needs)
+    (λ c. search needs)
+    (λ c. search needs)
+    (λ c κs. search needs)
+    (λ c. search needs)
+    (λ c. search needs)
     returns-3
     returns-4)

@@ -9,18 +9,6 @@ returns c =
     let a = c .before .before in
     versioning-none _ (a .args .said) (a .args .operand) (c .if1 .taken)
 
-word-requires : tie.Need-word-requires
-word-requires c κs = search needs
-
-read-natural-requires : tie.Need-read-natural-requires
-read-natural-requires c κs = search needs
-
-enum-known-read : tie.Need-enum-known-read
-enum-known-read c = search needs
-
-enum-told : tie.Need-enum-told
-enum-told c = search needs
-
 returns-2 : tie.Need-returns-2
 returns-2 c =
     let a = c .before .before in
@@ -52,10 +40,10 @@ versioning-spec =
     tie.close
     (tie.spec
     returns
-    word-requires
-    read-natural-requires
-    enum-known-read
-    enum-told
+    (λ c κs. search needs)
+    (λ c κs. search needs)
+    (λ c. search needs)
+    (λ c. search needs)
     returns-2
     returns-3
     returns-4)

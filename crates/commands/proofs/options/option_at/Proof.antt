@@ -1,22 +1,11 @@
 use native.Mathlib.Omega.{arith}
 use Rattle.wire.proofs.Cursor.{length-words}
 use Rattle.commands.specs.Tables.{optionData, optionOf}
-use Rattle.commands.proofs.Scanning.{size-range, option-unknown, option-number, option-group, option-barred, option-short, option-found}
+use Rattle.commands.proofs.RowNumbers.{option-number}
+use Rattle.commands.proofs.Scanning.{size-range, option-unknown, option-barred, option-short, option-found}
 use borrow.Author.Needs.{needs}
 use Rattle.commands.proofs.options.option_at.Statement.{statement}
 use Rattle.commands.proofs.options.option_at.Tie as tie
-
-word-requires : tie.Need-word-requires
-word-requires c κs = search needs
-
-option-named-requires : tie.Need-option-named-requires
-option-named-requires c κs = search needs
-
-enum-known-found : tie.Need-enum-known-found
-enum-known-found c = search needs
-
-enum-told : tie.Need-enum-told
-enum-told c = search needs
 
 returns : tie.Need-returns
 returns c =
@@ -29,43 +18,29 @@ option-datum-requires : tie.Need-option-datum-requires
 option-datum-requires c κs =
     let a = c .before in
     let b = a .before .before in
-    let d = b .before in
-    let e = d .before .before .before in
-    (option-number _ (e .args .allowed .now) (e .args .i) (length-words _ _) (e .pre .1) (d .word .ensures) (b .option-named .ensures) (a .found .given .0 .0) (a .found .given .1), omega arith)
-
-shared-slice-read-if1 : tie.Need-shared-slice-read-if1
-shared-slice-read-if1 c =
-    let a = c .before in
-    let b = a .before .before in
-    let d = b .before .before in
-    let e = d .before in
-    let f = e .before .before .before in
-    omega (arith, option-group _ (f .args .allowed .now) (f .args .i) (length-words _ _) (f .pre .1) (e .word .ensures) (d .option-named .ensures) (b .found .given .0 .0) (b .found .given .1) (a .option-datum .ensures), f .pre .2)
+    (option-number _ (b .option-named .ensures) (a .found .given .0 .0) (a .found .given .1), omega arith)
 
 returns-2 : tie.Need-returns-2
 returns-2 c =
-    let a = c .before .before in
-    let b = a .before .before in
+    let a = c .before in
+    let b = a .before in
     let d = b .before .before in
-    let e = d .before in
-    let f = e .before .before .before in
-    option-barred _ (f .args .allowed .now) (f .args .i) (length-words _ _) (f .pre .1) (e .word .ensures) (d .option-named .ensures) (b .found .given .0 .0) (b .found .given .1) (a .option-datum .ensures) (c .if1 .taken)
+    let e = d .before .before in
+    let f = e .before in
+    let g = f .before .before .before in
+    option-barred _ (g .args .allowed .now) (g .args .i) (length-words _ _) (g .pre .1) (f .word .ensures) (e .option-named .ensures) (d .found .given .0 .0) (d .found .given .1) (b .option-datum .ensures) (a .takes .ensures) (c .if1 .taken)
 
 option-datum-requires-2 : tie.Need-option-datum-requires-2
 option-datum-requires-2 c κs =
     let a = c .before .before .before .before in
     let b = a .before .before in
-    let d = b .before in
-    let e = d .before .before .before in
-    (option-number _ (e .args .allowed .now) (e .args .i) (length-words _ _) (e .pre .1) (d .word .ensures) (b .option-named .ensures) (a .found .given .0 .0) (a .found .given .1), omega arith)
+    (option-number _ (b .option-named .ensures) (a .found .given .0 .0) (a .found .given .1), omega arith)
 
 option-datum-requires-3 : tie.Need-option-datum-requires-3
 option-datum-requires-3 c κs =
     let a = c .before .before .before .before .before in
     let b = a .before .before in
-    let d = b .before in
-    let e = d .before .before .before in
-    (option-number _ (e .args .allowed .now) (e .args .i) (length-words _ _) (e .pre .1) (d .word .ensures) (b .option-named .ensures) (a .found .given .0 .0) (a .found .given .1), omega arith)
+    (option-number _ (b .option-named .ensures) (a .found .given .0 .0) (a .found .given .1), omega arith)
 
 add-next-word : tie.Need-add-next-word
 unfolding optionData
@@ -80,26 +55,18 @@ sub-next-word c =
     let a = c .before .before .before .before .before .before in
     omega (arith, c .option-datum3 .ensures, size-range (optionOf (a .found .given .0 .0) .kind))
 
-next-word-requires : tie.Need-next-word-requires
-next-word-requires c κs = search needs
-
-enum-known-end : tie.Need-enum-known-end
-enum-known-end c = search needs
-
-enum-told-2 : tie.Need-enum-told-2
-enum-told-2 c = search needs
-
 returns-3 : tie.Need-returns-3
 returns-3 c =
     let a = c .before .before in
     let b = a .before in
     let d = b .before .before in
-    let e = d .before .before in
-    let f = e .before .before in
+    let e = d .before in
+    let f = e .before in
     let g = f .before .before in
-    let h = g .before in
-    let j = h .before .before .before in
-    option-short _ (j .args .allowed .now) (j .args .i) (length-words _ _) (j .pre .1) (h .word .ensures) (g .option-named .ensures) (f .found .given .0 .0) (f .found .given .1) (e .option-datum .ensures) (d .if1 .left) (b .option-datum3 .ensures) (a .next-word .ensures) (c .enum-told2 .given .1)
+    let h = g .before .before in
+    let j = h .before in
+    let k = j .before .before .before in
+    option-short _ (k .args .allowed .now) (k .args .i) (length-words _ _) (k .pre .1) (j .word .ensures) (h .option-named .ensures) (g .found .given .0 .0) (g .found .given .1) (f .option-datum .ensures) (e .takes .ensures) (d .if1 .left) (b .option-datum3 .ensures) (a .next-word .ensures) (c .enum-told2 .given .1)
 
 returns-4 : tie.Need-returns-4
 returns-4 c =
@@ -108,31 +75,32 @@ returns-4 c =
     let d = b .before in
     let e = d .before in
     let f = e .before in
-    let g = f .before .before in
-    let h = g .before .before in
+    let g = f .before in
+    let h = g .before in
     let j = h .before .before in
-    let k = j .before in
-    let l = k .before .before .before in
-    option-found _ (l .args .allowed .now) (l .args .i) (length-words _ _) (l .pre .1) (k .word .ensures) (j .option-named .ensures) (h .found .given .0 .0) (h .found .given .1) (g .option-datum .ensures) (f .if1 .left) (d .option-datum3 .ensures) (b .next-word .ensures) (a .end .given .0 .0) (a .end .given .1) (e .option-datum2 .ensures)
+    let k = j .before .before in
+    let l = k .before in
+    let m = l .before .before .before in
+    option-found _ (m .args .allowed .now) (m .args .i) (length-words _ _) (m .pre .1) (l .word .ensures) (k .option-named .ensures) (j .found .given .0 .0) (j .found .given .1) (h .option-datum .ensures) (g .takes .ensures) (f .if1 .left) (d .option-datum3 .ensures) (b .next-word .ensures) (a .end .given .0 .0) (a .end .given .1) (e .option-datum2 .ensures)
 
 pub option-at-spec : {M : Type 1} → statement M
 option-at-spec =
     tie.close
     (tie.spec
-    word-requires
-    option-named-requires
-    enum-known-found
-    enum-told
+    (λ c κs. search needs)
+    (λ c κs. search needs)
+    (λ c. search needs)
+    (λ c. search needs)
     returns
     option-datum-requires
-    shared-slice-read-if1
+    (λ c κs. search needs)
     returns-2
     option-datum-requires-2
     option-datum-requires-3
     add-next-word
     sub-next-word
-    next-word-requires
-    enum-known-end
-    enum-told-2
+    (λ c κs. search needs)
+    (λ c. search needs)
+    (λ c. search needs)
     returns-3
     returns-4)

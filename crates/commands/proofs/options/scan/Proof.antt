@@ -21,13 +21,7 @@ loop-holds c = scanning-begins _ _ _
 option-at-requires : tie.Need-option-at-requires Inv-loop μ-loop
 option-at-requires c κs =
     let a = c .before .before .before .before in
-    (a .pre .0, c .loop-test .taken, a .pre .1)
-
-enum-known-found : tie.Need-enum-known-found Inv-loop μ-loop
-enum-known-found c = search needs
-
-enum-told : tie.Need-enum-told Inv-loop μ-loop
-enum-told c = search needs
+    (a .pre, c .loop-test .taken)
 
 returns : tie.Need-returns Inv-loop μ-loop
 returns c =
@@ -94,7 +88,7 @@ add-i c =
     let b = a .before .before in
     let d = b .before .before .before .before .before in
     let found = rw (a .found .given .1) at (b .option-at .ensures) in
-    omega (arith, found .inside, length-words (d .args .command .now) (d .args .places .now), d .pre .0 .most)
+    omega (arith, found .inside, length-words (d .args .command .now) (d .args .places .now), d .pre .most)
 
 loop-less : tie.Need-loop-less Inv-loop μ-loop
 loop-less c =
@@ -123,8 +117,8 @@ scan-spec =
     μ-loop
     loop-holds
     option-at-requires
-    enum-known-found
-    enum-told
+    (λ c. search needs)
+    (λ c. search needs)
     returns
     mul-if1
     element-copy-out-if1

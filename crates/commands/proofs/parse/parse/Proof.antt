@@ -1,4 +1,5 @@
-use Rattle.commands.proofs.FromBytes.{parse-10, parse-11, parse-12, parse-13, parse-14, parse-row, parse-rest}
+use Rattle.commands.proofs.FromBytes.{parse-10, parse-11, parse-12, parse-13, parse-14, parse-rest}
+use Rattle.commands.proofs.RowNumbers.{command-number}
 use borrow.Author.Needs.{needs}
 use Rattle.commands.proofs.parse.parse.Statement.{statement}
 use Rattle.commands.proofs.parse.parse.Tie as tie
@@ -19,15 +20,6 @@ word-requires c κs =
     let a = c .before .before .before in
     a .pre .0 .within
 
-command-named-requires : tie.Need-command-named-requires
-command-named-requires c κs = search needs
-
-enum-known-found : tie.Need-enum-known-found
-enum-known-found c = search needs
-
-enum-told : tie.Need-enum-told
-enum-told c = search needs
-
 returns-3 : tie.Need-returns-3
 returns-3 c =
     let a = c .before .before in
@@ -41,11 +33,7 @@ count-fits-requires : tie.Need-count-fits-requires
 count-fits-requires c κs =
     let a = c .before in
     let b = a .before .before in
-    let d = b .before in
-    let e = d .before in
-    let f = e .before in
-    let g = f .before .before in
-    parse-row (g .pre .0) (g .args .time) (g .args .clock) (f .if1 .left) (e .if2 .left) (d .word .ensures) (b .command-named .ensures) (a .found .given .0 .0) (a .found .given .1)
+    command-number _ (b .command-named .ensures) (a .found .given .0 .0) (a .found .given .1)
 
 returns-4 : tie.Need-returns-4
 returns-4 c =
@@ -62,11 +50,8 @@ too-long-requires : tie.Need-too-long-requires
 too-long-requires c κs =
     let a = c .before .before .before in
     let b = a .before .before in
-    let d = b .before in
-    let e = d .before in
-    let f = e .before in
-    let g = f .before .before in
-    (g .pre .0 .within, parse-row (g .pre .0) (g .args .time) (g .args .clock) (f .if1 .left) (e .if2 .left) (d .word .ensures) (b .command-named .ensures) (a .found .given .0 .0) (a .found .given .1))
+    let d = b .before .before .before .before .before in
+    (d .pre .0 .within, command-number _ (b .command-named .ensures) (a .found .given .0 .0) (a .found .given .1))
 
 returns-5 : tie.Need-returns-5
 returns-5 c =
@@ -85,11 +70,9 @@ parse-row-requires : tie.Need-parse-row-requires
 parse-row-requires c κs =
     let a = c .before .before .before .before .before in
     let b = a .before .before in
-    let d = b .before in
-    let e = d .before in
-    let f = e .before in
-    let g = f .before .before in
-    (g .pre .0 .within, parse-row (g .pre .0) (g .args .time) (g .args .clock) (f .if1 .left) (e .if2 .left) (d .word .ensures) (b .command-named .ensures) (a .found .given .0 .0) (a .found .given .1), g .pre .1 (e .if2 .left))
+    let d = b .before .before in
+    let e = d .before .before .before in
+    (e .pre .0 .within, command-number _ (b .command-named .ensures) (a .found .given .0 .0) (a .found .given .1), e .pre .1 (d .if2 .left))
 
 returns-6 : tie.Need-returns-6
 returns-6 c =
@@ -112,9 +95,9 @@ parse-spec =
     returns
     returns-2
     word-requires
-    command-named-requires
-    enum-known-found
-    enum-told
+    (λ c κs. search needs)
+    (λ c. search needs)
+    (λ c. search needs)
     returns-3
     count-fits-requires
     returns-4

@@ -4,17 +4,8 @@ use borrow.Author.Needs.{needs}
 use Rattle.commands.proofs.parse.parse_count.Statement.{statement}
 use Rattle.commands.proofs.parse.parse_count.Tie as tie
 
-slice-aggregate-scan : tie.Need-slice-aggregate-scan
-slice-aggregate-scan c = search needs
-
-scan-requires : tie.Need-scan-requires
-scan-requires c κs = search needs
-
 returns : tie.Need-returns
 returns c = λ time. not-clean count-takes (c .before .scan .ensures) time (c .if1 .taken)
-
-element-copy-out-if2 : tie.Need-element-copy-out-if2
-element-copy-out-if2 c = search needs
 
 returns-2 : tie.Need-returns-2
 returns-2 c =
@@ -29,4 +20,4 @@ returns-3 c =
 pub parse-count-spec : {M : Type 1} → statement M
 parse-count-spec =
     tie.close
-    (tie.spec slice-aggregate-scan scan-requires returns element-copy-out-if2 returns-2 returns-3)
+    (tie.spec (λ c. search needs) (λ c κs. search needs) returns (λ c. search needs) returns-2 returns-3)

@@ -6,29 +6,11 @@ use borrow.Author.Needs.{needs}
 use Rattle.commands.proofs.parse.parse_expire.Statement.{statement}
 use Rattle.commands.proofs.parse.parse_expire.Tie as tie
 
-slice-aggregate-scan : tie.Need-slice-aggregate-scan
-slice-aggregate-scan c = search needs
-
-scan-requires : tie.Need-scan-requires
-scan-requires c κs = search needs
-
 returns : tie.Need-returns
 returns c =
     let a = c .before in
     let b = a .before .before .before in
     not-clean (expire-takes (b .args .unit)) (a .scan .ensures) (b .args .time) (c .if1 .taken)
-
-word-requires : tie.Need-word-requires
-word-requires c κs = search needs
-
-read-natural-requires : tie.Need-read-natural-requires
-read-natural-requires c κs = search needs
-
-enum-known-read : tie.Need-enum-known-read
-enum-known-read c = search needs
-
-enum-told : tie.Need-enum-told
-enum-told c = search needs
 
 returns-2 : tie.Need-returns-2
 returns-2 c =
@@ -39,21 +21,6 @@ returns-2 c =
     let f = e .before .before .before in
     expire-unread (f .args .time) (f .args .unit) (ready (expire-takes (f .args .unit)) (e .scan .ensures) (d .if1 .left)) (natural-refused timeLimit (b .word .ensures) (a .read-natural .ensures) (c .enum-told .given .1))
 
-element-copy-out-said : tie.Need-element-copy-out-said
-element-copy-out-said c = search needs
-
-element-copy-out-operand : tie.Need-element-copy-out-operand
-element-copy-out-operand c = search needs
-
-versioning-requires : tie.Need-versioning-requires
-versioning-requires c κs = search needs
-
-enum-known-versioned : tie.Need-enum-known-versioned
-enum-known-versioned c = search needs
-
-enum-told-2 : tie.Need-enum-told-2
-enum-told-2 c = search needs
-
 returns-3 : tie.Need-returns-3
 returns-3 c =
     let a = c .before .before in
@@ -61,9 +28,6 @@ returns-3 c =
     let d = b .before in
     let e = d .before .before .before in
     expire-unversioned (e .args .time) (e .args .unit) (ready (expire-takes (e .args .unit)) (d .scan .ensures) (b .if1 .left)) (a .versioning .ensures) (c .enum-told2 .given .1)
-
-is-zero-requires : tie.Need-is-zero-requires
-is-zero-requires c κs = search needs
 
 returns-4 : tie.Need-returns-4
 returns-4 c =
@@ -120,21 +84,21 @@ pub parse-expire-spec : {M : Type 1} → statement M
 parse-expire-spec =
     tie.close
     (tie.spec
-    slice-aggregate-scan
-    scan-requires
+    (λ c. search needs)
+    (λ c κs. search needs)
     returns
-    word-requires
-    read-natural-requires
-    enum-known-read
-    enum-told
+    (λ c κs. search needs)
+    (λ c κs. search needs)
+    (λ c. search needs)
+    (λ c. search needs)
     returns-2
-    element-copy-out-said
-    element-copy-out-operand
-    versioning-requires
-    enum-known-versioned
-    enum-told-2
+    (λ c. search needs)
+    (λ c. search needs)
+    (λ c κs. search needs)
+    (λ c. search needs)
+    (λ c. search needs)
     returns-3
-    is-zero-requires
+    (λ c κs. search needs)
     returns-4
     instant-requires
     returns-5

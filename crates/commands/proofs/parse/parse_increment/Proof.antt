@@ -4,26 +4,11 @@ use borrow.Author.Needs.{needs}
 use Rattle.commands.proofs.parse.parse_increment.Statement.{statement}
 use Rattle.commands.proofs.parse.parse_increment.Tie as tie
 
-slice-aggregate-scan : tie.Need-slice-aggregate-scan
-slice-aggregate-scan c = search needs
-
-scan-requires : tie.Need-scan-requires
-scan-requires c κs = search needs
-
 returns : tie.Need-returns
 returns c =
     let a = c .before .before in
     let b = a .before .before .before in
     not-clean increment-takes (a .scan .ensures) (b .args .time) (c .if1 .taken)
-
-sum-requires : tie.Need-sum-requires
-sum-requires c κs = search needs
-
-enum-known-added : tie.Need-enum-known-added
-enum-known-added c = search needs
-
-enum-told : tie.Need-enum-told
-enum-told c = search needs
 
 returns-2 : tie.Need-returns-2
 returns-2 c =
@@ -32,15 +17,6 @@ returns-2 c =
     let d = b .before .before in
     let e = d .before .before .before in
     increment-unread (e .args .time) (ready increment-takes (d .scan .ensures) (b .if1 .left)) (a .sum .ensures) (c .enum-told .given .1)
-
-read-terms-requires : tie.Need-read-terms-requires
-read-terms-requires c κs = search needs
-
-enum-known-read : tie.Need-enum-known-read
-enum-known-read c = search needs
-
-enum-known-read-2 : tie.Need-enum-known-read-2
-enum-known-read-2 c = search needs
 
 returns-3 : tie.Need-returns-3
 returns-3 c =
@@ -68,15 +44,15 @@ pub parse-increment-spec : {M : Type 1} → statement M
 parse-increment-spec =
     tie.close
     (tie.spec
-    slice-aggregate-scan
-    scan-requires
+    (λ c. search needs)
+    (λ c κs. search needs)
     returns
-    sum-requires
-    enum-known-added
-    enum-told
+    (λ c κs. search needs)
+    (λ c. search needs)
+    (λ c. search needs)
     returns-2
-    read-terms-requires
-    enum-known-read
-    enum-known-read-2
+    (λ c κs. search needs)
+    (λ c. search needs)
+    (λ c. search needs)
     returns-3
     returns-4)

@@ -5,18 +5,6 @@ use borrow.Author.Needs.{needs}
 use Rattle.commands.proofs.parse.parse_renumber.Statement.{statement}
 use Rattle.commands.proofs.parse.parse_renumber.Tie as tie
 
-word-requires : tie.Need-word-requires
-word-requires c κs = search needs
-
-read-natural-requires : tie.Need-read-natural-requires
-read-natural-requires c κs = search needs
-
-enum-known-read : tie.Need-enum-known-read
-enum-known-read c = search needs
-
-enum-told : tie.Need-enum-told
-enum-told c = search needs
-
 returns : tie.Need-returns
 returns c =
     let a = c .before .before in
@@ -31,4 +19,4 @@ returns-2 c =
 pub parse-renumber-spec : {M : Type 1} → statement M
 parse-renumber-spec =
     tie.close
-    (tie.spec word-requires read-natural-requires enum-known-read enum-told returns returns-2)
+    (tie.spec (λ c κs. search needs) (λ c κs. search needs) (λ c. search needs) (λ c. search needs) returns returns-2)

@@ -7,15 +7,6 @@ use borrow.Author.Needs.{needs}
 use Rattle.commands.proofs.parse.parse_row.Statement.{statement}
 use Rattle.commands.proofs.parse.parse_row.Tie as tie
 
-command-datum-requires : tie.Need-command-datum-requires
-command-datum-requires c κs = search needs
-
-command-datum-requires-2 : tie.Need-command-datum-requires-2
-command-datum-requires-2 c κs = search needs
-
-parse-set-requires : tie.Need-parse-set-requires
-parse-set-requires c κs = search needs
-
 returns : tie.Need-returns
 unfolding formOf
 returns c =
@@ -33,9 +24,6 @@ returns-2 c =
     let d = b .before .before in
     row-parsed (d .args .time) (d .args .row) _ (b .command-datum .ensures) (a .command-datum2 .ensures) setManyForm (rw (c .if2 .taken)) _ (fixed-pairs (d .args .time) _)
 
-parse-increment-requires : tie.Need-parse-increment-requires
-parse-increment-requires c κs = search needs
-
 returns-3 : tie.Need-returns-3
 unfolding formOf
 returns-3 c =
@@ -44,9 +32,6 @@ returns-3 c =
     let d = b .before in
     let e = d .before .before in
     row-parsed (e .args .time) (e .args .row) _ (d .command-datum .ensures) (b .command-datum2 .ensures) incrementForm (rw (a .if3 .taken)) _ (c .parse-increment .ensures)
-
-parse-expire-requires : tie.Need-parse-expire-requires
-parse-expire-requires c κs = search needs
 
 returns-4 : tie.Need-returns-4
 unfolding formOf
@@ -65,9 +50,6 @@ returns-5 c =
     let d = b .before .before in
     row-parsed (d .args .time) (d .args .row) _ (b .command-datum .ensures) (a .command-datum2 .ensures) persistForm (rw (c .if5 .taken)) _ (fixed-persist (d .args .time) _)
 
-parse-renumber-requires : tie.Need-parse-renumber-requires
-parse-renumber-requires c κs = search needs
-
 returns-6 : tie.Need-returns-6
 unfolding formOf
 returns-6 c =
@@ -77,9 +59,6 @@ returns-6 c =
     let e = d .before .before in
     row-parsed (e .args .time) (e .args .row) _ (d .command-datum .ensures) (b .command-datum2 .ensures) renumberForm (rw (a .if6 .taken)) _ (c .parse-renumber .ensures (e .args .time))
 
-question-requires : tie.Need-question-requires
-question-requires c κs = search needs
-
 returns-7 : tie.Need-returns-7
 unfolding formOf
 returns-7 c =
@@ -88,9 +67,6 @@ returns-7 c =
     let d = b .before in
     let e = d .before .before in
     row-parsed (e .args .time) (e .args .row) _ (d .command-datum .ensures) (b .command-datum2 .ensures) (askForm (c .question .result)) (rw (a .if7 .taken, c .question .ensures)) _ (fixed-ask (e .args .time) _ (c .question .result))
-
-question-requires-2 : tie.Need-question-requires-2
-question-requires-2 c κs = search needs
 
 returns-8 : tie.Need-returns-8
 unfolding formOf
@@ -109,9 +85,6 @@ returns-9 c =
     let d = b .before .before in
     row-parsed (d .args .time) (d .args .row) _ (b .command-datum .ensures) (a .command-datum2 .ensures) deleteForm (rw (c .if9 .taken)) _ (fixed-delete (d .args .time) _)
 
-parse-count-requires : tie.Need-parse-count-requires
-parse-count-requires c κs = search needs
-
 returns-10 : tie.Need-returns-10
 unfolding formOf
 returns-10 c =
@@ -120,9 +93,6 @@ returns-10 c =
     let d = b .before in
     let e = d .before .before in
     row-parsed (e .args .time) (e .args .row) _ (d .command-datum .ensures) (b .command-datum2 .ensures) countForm (rw (a .if10 .taken)) _ (c .parse-count .ensures (e .args .time))
-
-listing-requires : tie.Need-listing-requires
-listing-requires c κs = search needs
 
 returns-11 : tie.Need-returns-11
 returns-11 c =
@@ -145,24 +115,24 @@ pub parse-row-spec : {M : Type 1} → statement M
 parse-row-spec =
     tie.close
     (tie.spec
-    command-datum-requires
-    command-datum-requires-2
-    parse-set-requires
+    (λ c κs. search needs)
+    (λ c κs. search needs)
+    (λ c κs. search needs)
     returns
     returns-2
-    parse-increment-requires
+    (λ c κs. search needs)
     returns-3
-    parse-expire-requires
+    (λ c κs. search needs)
     returns-4
     returns-5
-    parse-renumber-requires
+    (λ c κs. search needs)
     returns-6
-    question-requires
+    (λ c κs. search needs)
     returns-7
-    question-requires-2
+    (λ c κs. search needs)
     returns-8
     returns-9
-    parse-count-requires
+    (λ c κs. search needs)
     returns-10
-    listing-requires
+    (λ c κs. search needs)
     returns-11)

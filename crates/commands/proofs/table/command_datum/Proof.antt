@@ -6,9 +6,6 @@ use borrow.Author.Needs.{needs}
 use Rattle.commands.proofs.table.command_datum.Statement.{statement}
 use Rattle.commands.proofs.table.command_datum.Tie as tie
 
-slice-aggregate-datum : tie.Need-slice-aggregate-datum
-slice-aggregate-datum c = search needs
-
 datum-requires : tie.Need-datum-requires
 unfolding tables commandTable
 datum-requires c κs = (command-inside (c .before .args .row) (c .before .args .place) (c .before .pre .0), c .before .pre .1)
@@ -20,4 +17,4 @@ returns c =
     c .datum .ensures ∙ command-datum (a .args .row) (a .args .place) (a .pre .0) (a .pre .1)
 
 pub command-datum-spec : {M : Type 1} → statement M
-command-datum-spec = tie.close (tie.spec slice-aggregate-datum datum-requires returns)
+command-datum-spec = tie.close (tie.spec (λ c. search needs) datum-requires returns)

@@ -5,9 +5,6 @@ use borrow.Author.Needs.{needs}
 use Rattle.commands.proofs.table.command_named.Statement.{statement}
 use Rattle.commands.proofs.table.command_named.Tie as tie
 
-slice-aggregate-find : tie.Need-slice-aggregate-find
-slice-aggregate-find c = search needs
-
 find-requires : tie.Need-find-requires
 unfolding tables commandTable
 find-requires c κs = command-table
@@ -17,4 +14,4 @@ unfolding tables commandTable
 returns c = c .find .ensures
 
 pub command-named-spec : {M : Type 1} → statement M
-command-named-spec = tie.close (tie.spec slice-aggregate-find find-requires returns)
+command-named-spec = tie.close (tie.spec (λ c. search needs) find-requires returns)

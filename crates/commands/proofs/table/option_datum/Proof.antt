@@ -6,9 +6,6 @@ use borrow.Author.Needs.{needs}
 use Rattle.commands.proofs.table.option_datum.Statement.{statement}
 use Rattle.commands.proofs.table.option_datum.Tie as tie
 
-slice-aggregate-datum : tie.Need-slice-aggregate-datum
-slice-aggregate-datum c = search needs
-
 datum-requires : tie.Need-datum-requires
 unfolding tables optionTable
 datum-requires c κs = (option-inside (c .before .args .row) (c .before .args .place) (c .before .pre .0), c .before .pre .1)
@@ -20,4 +17,4 @@ returns c =
     c .datum .ensures ∙ option-datum (a .args .row) (a .args .place) (a .pre .0) (a .pre .1)
 
 pub option-datum-spec : {M : Type 1} → statement M
-option-datum-spec = tie.close (tie.spec slice-aggregate-datum datum-requires returns)
+option-datum-spec = tie.close (tie.spec (λ c. search needs) datum-requires returns)

@@ -5,9 +5,6 @@ use borrow.Author.Needs.{needs}
 use Rattle.commands.proofs.table.option_named.Statement.{statement}
 use Rattle.commands.proofs.table.option_named.Tie as tie
 
-slice-aggregate-find : tie.Need-slice-aggregate-find
-slice-aggregate-find c = search needs
-
 find-requires : tie.Need-find-requires
 unfolding tables optionTable
 find-requires c κs = option-table
@@ -17,4 +14,4 @@ unfolding tables optionTable
 returns c = c .find .ensures
 
 pub option-named-spec : {M : Type 1} → statement M
-option-named-spec = tie.close (tie.spec slice-aggregate-find find-requires returns)
+option-named-spec = tie.close (tie.spec (λ c. search needs) find-requires returns)
