@@ -32,12 +32,13 @@ c-example: $(LIBRARY)
 	@$(C) bench/check.c $(LIBRARY) -o target/bench-check
 	@$(CXX) -x c++ -fsyntax-only $(WARNINGS) include/exhash.h
 
-# The Rust crates: format, lints and tests, with nothing printed if all is well.
+# The Rust crates: format, lints and tests, with nothing printed if all is well. How many cases ran stands in
+# target/rust-test.log.
 rust-test: $(LIBRARY)
 	@mkdir -p target
 	@$(CARGO) fmt --check
 	@$(CARGO) clippy --offline --quiet --workspace --all-targets -- -D warnings
-	@$(CARGO) test --offline --quiet --workspace >../target/rust-test.log 2>&1 || { cat ../target/rust-test.log; exit 1; }
+	@$(CARGO) test --offline --quiet --workspace -- --show-output >../target/rust-test.log 2>&1 || { cat ../target/rust-test.log; exit 1; }
 
 # The library and the second implementation on the same seeded inputs (SEED=1): every byte compared.
 differ: $(LIBRARY)

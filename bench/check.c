@@ -1,5 +1,5 @@
 /* Prints the time of one check of a store, all slots held, by its number of slots, beside that of a plain loop that
-   adds up its bytes, and the growth from 50 to 500. */
+   adds up its bytes, and the growth from 50 to the most. */
 #define _POSIX_C_SOURCE 199309L
 #include "exhash.h"
 
@@ -7,7 +7,10 @@
 #include <string.h>
 #include <time.h>
 
-enum { HEADER = 16, SLOT = 128, ROUNDS = 7, CALLS = 2000 };
+enum { HEADER = EXH_STORE_SIZE(0), SLOT = EXH_STORE_SIZE(1) - EXH_STORE_SIZE(0), ROUNDS = 7, CALLS = 2000 };
+
+/* Where the parts of a slot begin. */
+enum { STATE = 0, KEY_LENGTH = 1, FIELD_LENGTH = 2, VALUE_LENGTH = 3, VERSION = 4, KEY = 16, FIELD = 32, VALUE = 64 };
 
 static uint8_t store[EXH_STORE_SIZE(EXH_SLOTS_MOST)];
 
@@ -16,13 +19,13 @@ static void fill(int held)
     memset(store, 0, sizeof store);
     for (int i = 0; i < held; i++) {
         uint8_t *slot = store + HEADER + SLOT * i;
-        slot[0] = 1;
-        slot[1] = 1;
-        slot[2] = (uint8_t)sprintf((char *)slot + 32, "tag%04d", i);
-        slot[3] = 1;
-        slot[4] = 1;
-        slot[16] = 'm';
-        slot[64] = '1';
+        slot[STATE] = 1;
+        slot[KEY_LENGTH] = 1;
+        slot[FIELD_LENGTH] = (uint8_t)sprintf((char *)slot + FIELD, "tag%04d", i);
+        slot[VALUE_LENGTH] = 1;
+        slot[VERSION] = 1;
+        slot[KEY] = 'm';
+        slot[VALUE] = '1';
     }
 }
 
@@ -43,7 +46,8 @@ __attribute__((noinline)) static uint32_t sum(const uint8_t *bytes, size_t size)
     return total;
 }
 
-/* The best of some rounds, in microseconds, for one call on the first bytes of the store. What the calls answer is added up. */
+/* The best of some rounds, in microseconds, for one call on the first bytes of the store. What the calls answer is
+   added up. */
 static double measure(uint32_t (*call)(const uint8_t *, size_t), size_t size, uint32_t *answers)
 {
     double best = 1e9;
@@ -61,8 +65,8 @@ static double measure(uint32_t (*call)(const uint8_t *, size_t), size_t size, ui
 
 int main(void)
 {
-    static const int sizes[] = {10, 50, 100, 250, 500};
-    double at50 = 0, at500 = 0;
+    static const int sizes[] = {10, 50, 100, 250, EXH_SLOTS_MOST};
+    double at50 = 0, at_most = 0;
     for (size_t i = 0; i < sizeof sizes / sizeof *sizes; i++) {
         size_t size = EXH_STORE_SIZE(sizes[i]);
         uint32_t refused, total;
@@ -70,12 +74,13 @@ int main(void)
         double check = measure(exh_store_check, size, &refused), plain = measure(sum, size, &total);
         if (refused || !total)
             return 1;
-        printf("%3d held slots: check %7.3f us, plain loop %7.3f us, ratio %.2f\n", sizes[i], check, plain, check / plain);
+        printf("%3d held slots: check %7.3f us, plain loop %7.3f us, ratio %.2f\n", sizes[i], check, plain,
+               check / plain);
         if (sizes[i] == 50)
             at50 = check;
-        if (sizes[i] == 500)
-            at500 = check;
+        if (sizes[i] == EXH_SLOTS_MOST)
+            at_most = check;
     }
-    printf("growth of the check from 50 to 500: %.1f times\n", at500 / at50);
+    printf("growth of the check from 50 to %d: %.1f times\n", EXH_SLOTS_MOST, at_most / at50);
     return 0;
 }

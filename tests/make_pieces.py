@@ -6,6 +6,8 @@ The answers follow from how the stream is made, not from any program of this rep
 import os
 import random
 
+from layout import COMMAND_MOST, EMPTY, USED_MOST, command, entry, number, record, store
+
 MODULUS = 4294967291
 SLOTS = 4
 
@@ -15,19 +17,6 @@ def checksum(data):
     for b in data:
         s = (s * 31 + b) % MODULUS
     return s
-
-
-def command(*words):
-    return b"*%d\r\n" % len(words) + b"".join(b"$%d\r\n%s\r\n" % (len(w), w) for w in words)
-
-
-def record(clock, body):
-    return b"\x45\x57" + clock.to_bytes(8, "little") + len(body).to_bytes(2, "little") + body
-
-
-def entry(key, field, value, version):
-    head = bytes([1, len(key), len(field), len(value)]) + version.to_bytes(4, "little") + bytes(8)
-    return head + key.ljust(16, b"\0") + field.ljust(32, b"\0") + value.ljust(64, b"\0")
 
 
 class Stream:
@@ -55,18 +44,18 @@ def stream():
     s.send(1001, command(b"EXHSET", b"m", b"t1", b"5"), b":1")
     s.skip(b"\x45\x45\x45")
     s.send(1002, command(b"exhget", b"m", b"t1"), b"$1\r\n5")
-    # marks whose L is 0 and 1,025: the 45 is skipped and the rest is read again
-    s.skip(b"\x45\x57" + bytes(10))
-    s.skip(b"\x45\x57" + bytes(8) + b"\x01\x04")
-    # a command of 1 byte, which is refused, and one of 1,024 bytes, which is done
+    # marks whose L is 0 and one too large: the 45 is skipped and the rest is read again
+    s.skip(b"\x45\x57" + number(0) + number(0, 2))
+    s.skip(b"\x45\x57" + number(0) + number(COMMAND_MOST + 1, 2))
+    # a command of 1 byte, which is refused, and one as long as can be, which is done
     s.send(1003, b"*", b"-ERR protocol")
     fields = [b"f%08d" % i for i in range(59)] + [b"a" * 32, b"b" * 32, b"c" * 29]
     longest = command(b"EXHMGET", b"m", *fields)
-    assert len(longest) == 1024
+    assert len(longest) == COMMAND_MOST
     s.send(1004, longest, b"*62\r\n" + b"\r\n".join([b"$-1"] * 62))
-    # a refused command of 1,024 bytes
+    # a refused command as long
     body = command(b"EXHSET", b"m", b"t9", b"v" * 985)
-    assert len(body) == 1024, len(body)
+    assert len(body) == COMMAND_MOST, len(body)
     s.send(1005, body, b"-ERR too long")
     s.send(1006, command(b"EXHINCRBY", b"m", b"t1", b"37"), b":42")
     s.send(1007, command(b"EXHGET", b"m", b"t1"), b"$2\r\n42")
@@ -75,21 +64,20 @@ def stream():
     s.send(1010, command(b"EXHINCRBY", b"m", b"t2", b"1"), b"-ERR hash value is not an integer")
     s.send(1011, command(b"EXHSET", b"m", b"t1", b"1", b"NX"), b":-1")
     # more noise than one call uses
-    s.skip(rough(66000) + b"\0")
+    s.skip(rough(USED_MOST + 464) + b"\0")
     s.send(1012, command(b"EXHLEN", b"m"), b":2")
     s.send(900, command(b"EXHGET", b"m", b"t2"), b"$1\r\nx")
     # a record that is cut short waits
     rest = record(1013, longest)[:700]
     s.data += rest
-    store = (1012).to_bytes(8, "little") + bytes(8)
-    store += entry(b"m", b"t1", b"42", 2) + entry(b"m", b"t2", b"x", 1) + bytes(128 * (SLOTS - 2))
-    return s, len(rest), store
+    held = [entry(b"m", b"t1", b"42", 2), entry(b"m", b"t2", b"x", 1)]
+    return s, len(rest), store(*held, *[EMPTY] * (SLOTS - 2), clock=1012)
 
 
 def main():
-    s, waiting, store = stream()
+    s, waiting, left = stream()
     way = "replies %d, checksum %d\nskipped %d\nwaiting %d\nstore's checksum %d\n" % (
-        len(s.replies), checksum(s.replies), s.skipped, waiting, checksum(store))
+        len(s.replies), checksum(s.replies), s.skipped, waiting, checksum(left))
     out = "uncut\n" + way
     for cut in (1, 2, 7, 1000):
         out += "in pieces of %d\n" % cut + way + "as uncut\n"

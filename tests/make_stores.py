@@ -1,27 +1,13 @@
 #!/usr/bin/env python3
-"""Writes crates/stores/stdin and stdout: a damaged store for every single rule of 01's "The store's bytes", and well-formed neighbours of each.
+"""Writes crates/stores/stdin and stdout: a damaged store for every single rule of 01's "The store's bytes", and
+well-formed neighbours of each.
 
 The answers follow from how each store is made, not from any program of this repository.
 """
 import os
 
-LIMIT = 4_102_444_800_000
-
-
-def entry(key=b"m", field=b"a", value=b"1", version=1, expiry=None, state=None):
-    """One slot's 128 bytes; expiry None is none."""
-    if state is None:
-        state = 1 if expiry is None else 2
-    head = bytes([state, len(key), len(field), len(value)])
-    return (head + version.to_bytes(4, "little") + (expiry or 0).to_bytes(8, "little")
-            + key.ljust(16, b"\0") + field.ljust(32, b"\0") + value.ljust(64, b"\0"))
-
-
-EMPTY = bytes(128)
-
-
-def store(*slots, clock=0, reserved=bytes(8)):
-    return clock.to_bytes(8, "little") + reserved + b"".join(slots)
+from layout import (EMPTY, EXPIRY, FIELD, FIELD_LENGTH, FIELD_MOST, HEADER, KEY, KEY_LENGTH, KEY_MOST, MOST_SLOTS, SLOT,
+                    TIME_LIMIT, VALUE, VALUE_LENGTH, VALUE_MOST, VERSION, VERSION_LARGEST, entry, number, store)
 
 
 def patched(bytes_, at, value):
@@ -36,12 +22,12 @@ def cases():
     yield 1, store(EMPTY)
     yield 0, store(EMPTY)[:-1]
     yield 0, store(EMPTY) + b"\0"
-    yield 0, store(EMPTY)[:16 + 64]
-    yield 1, store(*[EMPTY] * 500)
-    yield 0, store(*[EMPTY] * 501)
+    yield 0, store(EMPTY)[:HEADER + SLOT // 2]
+    yield 1, store(*[EMPTY] * MOST_SLOTS)
+    yield 0, store(*[EMPTY] * (MOST_SLOTS + 1))
     # clock
-    yield 1, store(one, clock=LIMIT - 1)
-    yield 0, store(one, clock=LIMIT)
+    yield 1, store(one, clock=TIME_LIMIT - 1)
+    yield 0, store(one, clock=TIME_LIMIT)
     yield 0, store(one, clock=2 ** 64 - 1)
     # the eight reserved bytes
     for i in range(8):
@@ -52,28 +38,29 @@ def cases():
     yield 0, store(entry(state=3))
     yield 0, store(entry(state=255))
     # lengths at and past their limits
-    yield 1, store(entry(key=b"k" * 16))
-    yield 0, store(patched(entry(key=b"k" * 16), 1, 17))
-    yield 1, store(entry(field=b"f" * 32))
-    yield 0, store(patched(entry(field=b"f" * 32), 2, 33))
-    yield 1, store(entry(value=b"v" * 64))
-    yield 0, store(patched(entry(value=b"v" * 64), 3, 65))
-    yield 0, store(patched(one, 3, 255))
+    yield 1, store(entry(key=b"k" * KEY_MOST))
+    yield 0, store(patched(entry(key=b"k" * KEY_MOST), KEY_LENGTH, KEY_MOST + 1))
+    yield 1, store(entry(field=b"f" * FIELD_MOST))
+    yield 0, store(patched(entry(field=b"f" * FIELD_MOST), FIELD_LENGTH, FIELD_MOST + 1))
+    yield 1, store(entry(value=b"v" * VALUE_MOST))
+    yield 0, store(patched(entry(value=b"v" * VALUE_MOST), VALUE_LENGTH, VALUE_MOST + 1))
+    yield 0, store(patched(one, VALUE_LENGTH, 255))
     yield 1, store(entry(key=b"", field=b"", value=b""))
     # a byte beyond a length, first and last place of each
-    for at in (17, 31, 33, 63, 65, 127):
+    for at in (KEY + 1, FIELD - 1, FIELD + 1, VALUE - 1, VALUE + 1, SLOT - 1):
         yield 0, store(patched(one, at, 1))
     # expiry
     yield 1, store(entry(expiry=0))
-    yield 1, store(entry(expiry=LIMIT))
-    yield 0, store(entry(expiry=LIMIT + 1))
+    yield 1, store(entry(expiry=TIME_LIMIT))
+    yield 0, store(entry(expiry=TIME_LIMIT + 1))
     yield 0, store(entry(expiry=5, state=1))
     yield 0, store(entry(expiry=2 ** 64 - 1))
     # an empty slot with one byte
-    for at in (1, 2, 3, 4, 7, 8, 15, 16, 32, 64, 127):
+    numbers = (KEY_LENGTH, FIELD_LENGTH, VALUE_LENGTH, VERSION, EXPIRY - 1, EXPIRY)
+    for at in (*numbers, KEY - 1, KEY, FIELD, VALUE, SLOT - 1):
         yield 0, store(one, patched(EMPTY, at, 1))
     # versions take any value
-    yield 1, store(entry(version=0), entry(field=b"b", version=2 ** 32 - 1))
+    yield 1, store(entry(version=0), entry(field=b"b", version=VERSION_LARGEST))
     # two held slots alike, one of them dead
     yield 0, store(one, one)
     yield 0, store(one, entry(value=b"2", version=9))
@@ -85,9 +72,9 @@ def cases():
     yield 1, store(entry(key=b"", field=b"a"), entry(key=b"a", field=b""))
     yield 1, store(entry(field=b"a"), entry(field=b"a\0"))
     # many held slots, and one alike among them
-    many = [entry(field=b"t%d" % i) for i in range(500)]
+    many = [entry(field=b"t%d" % i) for i in range(MOST_SLOTS)]
     yield 1, store(*many)
-    yield 0, store(*many[:499], entry(field=b"t0", expiry=3))
+    yield 0, store(*many[:-1], entry(field=b"t0", expiry=3))
     yield 0, store(*many[:250], many[0])
 
 
@@ -95,7 +82,7 @@ def main():
     here = os.path.join(os.path.dirname(os.path.abspath(__file__)), "..", "crates", "stores")
     with open(os.path.join(here, "stdin"), "wb") as f, open(os.path.join(here, "stdout"), "w") as g:
         for answer, b in cases():
-            f.write(len(b).to_bytes(4, "little") + b)
+            f.write(number(len(b), 4) + b)
             g.write("%d\n" % answer)
 
 

@@ -6,6 +6,9 @@
 
 enum { SLOTS = 4, CRUMB = 7, STREAM = 2048 };
 
+/* The places of a record: mark, clock, length, command. */
+enum { CLOCK = 2, LENGTH = 10, COMMAND = 12 };
+
 static const struct {
     uint64_t clock;
     const char *command;
@@ -27,7 +30,7 @@ static uint8_t stream[STREAM] = "noise", store[EXH_STORE_SIZE(SLOTS)], reply[EXH
 /* Writes a record whose command is words split by single spaces, and answers its length. */
 static size_t put_record(uint8_t *record, uint64_t clock, const char *command)
 {
-    char *const body = (char *)record + 12, *end = body;
+    char *const body = (char *)record + COMMAND, *end = body;
     int words = 1;
     for (const char *c = command; *c; c++)
         words += *c == ' ';
@@ -37,11 +40,11 @@ static size_t put_record(uint8_t *record, uint64_t clock, const char *command)
         end += sprintf(end, "$%d\r\n%.*s\r\n", length, length, word);
         word += length + 1;
     }
-    memcpy(record, "\x45\x57", 2);
+    memcpy(record, "\x45\x57", CLOCK);
     for (int i = 0; i < 8; i++)
-        record[2 + i] = (uint8_t)(clock >> (8 * i));
-    record[10] = (uint8_t)((end - body) % 256);
-    record[11] = (uint8_t)((end - body) / 256);
+        record[CLOCK + i] = (uint8_t)(clock >> (8 * i));
+    record[LENGTH] = (uint8_t)((end - body) % 256);
+    record[LENGTH + 1] = (uint8_t)((end - body) / 256);
     return (size_t)(end - (char *)record);
 }
 

@@ -1,5 +1,6 @@
 // Reads the second implementation's cases from standard input: streams, each with its answers (rust/make_cases has the form). Feeds each stream from a
 // fresh feeder, uncut and in pieces of 7 bytes and of 1, and writes in how many cases replies, skipped bytes, waiting bytes and store are the case's.
+use commands::execute::BUFFER_LEAST;
 use feeder::Fed;
 use feeder::Feeder;
 use libc::STDIN_FILENO;
@@ -21,7 +22,7 @@ const MOST: usize = 1500;
 
 const NUMBER: usize = 8;
 
-const REPLY: usize = 56000;
+const REPLY: usize = BUFFER_LEAST;
 
 // A part of the input: where it starts and ends.
 struct Part {

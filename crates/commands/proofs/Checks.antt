@@ -51,13 +51,13 @@ unfolding lowest
 lowest-none c cs = go (c .applies)
   where
     go : (t : Bool) → cond t (some (c .number)) (lowest cs) ≡ none → (t ≡ false) × (lowest cs ≡ none)
-    go true h = impossible (cc)
+    go true h = impossible cc
     go false h = (refl, h)
 
 -- What holds of the number of every check holds of the number that is given.
 pub lowest-number : (p : ℕ → Bool) (cs : List Check) (n : ℕ) → all (λ c. p (c .number)) cs ≡ true → lowest cs ≡ some n → p n ≡ true
 unfolding all lowest
-lowest-number p [] n h e = impossible (cc)
+lowest-number p [] n h e = impossible cc
 lowest-number p (c ∷ cs) n h e =
     let this : Bool = p (c .number) in
     let rest : Bool = all (λ d. p (d .number)) cs in
@@ -169,7 +169,7 @@ reads-refused {now} n (checked ws r k w c m l) e =
     let b : (13 ≤ k) × (k ≤ earlyMost) = checks-number (r .form) (r .count) ws (givenIn r ws) (builtOf now r ws) k l in
     let m : k ≡ n = cc in
     omega arith
-reads-refused n (passed ws r w k m l) e = impossible (cc)
+reads-refused n (passed ws r w k m l) e = impossible cc
 
 -- A command that is refused when it is read is refused with one of 10 to 18.
 pub parse-refused : (now clock : ℕ) (s : List ℕ) (n : ℕ) → parse now clock s ≡ refused n → (earlyLeast ≤ n) × (n ≤ earlyMost)
@@ -183,7 +183,7 @@ reads-known n (unknown ws w k m) e = let m : n ≡ 12 = cc in rw m
 reads-known {now} n (checked ws r k w c m l) e =
     let m : k ≡ n = cc in
     rw m at (lowest-number isRefusal (checksOf now r ws) k refl l)
-reads-known n (passed ws r w k m l) e = impossible (cc)
+reads-known n (passed ws r w k m l) e = impossible cc
 
 -- The number has a line.
 pub parse-known : (now clock : ℕ) (s : List ℕ) (n : ℕ) → parse now clock s ≡ refused n → isRefusal n ≡ true
@@ -204,9 +204,9 @@ pub parse-accepted : (now clock : ℕ) (s : List ℕ) (c : Command) → parse no
 parse-accepted now clock s c = go (reads now clock s)
   where
     go : {p : Parsed} → Reads now clock s p → p ≡ accepted c → Accepted now clock s c
-    go (damaged w) e = impossible (cc)
-    go (clockOut ws w k) e = impossible (cc)
-    go (unknown ws w k m) e = impossible (cc)
-    go (checked ws r n w k m l) e = impossible (cc)
+    go (damaged w) e = impossible cc
+    go (clockOut ws w k) e = impossible cc
+    go (unknown ws w k m) e = impossible cc
+    go (checked ws r n w k m l) e = impossible cc
     go (passed ws r w k m l) e =
         record { words = ws; row = r; split = w; early = k; named = m; clear = l; built = cc }

@@ -79,7 +79,7 @@ module _ (time : ℕ) {ws : List Word} {r : ScannedOptions} (y : Ready setForm w
 
 sum-refused : (a l g : Integer) → sumFor a l g ≡ addeds.Refused → hasRead a && (hasRead l && hasRead g) ≡ false
 unfolding sumFor onInteger hasRead
-sum-refused (integers.Value x) (integers.Value y) (integers.Value z) e = impossible (cc)
+sum-refused (integers.Value x) (integers.Value y) (integers.Value z) e = impossible cc
 sum-refused (integers.Value x) (integers.Value y) integers.Refused e = refl
 sum-refused (integers.Value x) integers.Refused g e = refl
 sum-refused integers.Refused l g e = refl
@@ -90,9 +90,9 @@ unfolding sumFor onInteger
 sum-value (integers.Value x) (integers.Value y) (integers.Value z) s e =
     let q : _≡_ {A = Sum} (record { amount = x; least = y; greatest = z }) s = cc in
     (rw (← q), rw (← q), rw (← q))
-sum-value (integers.Value x) (integers.Value y) integers.Refused s e = impossible (cc)
-sum-value (integers.Value x) integers.Refused g s e = impossible (cc)
-sum-value integers.Refused l g s e = impossible (cc)
+sum-value (integers.Value x) (integers.Value y) integers.Refused s e = impossible cc
+sum-value (integers.Value x) integers.Refused g s e = impossible cc
+sum-value integers.Refused l g s e = impossible cc
 
 -- what the code answers at each of the three
 pub sum-0 : (a l g : Integer) → a ≡ integers.Refused → addeds.Refused ≡ sumFor a l g
@@ -117,7 +117,7 @@ one-fails : (r a b c d : Bool) → r && (c && d) ≡ false → r && (a && (b && 
 one-fails false a b c d e = refl
 one-fails true a b false d e = simp and-false
 one-fails true a b true false e = simp and-false
-one-fails true a b true true e = impossible (cc)
+one-fails true a b true true e = impossible cc
 
 pub increment-takes : Takes incrementForm (expiryGroup ∷ versionGroup ∷ minGroup ∷ maxGroup ∷ []) 4
 unfolding allowed optionWords

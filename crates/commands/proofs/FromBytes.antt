@@ -140,23 +140,23 @@ number-within w = go (readInteger lowest64 highest64 w) refl
 built-amount : (time : ℕ) (form : Form) (ws : List Word) (gs : List Given) {k f : Word} {a l g : ℤ} {n : Versioning} {t : Lifetime}
     → build time form ws gs ≡ onField k f (increment a l g n t) → within lowest64 highest64 a ≡ true
 unfolding build
-built-amount time setForm ws gs e = impossible (cc)
-built-amount time setManyForm ws gs e = impossible (cc)
+built-amount time setForm ws gs e = impossible cc
+built-amount time setManyForm ws gs e = impossible cc
 built-amount time incrementForm ws gs {a = a} e =
     let q : numberIn signed64 (wordAt 3 ws) ≡ a = cc in
     rw (← q) (number-within (wordAt 3 ws))
-built-amount time (expireForm u) ws gs e = impossible (cc)
-built-amount time persistForm ws gs e = impossible (cc)
-built-amount time renumberForm ws gs e = impossible (cc)
-built-amount time (askForm q) ws gs e = impossible (cc)
-built-amount time (getManyForm q) ws gs e = impossible (cc)
-built-amount time deleteForm ws gs e = impossible (cc)
+built-amount time (expireForm u) ws gs e = impossible cc
+built-amount time persistForm ws gs e = impossible cc
+built-amount time renumberForm ws gs e = impossible cc
+built-amount time (askForm q) ws gs e = impossible cc
+built-amount time (getManyForm q) ws gs e = impossible cc
+built-amount time deleteForm ws gs e = impossible cc
 built-amount time countForm ws gs {k} {f} {a} {l} {g} {n} {t} e = go (isSome (givenOf noExpGroup gs)) e
   where
     go : (b : Bool) → cond b (countLive (wordAt 1 ws)) (countHeld (wordAt 1 ws)) ≡ onField k f (increment a l g n t) → within lowest64 highest64 a ≡ true
-    go true e = impossible (cc)
-    go false e = impossible (cc)
-built-amount time (listForm q) ws gs e = impossible (cc)
+    go true e = impossible cc
+    go false e = impossible cc
+built-amount time (listForm q) ws gs e = impossible cc
 
 -- What an accepted EXHINCRBY adds is an integer of signed 64 bits.
 pub parse-amount : (time clock : ℕ) (s : List ℕ) {k f : Word} {a l g : ℤ} {n : Versioning} {t : Lifetime}

@@ -21,7 +21,7 @@ module _ (al : List ℕ) where
 
   named-allowed : (rows : List OptionRow) (w : Word) (m : OptionKind) → optionNamed rows al w ≡ some m → any (eqb (group m)) al ≡ true
   unfolding optionNamed
-  named-allowed [] w m e = impossible (cc)
+  named-allowed [] w m e = impossible cc
   named-allowed (r ∷ rs) w m e = go (spells (r .name) w) (any (eqb (group (r .kind))) al) refl (named-allowed rs w m) e
     where
       go : (t a : Bool) → any (eqb (group (r .kind))) al ≡ a → (optionNamed rs al w ≡ some m → any (eqb (group m)) al ≡ true)
@@ -84,7 +84,7 @@ all-each h (n ∷ ns) = and-both (h n) (all-each h ns)
 -- the group of what was found
 pub given-group : (n : ℕ) (gs : List Given) (x : Given) → givenOf n gs ≡ some x → group (x .kind) ≡ n
 unfolding givenOf
-given-group n [] x e = impossible (cc)
+given-group n [] x e = impossible cc
 given-group n (g ∷ gs) x e = go (eqb (group (g .kind)) n) refl e (given-group n gs x)
   where
     go : (t : Bool) → eqb (group (g .kind)) n ≡ t → cond t (some g) (givenOf n gs) ≡ some x → (givenOf n gs ≡ some x → group (x .kind) ≡ n) → group (x .kind) ≡ n

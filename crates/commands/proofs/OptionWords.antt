@@ -47,7 +47,7 @@ module _ (hi : ℕ) {v w : Word} {r : Natural} (ev : v ≡ w) (er : r ≡ natura
     where
       unmapped : (o : Option ℤ) → Option·map natAbs o ≡ none → o ≡ none
       unmapped none q = refl
-      unmapped (some z) q = impossible (cc)
+      unmapped (some z) q = impossible cc
 
 -- ---- the expiry
 

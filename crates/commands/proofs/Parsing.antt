@@ -148,20 +148,20 @@ module _ {A T : Type 0} (value : A → T) (no-value : T) (same : (a b : A) → v
 module _ (time : ℕ) (x : Option Given) {t : Timed} (e : t ≡ timedFor time x) where
   timed-value : {l : Lifetime} → t ≡ timeds.Value l → (readOf x ≡ true) × (lifetimeBy time x ≡ l)
   unfolding timedFor
-  timed-value {l} h = answer-value timeds.Value timeds.Refused (λ a b q. cc) (λ a q. impossible (cc)) (readOf x) (lifetimeBy time x) l (sym e ∙ h)
+  timed-value {l} h = answer-value timeds.Value timeds.Refused (λ a b q. cc) (λ a q. impossible cc) (readOf x) (lifetimeBy time x) l (sym e ∙ h)
 
   timed-refused : t ≡ timeds.Refused → readOf x ≡ false
   unfolding timedFor
-  timed-refused h = answer-refused timeds.Value timeds.Refused (λ a b q. cc) (λ a q. impossible (cc)) (readOf x) (lifetimeBy time x) (sym e ∙ h)
+  timed-refused h = answer-refused timeds.Value timeds.Refused (λ a b q. cc) (λ a q. impossible cc) (readOf x) (lifetimeBy time x) (sym e ∙ h)
 
 module _ (x : Option Given) {v : Versioned} (e : v ≡ versionedFor x) where
   versioned-value : {n : Versioning} → v ≡ versioneds.Value n → (readOf x ≡ true) × (versionBy x ≡ n)
   unfolding versionedFor
-  versioned-value {n} h = answer-value versioneds.Value versioneds.Refused (λ a b q. cc) (λ a q. impossible (cc)) (readOf x) (versionBy x) n (sym e ∙ h)
+  versioned-value {n} h = answer-value versioneds.Value versioneds.Refused (λ a b q. cc) (λ a q. impossible cc) (readOf x) (versionBy x) n (sym e ∙ h)
 
   versioned-refused : v ≡ versioneds.Refused → readOf x ≡ false
   unfolding versionedFor
-  versioned-refused h = answer-refused versioneds.Value versioneds.Refused (λ a b q. cc) (λ a q. impossible (cc)) (readOf x) (versionBy x) (sym e ∙ h)
+  versioned-refused h = answer-refused versioneds.Value versioneds.Refused (λ a b q. cc) (λ a q. impossible cc) (readOf x) (versionBy x) (sym e ∙ h)
 
 -- what the code answers of both, x of the expiry and y of the version
 module _ (time : ℕ) (x y : Option Given) where
@@ -220,7 +220,7 @@ integer-read (some z) = refl
 
 pub integer-value : (o : Option ℤ) (z : Signed) → integerFor o ≡ integers.Value z → Option·getD o (pos 0) ≡ integerOf z
 unfolding integerFor
-integer-value none z e = impossible (cc)
+integer-value none z e = impossible cc
 integer-value (some k) z e =
     let q : signedFor k ≡ z = cc in
     rw (← q) (sym (sign-said k))
@@ -320,7 +320,7 @@ module _ {f : Form} {ws : List Word} {r : ScannedOptions} (y : Ready f ws r) whe
       where
         go : (o : Option ℕ) → orElse o (terms.Value (versioning (givenIn f ws)) (lifetime time (givenIn f ws))) terms.Refused ≡ terms.Refused n
             → refused n ≡ orElse o (accepted (saidBy time f ws)) refused
-        go none k = impossible (cc)
+        go none k = impossible cc
         go (some j) k = cc
 
     pub terms-said : {v : Versioning} {l : Lifetime} → m ≡ terms.Value v l
@@ -331,4 +331,4 @@ module _ {f : Form} {ws : List Word} {r : ScannedOptions} (y : Ready f ws r) whe
         go : (o : Option ℕ) → orElse o (terms.Value (versioning (givenIn f ws)) (lifetime time (givenIn f ws))) terms.Refused ≡ terms.Value v l
             → (accepted (saidBy time f ws) ≡ orElse o (accepted (saidBy time f ws)) refused) × (versioning (givenIn f ws) ≡ v) × (lifetime time (givenIn f ws) ≡ l)
         go none k = (refl, cc, cc)
-        go (some j) k = impossible (cc)
+        go (some j) k = impossible cc

@@ -63,7 +63,7 @@ module _ (x : Given) where
     where
       go : (t : Bool) → (givenOf (group (x .kind)) gs ≡ none → givenOf (group (x .kind)) (gs ++ (x ∷ [])) ≡ some x)
           → cond t (some y) (givenOf (group (x .kind)) gs) ≡ none → cond t (some y) (givenOf (group (x .kind)) (gs ++ (x ∷ []))) ≡ some x
-      go true later h = impossible (cc)
+      go true later h = impossible cc
       go false later h = later h
 
   given-other : (n : ℕ) (gs : List Given) → eqb (group (x .kind)) n ≡ false → givenOf n (gs ++ (x ∷ [])) ≡ givenOf n gs
@@ -88,13 +88,13 @@ module _ (x : Given) where
           → (givenOf (group (x .kind)) gs ≡ none → conflicting (gs ++ (x ∷ [])) ≡ false)
           → cond t (some y) (givenOf (group (x .kind)) gs) ≡ none
           → any (λ z. eqb (group (y .kind)) (group (z .kind))) (gs ++ (x ∷ [])) || conflicting (gs ++ (x ∷ [])) ≡ false
-      go true q this later e = impossible (cc)
+      go true q this later e = impossible cc
       go false q this later e = or-neither (this q) (later e)
 
   -- a second one of a group conflicts, whatever follows
   conflict-again : (gs more : List Given) (z : Given) → givenOf (group (x .kind)) gs ≡ some z → conflicting (gs ++ (x ∷ more)) ≡ true
   unfolding conflicting givenOf
-  conflict-again [] more z e = impossible (cc)
+  conflict-again [] more z e = impossible cc
   conflict-again (y ∷ gs) more z e =
       go
       (eqb (group (y .kind)) (group (x .kind)))
@@ -129,14 +129,14 @@ module _ (al : List ℕ) (w : Word) (ws : List Word) where
       where
         go : (o : Option Range) → isSome o ≡ false → orElse o bare (λ r. scan al (some m) ws) ≡ bare
         go none h = refl
-        go (some r) h = impossible (cc)
+        go (some r) h = impossible cc
 
     scan-operand : isSome (operandRange m) ≡ true → scan al none (w ∷ ws) ≡ scan al (some m) ws
     unfolding scan orElse isSome
     scan-operand h = rw e (go (operandRange m) h)
       where
         go : (o : Option Range) → isSome o ≡ true → orElse o bare (λ r. scan al (some m) ws) ≡ scan al (some m) ws
-        go none h = impossible (cc)
+        go none h = impossible cc
         go (some r) h = refl
 
 -- the option at word i

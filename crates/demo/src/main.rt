@@ -6,12 +6,16 @@
 //   ?  shows the store
 //   .  says what happened
 // Any other line is written as it stands.
+use commands::execute::BUFFER_LEAST;
 use feeder::Fed;
 use feeder::Feeder;
 use libc::STDIN_FILENO;
 use libc::STDOUT_FILENO;
 use store::Expiry;
 use store::check::well_formed;
+use store::layout::HEADER_SIZE;
+use store::layout::SLOT_SIZE;
+use store::layout::TIME_LIMIT;
 use store::read;
 use wire::integers::Natural;
 use wire::integers::read_natural;
@@ -29,10 +33,10 @@ ghost use Rattle.store.specs.Promises.{Held};
 
 const SCRIPT: usize = 16384;
 
-// 16 bytes and two slots of 128.
-const STORE: usize = 272;
+// A store of two slots.
+const STORE: usize = HEADER_SIZE + 2 * SLOT_SIZE;
 
-const REPLY: usize = 56000;
+const REPLY: usize = BUFFER_LEAST;
 
 // A record: mark, clock and length in 12 bytes, and at most 1,024 more.
 const RECORD: usize = 1036;
@@ -110,7 +114,7 @@ fn within(s: &[u8], count: usize) -> &[u8] {
 
 // The number that a word says, 0 where it says none.
 fn number_of(word: &[u8]) -> u64 {
-    let read = read_natural(word, 4102444800000);
+    let read = read_natural(word, TIME_LIMIT);
     match read {
         Natural::Value(n) => n,
         Natural::Refused => 0,

@@ -4,7 +4,8 @@ use feeder::Feeder;
 ghost use mathlib.Core.Path.{_≡_};
 ghost use mathlib.Core.Bool.{cond};
 ghost use Rattle.store.specs.Store.{wellFormed};
-ghost use Rattle.feeder.specs.Feed.{fresh, feed};
+ghost use Rattle.feeder.specs.State.{fresh};
+ghost use Rattle.feeder.specs.Feed.{feed};
 
 // A state with no byte waiting.
 #[no_mangle]
@@ -17,7 +18,9 @@ pub extern "C" fn exh_feeder_fresh() -> Feeder
 // One feeding call.
 #[no_mangle]
 pub extern "C" fn exh_feed(feeder: Feeder, piece: &[u8], store: &mut [u8], reply: &mut [u8]) -> Fed
-    ensures { λ r. ⌜ record { fed = r; store = now (store .exit); buffer = now (reply .exit) } ≡ feed feeder (now (piece .entry)) (now (store .entry)) (now (reply .entry)) ⌝ }
+    ensures { λ r.
+        ⌜ record { fed = r; store = now (store .exit); buffer = now (reply .exit) }
+        ≡ feed feeder (now (piece .entry)) (now (store .entry)) (now (reply .entry)) ⌝ }
 {
     feeder.feed(piece, store, reply)
 }

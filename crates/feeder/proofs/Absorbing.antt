@@ -7,7 +7,6 @@ use Prim.Native.Nat.{ℕ, _+_, _-_, _≤_, _<_}
 use native.Mathlib.Omega.{arith}
 use lib.ListN.{length, take, drop, replicate, length-append, length-drop, length-take, length-replicate, replicate-append-replicate, take-append-drop}
 use lib.Seq.{take-all, length-take-le, drop-append-le, drop-append-add, drop-drop, take-append-add}
-use borrow.Author.Tests.{lt-ltb, le-ltb}
 use borrow.Rule.Slice.PartMut.{putMid}
 use Rattle.wire.specs.Lists.{orElse}
 use Rattle.wire.specs.Bytes.{allZero, fromLE, part, padded}
@@ -19,16 +18,17 @@ use Rattle.feeder.specs.declared.Feeder.{Feeder}
 use Rattle.feeder.specs.declared.absorb.Completed.{Completed}
 use Rattle.feeder.specs.declared.absorb.Completed.the-variants as completions
 use Rattle.feeder.specs.declared.scan.Stop.the-variants as stops
-use Rattle.feeder.specs.Record.{recordOf, commandAt}
+use Rattle.feeder.specs.Record.{Record, recordOf, clockAt, commandAt, recordMost}
 use Rattle.feeder.specs.Stream.{divide}
-use Rattle.feeder.specs.Feed.{waitingMost, usedMost, stateOf, fresh, waitingIn, isLeft, firstRecord, offered}
-use Rattle.feeder.specs.Promises.{recordMost, stopOf, Completing, completedAt, keeping, finishing, absorbed}
-use Rattle.feeder.proofs.Head.{part-more}
-use Rattle.feeder.proofs.Divide.{rest-short}
-use Rattle.feeder.proofs.First.{First, first-found, first-fits, first-most, none-rest, none-skipped}
-use Rattle.feeder.proofs.Call.{beyond}
-use Rattle.feeder.proofs.Stops.{stop-record, stop-none, stop-skipped}
-use Rattle.feeder.proofs.Waiting.{tail-part, left-state}
+use Rattle.feeder.specs.State.{waitingMost, stateOf, fresh, waitingIn, isLeft}
+use Rattle.feeder.specs.Absorb.{usedMost, firstRecord, offered, keeping, completing, absorb}
+use Rattle.feeder.specs.Promises.{stopOf, recordIn, CommandInside, joinedSize, Completing, Completes, meant, Absorbs}
+use Rattle.feeder.proofs.RecordHead.{part-more}
+use Rattle.feeder.proofs.StreamDivide.{rest-short}
+use Rattle.feeder.proofs.FirstRecord.{First, NoFirst, first-found, none-found, first-fits, first-most, none-rest, none-skipped}
+use Rattle.feeder.proofs.OneAbsorbing.{beyond}
+use Rattle.feeder.proofs.ScanStops.{stop-record, stop-rest}
+use Rattle.feeder.proofs.StateLeft.{tail-part, waiting-back, left-state}
 
 -- ---- the bytes of a piece that a call looks at
 
@@ -84,19 +84,53 @@ appended s p u n l e = laid-tail front back .bytes
 
 -- ---- the record completed
 
+-- where a record of the bytes looked at stands, it stands in the piece
+in-offered : (c : Completed) (piece t : List ℕ) → CommandInside c (offered piece) t
+    → (recordIn c piece t ≡ recordIn c (offered piece) t) × CommandInside c piece t
+unfolding CommandInside recordIn offered
+in-offered completions.Nothing piece t h = (refl, tt)
+in-offered (completions.Joined clock start size) piece t h = (refl, h)
+in-offered (completions.InPiece clock start size) piece t h =
+    (ap (λ (x : List ℕ). some (record { clock = clock; command = x })) same, omega (arith, length-take usedMost piece))
+  where
+    same : part start size piece ≡ part start size (take usedMost piece)
+    same =
+        ap (part start size) (sym (take-append-drop usedMost piece))
+        ∙ part-more start size (take usedMost piece) (drop usedMost piece) h
+
 module _ (w p : List ℕ) (at size : ℕ) (j : List ℕ) (r : Completing w p at size j) where
+  abbrev from : List ℕ
+  from = drop at (w ++ p)
+
+  -- the bytes of the piece up to its end
+  pub up-to-end : length (take (at + (commandAt + size) - length w) p) ≡ at + (commandAt + size) - length w
+  up-to-end = length-take-le (at + (commandAt + size) - length w) p (omega (arith, r .beyond, r .inside))
+
   -- it stands in the piece
   pub in-piece : {clock : ℕ} → length w ≤ at
-      → clock ≡ fromLE (take 8 (drop 2 (take (length p - (at - length w)) (drop (at - length w) p))))
-      → record { completed = completions.InPiece clock (at - length w + commandAt) size; joined = j }
-      ≡ completedAt w p (record { at = at; size = size }) j
-  unfolding completedAt recordOf part
+      → clock ≡ fromLE (take 8 (drop clockAt (take (length p - (at - length w)) (drop (at - length w) p))))
+      → Completes from size p j (completions.InPiece clock (at - length w + commandAt) size) j
+  unfolding recordIn CommandInside recordOf part joinedSize laidOver
   in-piece l e =
-      rw (le-ltb at (length w) l, drop-late w p at l, ← tail-part (at - length w) p, ← e)
+      record {
+        means =
+            rw (
+              e,
+              tail-part (at - length w) p,
+              drop-late w p at l,
+              drop-drop commandAt (at - length w) p,
+            );
+        inside = omega (arith, r .inside);
+        bytes = refl;
+      }
 
   module _ (l : at < length w) where
+    -- the record as it was sent
+    abbrev sent : List ℕ
+    sent = part at (commandAt + size) (w ++ p)
+
     -- it is joined of both
-    both : drop at (w ++ take (at + (commandAt + size) - length w) p) ≡ part at (commandAt + size) (w ++ p)
+    both : drop at (w ++ take (at + (commandAt + size) - length w) p) ≡ sent
     unfolding part
     both =
         let n : commandAt + size ≡ length (drop at w) + (at + (commandAt + size) - length w) = rw length-drop (omega (arith, r .beyond)) in
@@ -107,34 +141,29 @@ module _ (w p : List ℕ) (at size : ℕ) (j : List ℕ) (r : Completing w p at 
     enough : commandAt + size ≤ length (drop at (w ++ p))
     enough = rw (length-drop, length-append) (omega (arith, r .inside))
 
-    joins : length (part at (commandAt + size) (w ++ p)) ≡ commandAt + size
+    joins : length sent ≡ commandAt + size
     unfolding part
     joins = length-take-le (commandAt + size) (drop at (w ++ p)) enough
 
-    again : part at (commandAt + size) (w ++ p) ++ drop (commandAt + size) (drop at (w ++ p)) ≡ drop at (w ++ p)
-    unfolding part
-    again = take-append-drop (commandAt + size) (drop at (w ++ p))
-
     -- a part of the record is that part of what was joined
-    pub same-part : (a n : ℕ) → a + n ≤ commandAt + size → part a n (laidOver (part at (commandAt + size) (w ++ p)) j) ≡ part a n (drop at (w ++ p))
+    same-part : (a n : ℕ) → a + n ≤ commandAt + size → part a n (laidOver sent j) ≡ part a n (drop at (w ++ p))
     unfolding laidOver
     same-part a n h =
-        let fits : a + n ≤ length (part at (commandAt + size) (w ++ p)) = omega (arith, joins) in
-        part-more a n (part at (commandAt + size) (w ++ p)) (drop (length (part at (commandAt + size) (w ++ p))) j) fits
-        ∙ sym (part-more a n (part at (commandAt + size) (w ++ p)) (drop (commandAt + size) (drop at (w ++ p))) fits)
-        ∙ ap (part a n) again
-
-    pub joined-long : commandAt + size ≤ length (laidOver (part at (commandAt + size) (w ++ p)) j)
-    unfolding laidOver
-    joined-long = rw length-append (omega (arith, joins))
+        let fits : a + n ≤ length sent = omega (arith, joins) in
+        part-more a n sent (drop (length sent) j) fits
+        ∙ sym (part-more a n sent (drop (commandAt + size) (drop at (w ++ p))) fits)
+        ∙ ap (part a n) (unfold part in take-append-drop (commandAt + size) (drop at (w ++ p)))
 
     pub joined-whole : {clock : ℕ} {t : List ℕ} → t ≡ laidOver (drop at (w ++ take (at + (commandAt + size) - length w) p)) j
-        → clock ≡ fromLE (take 8 (drop 2 t))
-        → record { completed = completions.Joined clock commandAt size; joined = t } ≡ completedAt w p (record { at = at; size = size }) j
-    unfolding completedAt recordOf part
+        → clock ≡ fromLE (take 8 (drop clockAt t)) → Completes from size p j (completions.Joined clock commandAt size) t
+    unfolding recordIn CommandInside joinedSize recordOf part
     joined-whole {t = t} e h =
-        let laid : t ≡ laidOver (part at (commandAt + size) (w ++ p)) j = e ∙ rw both in
-        rw (lt-ltb at (length w) l, ← same-part 2 8 (omega arith), ← laid, ← h)
+        let laid : t ≡ laidOver sent j = e ∙ rw both in
+        record {
+          means = rw (h, laid) (unfold part in rw (same-part clockAt 8 (omega arith), same-part commandAt size (omega arith)));
+          inside = rw laid (unfold laidOver in rw length-append (omega (arith, joins)));
+          bytes = laid;
+        }
 
 -- ---- what waits
 
@@ -198,14 +227,17 @@ module _ (f : Feeder) (p : List ℕ) (left : isLeft f ≡ true) where
 -- ---- absorbing, whole
 
 module _ (f : Feeder) (piece : List ℕ) (left : isLeft f ≡ true) {o : List ℕ} (eo : o ≡ offered piece) where
+  abbrev all : List ℕ
+  all = waitingIn f ++ offered piece
+
   -- a record is completed
   module _ (at n : ℕ) (e : stops.Record at n ≡ stopOf (take (f .count) (f .waiting) ++ o)) where
-    found : firstRecord (waitingIn f ++ offered piece) ≡ some (record { at = at; size = n })
+    found : firstRecord all ≡ some (record { at = at; size = n })
     unfolding waitingIn
     found = stop-record (take (f .count) (f .waiting) ++ offered piece) at n (rw eo at e)
 
-    first : First (waitingIn f ++ offered piece) (record { at = at; size = n })
-    first = first-found (waitingIn f ++ offered piece) (record { at = at; size = n }) found
+    first : First all (record { at = at; size = n })
+    first = first-found all (record { at = at; size = n }) found
 
     pub end-beyond : f .count < at + (commandAt + n)
     unfolding waitingIn
@@ -226,33 +258,34 @@ module _ (f : Feeder) (piece : List ℕ) (left : isLeft f ≡ true) {o : List �
           room = omega (arith, first-most first);
         }
 
-    pub absorbed-record : (j : List ℕ) {c : Completed} {t : List ℕ} {g : Feeder}
-        → record { completed = c; joined = t } ≡ completedAt (take (f .count) (f .waiting)) o (record { at = at; size = n }) j
-        → g ≡ fresh
-        → record {
-          absorbed = record { used = at + (commandAt + n) - f .count; skipped = at; completed = c; count = g .count };
-          waiting = g .waiting;
-          joined = t;
+    pub absorbed-record : (j : List ℕ) {c : Completed} {t v : List ℕ}
+        → Completes (drop at (take (f .count) (f .waiting) ++ o)) n o j c t
+        → record { waiting = v; count = 0 } ≡ fresh
+        → Absorbs f piece j (record { used = at + (commandAt + n) - f .count; skipped = at; completed = c; count = 0 }) v t
+    unfolding meant absorb orElse completing waitingIn fresh
+    absorbed-record j {c} {t} h q =
+        let there : (recordIn c piece t ≡ recordIn c (offered piece) t) × CommandInside c piece t = in-offered c piece t (rw eo at (h .inside)) in
+        record {
+          means = rw (there .0, ← eo, h .means) (rw (eo, found, left-state f left .count));
+          state = q;
+          inside = there .1;
+          bytes = rw (← eo) (h .bytes);
         }
-        ≡ absorbed f piece j
-    unfolding absorbed orElse finishing waitingIn
-    absorbed-record j h q = rw (found, ← eo, ← h, q, left-state f left .count)
 
   -- no record is completed
   module _ (at : ℕ) (e : stops.Rest at ≡ stopOf (take (f .count) (f .waiting) ++ o)) where
-    nothing : firstRecord (waitingIn f ++ offered piece) ≡ none
+    stopped : (firstRecord all ≡ none) × (divide all .skipped ≡ at)
     unfolding waitingIn
-    nothing = stop-none (take (f .count) (f .waiting) ++ offered piece) at (rw eo at e)
+    stopped = stop-rest (take (f .count) (f .waiting) ++ offered piece) at (rw eo at e)
 
-    skips : divide (waitingIn f ++ offered piece) .skipped ≡ at
-    unfolding waitingIn
-    skips = stop-skipped (take (f .count) (f .waiting) ++ offered piece) at (rw eo at e)
+    nothing : NoFirst all
+    nothing = none-found all (stopped .0)
 
-    leaves : divide (waitingIn f ++ offered piece) .rest ≡ drop at (waitingIn f ++ offered piece)
-    leaves = none-rest (waitingIn f ++ offered piece) nothing ∙ rw skips
+    leaves : divide all .rest ≡ drop at all
+    leaves = none-rest nothing ∙ rw (stopped .1)
 
     pub rest-inside : at ≤ f .count + length o
-    rest-inside = rw eo (omega (arith, skips, none-skipped (waitingIn f ++ offered piece) nothing, total f (offered piece) left))
+    rest-inside = rw eo (omega (arith, stopped .1, none-skipped nothing, total f (offered piece) left))
 
     pub rest-waits : f .count + length o ≤ at + waitingMost
     rest-waits =
@@ -260,17 +293,21 @@ module _ (f : Feeder) (piece : List ℕ) (left : isLeft f ≡ true) {o : List �
         (omega (
           arith,
           ap length leaves,
-          length-drop at (waitingIn f ++ offered piece),
-          rest-short (waitingIn f ++ offered piece),
+          length-drop at all,
+          rest-short all,
           total f (offered piece) left,
         ))
 
     pub absorbed-none : {j : List ℕ} {g : Feeder} → g ≡ stateOf (drop at (waitingIn f ++ o))
-        → record {
-          absorbed = record { used = length o; skipped = at; completed = completions.Nothing; count = g .count };
-          waiting = g .waiting;
-          joined = j;
+        → Absorbs f piece j (record { used = length o; skipped = at; completed = completions.Nothing; count = g .count }) (g .waiting) j
+    unfolding meant recordIn absorb orElse keeping CommandInside joinedSize laidOver
+    absorbed-none {g = g} h =
+        record {
+          means = rw (stopped .0, waits, eo, leaves, stopped .1);
+          state = h ∙ ap stateOf (sym waits);
+          inside = tt;
+          bytes = refl;
         }
-        ≡ absorbed f piece j
-    unfolding absorbed orElse keeping
-    absorbed-none h = rw (nothing, h, eo, leaves, skips)
+      where
+        waits : take (g .count) (g .waiting) ≡ drop at (waitingIn f ++ o)
+        waits = rw h (unfold waitingIn in waiting-back (drop at (waitingIn f ++ o)))

@@ -1,6 +1,6 @@
 -- The customer's three demands over the definitions: the page to open first. Each theorem has one plain sentence above it; the proofs are laws
 -- of the other files. `exec` is one record on what a store holds, `execBytes` the same on its bytes, `meaning` demand 3's definition of a whole
--- stream, `feed` one feeding call.
+-- stream, `absorb` the bytes that one call takes, `feed` one feeding call.
 use mathlib.Core.Path.{_≡_, sym, ap, _∙_}
 use mathlib.Core.Logic.{_≢_, _↔_}
 use mathlib.Core.Bool.{true, false}
@@ -20,7 +20,7 @@ use Rattle.store.specs.Store.{Entry, Slot, Store, decode, encode, wellFormed, s
 use Rattle.store.specs.Time.{nowAt, live}
 use Rattle.store.specs.Valid.{Valid}
 use Rattle.store.proofs.Encode.{decode-encode, encode-decode, encode-well, decode-valid}
-use Rattle.commands.specs.Refusal.{errorLine}
+use Rattle.commands.specs.Refusal.{errorLine, bufferLeast}
 use Rattle.commands.specs.Command.{Command, Pair}
 use Rattle.commands.specs.Command.Command.{setMany}
 use Rattle.commands.specs.Parse.{parse}
@@ -38,10 +38,14 @@ use Rattle.commands.proofs.Clock.{clock-is-now, clock-forward-all, dead-stays-d
 use Rattle.commands.proofs.Full.{full-exactly, full-accepted, done-exactly}
 use Rattle.commands.proofs.Keeps.{execBytes-well, execBytes-means, execBytes-length}
 use Rattle.feeder.specs.declared.Feeder.{Feeder}
-use Rattle.feeder.specs.Feed.{bufferLeast, feed}
-use Rattle.feeder.specs.Calls.{Call, AllBytes, Total, Ran, begin, callAll, answerTo, uncut, Untouched, Answered, offeringAll}
+use Rattle.feeder.specs.Stream.{divide, doAll}
+use Rattle.feeder.specs.State.{fresh}
+use Rattle.feeder.specs.Pieces.{untaken, next, absorbAll, Uses}
+use Rattle.feeder.specs.Feed.{feed}
+use Rattle.feeder.specs.Calls.{Call, AllBytes, Total, Ran, begin, callAll, answerTo, acceptedPieces, doneFor, uncut, Untouched, Answered, offeringAll}
 use Rattle.feeder.proofs.Refusals as refusals
-use Rattle.feeder.proofs.Calls as calls
+use Rattle.feeder.proofs.ListOfPieces as pieces
+use Rattle.feeder.proofs.ListOfCalls as calls
 
 -- ════ Demand 1: refusals
 
@@ -146,7 +150,7 @@ pub dead-for-good : (r : Step) (rs : List Step) (next : Step) (s : Store) (c : C
 dead-for-good = dead-stays-dead
 
 -- No reply on a well-formed store is longer than 56,000 bytes, so a call's reply lies in its buffer.
-pub reply-fits : (clock : ℕ) (command b : List ℕ) → wellFormed b ≡ true → length (execBytes clock command b .reply) ≤ 56000
+pub reply-fits : (clock : ℕ) (command b : List ℕ) → wellFormed b ≡ true → length (execBytes clock command b .reply) ≤ bufferLeast
 reply-fits = refusals.reply-short
 
 pub buffer-stays : (f : Feeder) (piece b buffer : List ℕ) → length (feed f piece b buffer .buffer) ≡ length buffer
@@ -158,11 +162,29 @@ marked-examples = commandExamples.marked-examples
 
 -- ════ Demand 3: any list of calls
 
+-- The stream's half, with no store and no buffer. After any list of absorbing calls from no byte waiting, the records handed out in order, the
+-- total skipped and the bytes left waiting are those that the division gives for the bytes used, joined.
+pub demand-3-stream : (ps : List (List ℕ)) → absorbAll untaken ps .divided ≡ divide (absorbAll untaken ps .used)
+demand-3-stream = pieces.pieces-divide
+
+-- Each next absorbing call uses as many bytes as the paper says, and at least one if its piece isn't empty.
+pub demand-3-stream-each : (ps : List (List ℕ)) (piece : List ℕ)
+    → let used = next (absorbAll untaken ps) piece .used in
+    Uses (absorbAll untaken ps .used) piece used × (1 ≤ length piece → 1 ≤ used)
+demand-3-stream-each ps piece = (pieces.pieces-use ps piece, pieces.pieces-use-some ps piece)
+
 module _ (b : List ℕ) (well : wellFormed b ≡ true) where
+  -- The records' half. Any list of feeding calls from a fresh feeder comes to what absorbing the pieces of its calls that are not refused comes
+  -- to, with the records handed out done in order and their replies joined.
+  pub demand-3-records : (cs : List Call) → AllBytes cs → callAll (begin b) cs ≡ doneFor b (absorbAll untaken (acceptedPieces cs))
+  demand-3-records = calls.calls-done b well
+
   -- From any well-formed store and a fresh feeder, after any list of calls with any pieces and any buffers, refused calls included: the joined
   -- replies, the total skipped, the bytes left waiting and the whole store are those of the definition for the bytes used, joined.
   pub demand-3 : (cs : List Call) → AllBytes cs → callAll (begin b) cs ≡ uncut (callAll (begin b) cs .used) b
-  demand-3 cs bytes = calls.agrees-uncut (calls.all-reached b well (begin b) cs bytes (calls.begin-reached b well) .agrees)
+  demand-3 cs bytes =
+      rw (demand-3-records cs bytes)
+      (unfold doneFor in calls.halves-uncut b well (absorbAll untaken (acceptedPieces cs)) (demand-3-stream (acceptedPieces cs)))
 
   -- "For every list of feeding calls from there, refused ones included, whatever piece and whatever reply buffer each brings, this holds after
   -- it." The same of the code: whatever calls of `Feeder::feed` a program makes, each with the state that the last one handed back and the store
@@ -176,15 +198,16 @@ module _ (b : List ℕ) (well : wellFormed b ≡ true) where
   -- Else it uses as many bytes as the paper says, and at least one if its piece isn't empty.
   pub demand-3-each : (cs : List Call) → AllBytes cs → (c : Call) → Answered (callAll (begin b) cs) c (answerTo (callAll (begin b) cs) c)
   demand-3-each cs bytes c =
-      calls.call-answered b well (callAll (begin b) cs) c (calls.all-reached b well (begin b) cs bytes (calls.begin-reached b well))
+      rw (demand-3-records cs bytes)
+      (calls.call-answered b well (absorbAll untaken (acceptedPieces cs)) (calls.end-reached b well cs bytes) c)
 
   -- Cutting a stream anywhere and offering each piece until it is used up uses the whole stream, so it gives the uncut answer.
   pub demand-3-cut : (buffer : List ℕ) → bufferLeast ≤ length buffer → (pieces : List (List ℕ)) → ((i : ℕ) → Bytes (getD pieces i []))
       → callAll (begin b) (offeringAll buffer pieces (begin b)) ≡ uncut (flatten pieces) b
-  unfolding begin
+  unfolding begin fresh doneFor doAll untaken
   demand-3-cut buffer large pieces bytes =
       demand-3 (offeringAll buffer pieces (begin b)) (calls.offeringAll-bytes b well buffer large pieces (begin b) bytes)
-      ∙ ap (λ (s : List ℕ). uncut s b) (calls.offeringAll-used b well buffer large pieces (begin b) bytes (calls.begin-reached b well))
+      ∙ ap (λ (s : List ℕ). uncut s b) (calls.offeringAll-used b well buffer large pieces untaken bytes (calls.untaken-reached b well))
 
 -- ════ Round trips
 

@@ -1,91 +1,83 @@
 -- What a refused call and a refused command leave, in bytes.
 use mathlib.Core.Path.{_≡_, refl, sym, ap, _∙_}
 use mathlib.Core.Logic.{_≢_}
-use mathlib.Core.Bool.{Bool, true, false, cond, not}
-use mathlib.Core.List.{List, [], _∷_, _++_}
+use mathlib.Core.Bool.{true, false, not}
+use mathlib.Core.List.{List, [], _∷_}
 use mathlib.Core.Option.{Option, none, some, Option·none-ne-some}
 use Prim.Native.Nat.{ℕ, zero, suc, _+_, _*_, _≤_, _<_}
 use native.Mathlib.Omega.{arith}
 use lib.Dec.{ltb}
-use lib.ListN.{length, getD, drop, length-append, length-drop}
-use borrow.Author.Tests.{ltb-false}
+use lib.ListN.{length, getD}
+use borrow.Author.Tests.{ltb-false, not-false}
 use Rattle.wire.specs.Lists.{orElse}
 use Rattle.wire.specs.Bytes.{Bytes, part}
-use Rattle.wire.specs.Reply.{laidOver}
+use Rattle.wire.proofs.Laying.{length-laid}
 use Rattle.store.specs.Layout.{headerSize, slotSize}
 use Rattle.store.specs.Store.{Entry, Slot, Store, encodeSlot, decode, encode, wellFormed, slotCount}
 use Rattle.store.specs.Time.{nowAt, live}
 use Rattle.store.proofs.Encode.{decode-valid, encode-decode, length-decode}
 use Rattle.store.proofs.Places.{encode-at}
+use Rattle.commands.specs.Refusal.{_when_, lowest, bufferLeast}
 use Rattle.commands.specs.Execute.{exec, execBytes}
+use Rattle.commands.proofs.Checks.{lowest-none}
 use Rattle.commands.proofs.Refused.{early-refusal, refused-keeps-live}
 use Rattle.commands.proofs.Keeps.{exec-valid}
 use Rattle.commands.proofs.Fit.{reply-fits}
 use Rattle.feeder.specs.declared.Feeder.{Feeder}
-use Rattle.feeder.specs.Record.{Record, recordOf}
+use Rattle.feeder.specs.Record.{Record}
+use Rattle.feeder.specs.State.{waitingIn}
+use Rattle.feeder.specs.Absorb.{absorb}
+use Rattle.feeder.specs.Feed.{Answer, checks, refusing, doing, answering, feed}
 use Rattle.feeder.specs.Calls.{Untouched}
-use Rattle.feeder.proofs.Call.{refusing-leaves}
-use Rattle.feeder.specs.Feed.{bufferLeast, waitingIn, isLeft, Answer, Place, firstRecord, refusing, absorbing, completing, offered, taking, feed}
 
--- bytes are taken with no refusal
-taking-answers : (w piece b buffer : List ℕ) → taking w piece b buffer .fed .refusal ≡ 0
-unfolding taking orElse absorbing completing
-taking-answers w piece b buffer = go (firstRecord (w ++ offered piece))
-  where
-    go : (m : Option Place)
-        → orElse m (absorbing (w ++ offered piece) (length (offered piece)) b buffer) (λ p. completing (w ++ offered piece) (length w) p b buffer) .fed .refusal
-        ≡ 0
-    go none = refl
-    go (some p) = refl
+-- ---- a refused call
 
--- a call's answer by its three tests: the state, the store and the buffer are refused
-abbrev answerBy : Feeder → List ℕ → List ℕ → List ℕ → Bool → Bool → Bool → Answer
-answerBy f piece b buffer x y z =
-    cond x (refusing 1 f b buffer) (cond y (refusing 2 f b buffer) (cond z (refusing 3 f b buffer) (taking (waitingIn f) piece b buffer)))
+pub refusing-leaves : (n : ℕ) (f : Feeder) (b buffer : List ℕ) → Untouched f b buffer (refusing n f b buffer)
+unfolding refusing
+refusing-leaves n f b buffer = record { used = refl; skipped = refl; replied = refl; feeder = refl; store = refl; same = refl }
+
+-- a call's answer by the lowest number that applies
+abbrev answerBy : Feeder → List ℕ → List ℕ → List ℕ → Option ℕ → Answer
+answerBy f piece b buffer m = orElse m (answering (absorb (waitingIn f) piece) b buffer) (λ n. refusing n f b buffer)
 
 pub refused-call : (f : Feeder) (piece b buffer : List ℕ) → feed f piece b buffer .fed .refusal ≢ 0 → Untouched f b buffer (feed f piece b buffer)
-unfolding feed
-refused-call f piece b buffer = go (not (isLeft f)) (not (wellFormed b)) (ltb (length buffer) bufferLeast)
+unfolding feed orElse answering
+refused-call f piece b buffer = go (lowest (checks f b buffer))
   where
-    go : (x y z : Bool) → answerBy f piece b buffer x y z .fed .refusal ≢ 0 → Untouched f b buffer (answerBy f piece b buffer x y z)
-    go true y z h = refusing-leaves 1 f b buffer
-    go false true z h = refusing-leaves 2 f b buffer
-    go false false true h = refusing-leaves 3 f b buffer
-    go false false false h = absurd (h (taking-answers (waitingIn f) piece b buffer))
-
--- the reply lies in the buffer, and the buffer keeps its length
-over-length : (r buffer : List ℕ) → length r ≤ length buffer → length (laidOver r buffer) ≡ length buffer
-unfolding laidOver
-over-length r buffer h = rw (length-append, length-drop) (omega arith)
+    go : (m : Option ℕ) → answerBy f piece b buffer m .fed .refusal ≢ 0 → Untouched f b buffer (answerBy f piece b buffer m)
+    go none h = absurd (h refl)
+    go (some n) h = refusing-leaves n f b buffer
 
 -- a reply on a well-formed store fits
 pub reply-short : (clock : ℕ) (command b : List ℕ) → wellFormed b ≡ true → length (execBytes clock command b .reply) ≤ bufferLeast
 unfolding execBytes
 reply-short clock command b well = reply-fits clock command (decode b) (decode-valid b well)
 
-taking-length : (w piece b buffer : List ℕ) → wellFormed b ≡ true → bufferLeast ≤ length buffer
-    → length (taking w piece b buffer .buffer) ≡ length buffer
-unfolding taking orElse absorbing completing
-taking-length w piece b buffer well large = go (firstRecord (w ++ offered piece))
-  where
-    go : (m : Option Place)
-        → length (orElse m (absorbing (w ++ offered piece) (length (offered piece)) b buffer) (λ p. completing (w ++ offered piece) (length w) p b buffer) .buffer)
-        ≡ length buffer
-    go none = refl
-    go (some p) =
-        let r : Record = recordOf (p .size) (drop (p .at) (w ++ offered piece)) in
-        over-length (execBytes (r .clock) (r .command) b .reply) buffer (omega (arith, reply-short (r .clock) (r .command) b well))
+doing-short : (m : Option Record) (b : List ℕ) → wellFormed b ≡ true → length (doing m b .reply) ≤ bufferLeast
+unfolding doing orElse
+doing-short none b well = omega arith
+doing-short (some r) b well = reply-short (r .clock) (r .command) b well
 
 pub buffer-length : (f : Feeder) (piece b buffer : List ℕ) → length (feed f piece b buffer .buffer) ≡ length buffer
-unfolding feed
-buffer-length f piece b buffer = go (not (isLeft f)) (wellFormed b) refl (ltb (length buffer) bufferLeast) refl
+unfolding feed orElse answering refusing
+buffer-length f piece b buffer = go (lowest (checks f b buffer)) refl
   where
-    go : (x y : Bool) → wellFormed b ≡ y → (z : Bool) → ltb (length buffer) bufferLeast ≡ z
-        → length (answerBy f piece b buffer x (not y) z .buffer) ≡ length buffer
-    go true y p z q = ap length (refusing-leaves 1 f b buffer .same)
-    go false false p z q = ap length (refusing-leaves 2 f b buffer .same)
-    go false true p true q = ap length (refusing-leaves 3 f b buffer .same)
-    go false true p false q = taking-length (waitingIn f) piece b buffer p (ltb-false (length buffer) bufferLeast q)
+    go : (m : Option ℕ) → lowest (checks f b buffer) ≡ m → length (answerBy f piece b buffer m .buffer) ≡ length buffer
+    go (some n) e = refl
+    go none e =
+        length-laid (doing m b .reply) buffer (omega (arith, doing-short m b well, ltb-false (length buffer) bufferLeast large))
+      where
+        m : Option Record
+        m = absorb (waitingIn f) piece .completed
+
+        late : (not (wellFormed b) ≡ false) × (lowest (3 when ltb (length buffer) bufferLeast ∷ []) ≡ none)
+        late = unfold checks in lowest-none _ _ (lowest-none _ _ e .1)
+
+        well : wellFormed b ≡ true
+        well = not-false (wellFormed b) (late .0)
+
+        large : ltb (length buffer) bufferLeast ≡ false
+        large = lowest-none _ _ (late .1) .0
 
 -- ---- a refused command, in the store's bytes
 

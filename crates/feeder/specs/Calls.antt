@@ -1,14 +1,19 @@
 -- A list of calls (demand 3): "Each call gets the state that the last one handed back and the store as it left it, and nobody else writes
 -- the store meanwhile." "A piece and a reply buffer are any bytes of any length, each call's own."
 use mathlib.Core.Path.{_≡_}
+use mathlib.Core.Bool.{cond}
 use mathlib.Core.List.{List, [], _∷_, _++_}
-use mathlib.Core.Logic.{_⊎_}
 use Prim.Native.Nat.{ℕ, zero, suc, _+_, _≤_, _<_}
+use lib.Dec.{ltb}
 use lib.ListN.{length, take, drop}
 use Rattle.wire.specs.Bytes.{Bytes}
+use Rattle.commands.specs.Execute.{Done}
 use Rattle.feeder.specs.declared.Feeder.{Feeder}
-use Rattle.feeder.specs.Stream.{divide, Meaning, meaning}
-use Rattle.feeder.specs.Feed.{bufferLeast, Answer, feed, stateOf, fresh, offered}
+use Rattle.feeder.specs.Stream.{doAll, Meaning, meaning}
+use Rattle.feeder.specs.State.{stateOf, fresh}
+use Rattle.feeder.specs.Pieces.{Taken, Uses}
+use Rattle.commands.specs.Refusal.{bufferLeast}
+use Rattle.feeder.specs.Feed.{Answer, feed}
 
 pub record Call : Type 0 where
   pub piece : List ℕ
@@ -48,6 +53,23 @@ unfoldable pub callAll : Total → List Call → Total
 callAll t [] = t
 callAll t (c ∷ cs) = callAll (tally t c (answerTo t c)) cs
 
+-- the pieces of the calls that are not refused, in order
+unfoldable pub acceptedPieces : List Call → List (List ℕ)
+acceptedPieces [] = []
+acceptedPieces (c ∷ cs) = cond (ltb (length (c .buffer)) bufferLeast) (acceptedPieces cs) (c .piece ∷ acceptedPieces cs)
+
+-- what calls come to whose absorbing came to t: the records handed out are done in order, and their replies are joined
+unfoldable pub doneFor : List ℕ → Taken → Total
+doneFor b t =
+    let done : Done = doAll (t .divided .records) b in
+    record {
+      used = t .used;
+      replies = done .reply;
+      skipped = t .divided .skipped;
+      feeder = stateOf (t .divided .rest);
+      store = done .store;
+    }
+
 -- calls as a program made them: each answer is one that `Feeder::feed` promises for the state, the piece, the store and the buffer that it got
 pub data Ran : Total → List Call → Total → Type 0 where
   ended : {t : Total} → Ran t [] t
@@ -60,13 +82,6 @@ unfoldable pub uncut : List ℕ → List ℕ → Total
 uncut s b =
     let m : Meaning = meaning s b in
     record { used = s; replies = m .replies; skipped = m .skipped; feeder = stateOf (m .rest); store = m .store }
-
--- "A call uses the first bytes of its piece: .. up to and with the last byte of the first record completed, but no further than the piece's
--- end or 65,536 bytes." Said by the division of the stream: `stream` is what was used before the call.
-pub record Uses (stream piece : List ℕ) (used : ℕ) : Type 0 where
-  pub within : used ≤ length (offered piece)
-  pub none-before : (v : ℕ) → v < used → divide (stream ++ take v piece) .records ≡ divide stream .records
-  pub stops : (used ≡ length (offered piece)) ⊎ (length (divide (stream ++ take used piece) .records) ≡ suc (length (divide stream .records)))
 
 -- "A refused call uses no byte and changes no lent memory." "A refused call has reply length 0, skips none and hands its state back as it came."
 pub record Untouched (f : Feeder) (b buffer : List ℕ) (a : Answer) : Type 0 where

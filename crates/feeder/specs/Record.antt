@@ -25,6 +25,10 @@ commandAt = 12
 abbrev pub commandMost : ℕ
 commandMost = 1024
 
+-- the longest record
+abbrev pub recordMost : ℕ
+recordMost = commandAt + commandMost
+
 pub record Record : Type 0 where
   pub clock : ℕ
   pub command : List ℕ

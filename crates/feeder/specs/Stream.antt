@@ -1,8 +1,8 @@
 -- A stream's division, and demand 3's definition: it "knows no calls and no cuts. It takes one stream and a store."
 use mathlib.Core.List.{List, [], _∷_, _++_}
-use Prim.Native.Nat.{ℕ, zero, suc, _+_}
+use Prim.Native.Nat.{ℕ, zero, suc, _+_, _-_}
 use Rattle.commands.specs.Execute.{Done, execBytes}
-use Rattle.feeder.specs.Record.{Record, Head, headOf, recordOf}
+use Rattle.feeder.specs.Record.{Record, Head, headOf, recordOf, commandAt}
 use Rattle.feeder.specs.Record.Head.{skip, whole, wait}
 
 -- "The rule above divides the stream into skipped bytes, records and a rest that waits."
@@ -20,11 +20,11 @@ skipping d = record { records = d .records; skipped = suc (d .skipped); rest = d
 abbrev pub recording : Record → Division → Division
 recording r d = record { records = r ∷ d .records; skipped = d .skipped; rest = d .rest }
 
--- what the head of s makes of s; the last argument divides what follows the first byte of s, after so many bytes more of a record: the 11 of
+-- what the head of s makes of s; the last argument divides what follows the first byte of s, after so many bytes more of a record: those of
 -- its head after the first, and its command
 unfoldable pub dividedAt : Head → List ℕ → (ℕ → Division) → Division
 dividedAt skip s later = skipping (later 0)
-dividedAt (whole n) s later = recording (recordOf n s) (later (11 + n))
+dividedAt (whole n) s later = recording (recordOf n s) (later (commandAt - 1 + n))
 dividedAt wait s later = ended s
 
 -- the division of bytes of which the first k belong to the record before them

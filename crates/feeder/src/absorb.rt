@@ -1,8 +1,10 @@
 // Taking bytes: up to the first record completed, the piece's end or 65,536 bytes.
-use crate::heads::COMMAND;
+use crate::record::CLOCK_AT;
+use crate::record::COMMAND_AT;
+use crate::record::LENGTH_AT;
 use crate::scan::Stop;
 use crate::scan::first_stop;
-use crate::state::WAITING;
+use crate::state::WAITING_MOST;
 use wire::numbers::read_le;
 use wire::slices::clear;
 use wire::slices::copy;
@@ -12,16 +14,13 @@ ghost use mathlib.Core.List.{_++_};
 ghost use Prim.Native.Nat.{_+_, _≤_};
 ghost use lib.ListN.{length, take, drop};
 ghost use Rattle.wire.specs.Reply.{laidOver};
-ghost use Rattle.feeder.specs.Feed.{waitingMost, stateOf, fresh, waitingIn, isLeft, offered};
-ghost use Rattle.feeder.specs.Promises.{recordMost, Completing, completedAt, absorbed};
+ghost use Rattle.feeder.specs.Record.{recordMost};
+ghost use Rattle.feeder.specs.State.{waitingMost, stateOf, fresh, waitingIn, isLeft};
+ghost use Rattle.feeder.specs.Absorb.{offered};
+ghost use Rattle.feeder.specs.Promises.{Completing, Completes, Absorbs};
 
 // The most bytes of a piece that a call uses.
-const USED: usize = 65536;
-
-// Where the clock stands in a record, and where it ends.
-const CLOCK: usize = 2;
-
-const CLOCK_END: usize = 10;
+const USED_MOST: usize = 65536;
 
 // The record completed: its clock, and where its command stands, in the piece or in the bytes that were joined.
 pub enum Completed {
@@ -50,15 +49,16 @@ pub struct Absorbed {
 fn offer(piece: &[u8]) -> &[u8]
     ensures { λ r. ⌜ now r ≡ offered (now (piece .entry)) ⌝ }
 {
-    if USED < piece.len() {
-        return &piece[..USED];
+    if USED_MOST < piece.len() {
+        return &piece[..USED_MOST];
     }
     piece
 }
 
 // Lays the bytes from a place on, of the waiting ones and a piece, over the start of `out`.
 fn gather(waiting: &[u8], piece: &[u8], at: usize, out: &mut [u8])
-    requires { ⌜ (at ≤ length (now waiting) + length (now piece)) × (length (now waiting) + length (now piece) ≤ at + length (now out)) ⌝ }
+    requires { let end = length (now waiting) + length (now piece) in
+        ⌜ (at ≤ end) × (end ≤ at + length (now out)) ⌝ }
     ensures { λ _. ⌜ now (out .exit) ≡ laidOver (drop at (now (waiting .entry) ++ now (piece .entry))) (now (out .entry)) ⌝ }
 {
     let count = waiting.len();
@@ -83,25 +83,27 @@ fn append(out: &mut [u8], count: usize, piece: &[u8])
 // The record at a place, with a command of so many bytes. One that starts in the waiting bytes is joined in `joined`.
 fn complete(waiting: &[u8], piece: &[u8], at: usize, size: usize, joined: &mut [u8]) -> Completed
     requires { ⌜ Completing (now waiting) (now piece) at size (now joined) ⌝ }
-    ensures { λ r. ⌜ record { completed = r; joined = now (joined .exit) } ≡ completedAt (now (waiting .entry)) (now (piece .entry)) (record { at = at; size = size }) (now (joined .entry)) ⌝ }
+    ensures { λ r.
+        let s = drop at (now (waiting .entry) ++ now (piece .entry)) in
+        ⌜ Completes s size (now (piece .entry)) (now (joined .entry)) r (now (joined .exit)) ⌝ }
 {
     let count = waiting.len();
     if count <= at {
         let from = at - count;
         let bytes = &piece[from..];
-        let clock = read_le(&bytes[CLOCK..CLOCK_END]);
+        let clock = read_le(&bytes[CLOCK_AT..LENGTH_AT]);
         return Completed::InPiece {
             clock,
-            start: from + COMMAND,
+            start: from + COMMAND_AT,
             size,
         };
     }
-    let end = at + (COMMAND + size) - count;
+    let end = at + (COMMAND_AT + size) - count;
     gather(waiting, &piece[..end], at, joined);
-    let clock = read_le(&joined[CLOCK..CLOCK_END]);
+    let clock = read_le(&joined[CLOCK_AT..LENGTH_AT]);
     Completed::Joined {
         clock,
-        start: COMMAND,
+        start: COMMAND_AT,
         size,
     }
 }
@@ -118,13 +120,15 @@ fn forget(waiting: &mut [u8], count: usize)
 fn keep(waiting: &mut [u8], count: usize, piece: &[u8], at: usize) -> usize
     requires { ⌜ isLeft (record { waiting = now waiting; count = count }) ≡ true ⌝ }
     requires { ⌜ (at ≤ count + length (now piece)) × (count + length (now piece) ≤ at + waitingMost) ⌝ }
-    ensures { λ r. ⌜ record { waiting = now (waiting .exit); count = r } ≡ stateOf (drop at (waitingIn (record { waiting = now (waiting .entry); count = count }) ++ now (piece .entry))) ⌝ }
+    ensures { λ r.
+        let before = waitingIn (record { waiting = now (waiting .entry); count = count }) in
+        ⌜ record { waiting = now (waiting .exit); count = r } ≡ stateOf (drop at (before ++ now (piece .entry))) ⌝ }
 {
     if at == 0 {
         append(waiting, count, piece);
         return count + piece.len();
     }
-    let mut rest = [0u8; WAITING];
+    let mut rest = [0u8; WAITING_MOST];
     gather(&waiting[..count], piece, at, &mut rest);
     copy(&rest, waiting);
     count + piece.len() - at
@@ -132,14 +136,16 @@ fn keep(waiting: &mut [u8], count: usize, piece: &[u8], at: usize) -> usize
 
 // Takes bytes of a piece where so many of the lent places wait. A record that does not lie whole in it is joined in `joined`.
 pub fn absorb(
-    waiting: &mut [u8; WAITING],
+    waiting: &mut [u8; WAITING_MOST],
     count: usize,
     piece: &[u8],
     joined: &mut [u8],
 ) -> Absorbed
     requires { ⌜ isLeft (record { waiting = now waiting; count = count }) ≡ true ⌝ }
     requires { ⌜ recordMost ≤ length (now joined) ⌝ }
-    ensures { λ r. ⌜ record { absorbed = r; waiting = now (waiting .exit); joined = now (joined .exit) } ≡ absorbed (record { waiting = now (waiting .entry); count = count }) (now (piece .entry)) (now (joined .entry)) ⌝ }
+    ensures { λ r.
+        ⌜ Absorbs (record { waiting = now (waiting .entry); count = count }) (now (piece .entry)) (now (joined .entry))
+        r (now (waiting .exit)) (now (joined .exit)) ⌝ }
 {
     let places = &mut waiting[..];
     let offered = offer(piece);
@@ -147,7 +153,7 @@ pub fn absorb(
     match stop {
         Stop::Record(at, size) => {
             let completed = complete(&places[..count], offered, at, size, joined);
-            let end = at + (COMMAND + size);
+            let end = at + (COMMAND_AT + size);
             forget(places, count);
             Absorbed {
                 used: end - count,

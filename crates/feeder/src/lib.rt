@@ -1,15 +1,17 @@
 // The feeder: records from a byte stream that arrives in pieces.
 
 mod absorb;
-mod feeding;
-mod heads;
+mod feed;
+mod record;
 mod scan;
 mod state;
+
+use crate::state::WAITING_MOST;
 
 // The bytes that wait for the rest of a record, and how many they are; the places after them are zero.
 #[repr(C)]
 pub struct Feeder {
-    pub waiting: [u8; 1035],
+    pub waiting: [u8; WAITING_MOST],
     pub count: usize,
 }
 

@@ -1,13 +1,13 @@
 // Where reading stops in the waiting bytes and those of a piece, taken as one list.
-use crate::heads::FIRST_MARK;
-use crate::heads::Head;
-use crate::heads::head_at;
+use crate::record::FIRST_MARK;
+use crate::record::Head;
+use crate::record::head_at;
 ghost use mathlib.Core.Path.{_≡_};
 ghost use mathlib.Core.Bool.{true};
 ghost use mathlib.Core.List.{_++_};
 ghost use Prim.Native.Nat.{_+_, _≤_, _<_};
 ghost use lib.ListN.{length};
-ghost use Rattle.feeder.specs.Promises.{Unmarked, Passed, NextPlace, stopOf};
+ghost use Rattle.feeder.specs.Promises.{blockSize, Unmarked, UnmarkedUpTo, NextPlace, stopOf};
 
 // The first record, by its place and its command's size, or where the rest that waits starts.
 pub enum Stop {
@@ -16,11 +16,11 @@ pub enum Stop {
 }
 
 // Bytes that are looked at together.
-const BLOCK: usize = 64;
+const BLOCK_SIZE: usize = 64;
 
 // Whether no byte that begins a mark stands in a block. All its bytes are looked at, with no early end, so that the loop can run on vectors.
 fn is_unmarked(block: &[u8]) -> bool
-    requires { ⌜ length (now block) ≤ 64 ⌝ }
+    requires { ⌜ length (now block) ≤ blockSize ⌝ }
     ensures { λ r. ⌜ (r ≡ true → Unmarked (now (block .entry))) ⌝ }
 {
     let mut marks: u8 = 0;
@@ -37,11 +37,11 @@ fn is_unmarked(block: &[u8]) -> bool
 // Past all blocks of a piece, from a place on, in which no byte that begins a mark stands.
 fn pass_blocks(piece: &[u8], from: usize) -> usize
     requires { ⌜ from ≤ length (now piece) ⌝ }
-    ensures { λ r. ⌜ Passed (now (piece .entry)) from r ⌝ }
+    ensures { λ r. ⌜ UnmarkedUpTo (now (piece .entry)) from r ⌝ }
 {
     let mut i = from;
-    while BLOCK <= piece.len() - i {
-        let end = i + BLOCK;
+    while BLOCK_SIZE <= piece.len() - i {
+        let end = i + BLOCK_SIZE;
         if !is_unmarked(&piece[i..end]) {
             return i;
         }
@@ -53,7 +53,7 @@ fn pass_blocks(piece: &[u8], from: usize) -> usize
 // The next byte of a piece from a place on that begins a mark, or the end.
 fn next_mark(piece: &[u8], from: usize) -> usize
     requires { ⌜ from ≤ length (now piece) ⌝ }
-    ensures { λ r. ⌜ Passed (now (piece .entry)) from r ⌝ }
+    ensures { λ r. ⌜ UnmarkedUpTo (now (piece .entry)) from r ⌝ }
 {
     let mut i = pass_blocks(piece, from);
     while i < piece.len() {

@@ -1,16 +1,16 @@
 // The feeder's state: a fresh one, and whether feeding leaves a given one.
 use crate::Feeder;
-use crate::heads::Head;
-use crate::heads::head_at;
+use crate::record::Head;
+use crate::record::head_at;
 use wire::slices::all_zero;
 ghost use mathlib.Core.Path.{_≡_};
 ghost use lib.ListN.{length};
 ghost use Rattle.wire.specs.Bytes.{same};
 ghost use Rattle.feeder.specs.Stream.{divide};
-ghost use Rattle.feeder.specs.Feed.{waitingMost, fresh, isLeft};
+ghost use Rattle.feeder.specs.State.{waitingMost, fresh, isLeft};
 
 // The most bytes that wait.
-pub const WAITING: usize = 1035;
+pub const WAITING_MOST: usize = 1035;
 
 // Whether bytes, read alone, all wait.
 fn all_wait(s: &[u8]) -> bool
@@ -32,7 +32,7 @@ pub fn feeding_leaves(waiting: &[u8], count: usize) -> bool
     requires { ⌜ length (now waiting) ≡ waitingMost ⌝ }
     ensures { λ r. ⌜ r ≡ isLeft (record { waiting = now (waiting .entry); count = count }) ⌝ }
 {
-    if WAITING < count {
+    if WAITING_MOST < count {
         return false;
     }
     if !all_zero(&waiting[count..]) {
@@ -47,7 +47,7 @@ impl Feeder {
         ensures { λ r. ⌜ r ≡ fresh ⌝ }
     {
         Feeder {
-            waiting: [0u8; WAITING],
+            waiting: [0u8; WAITING_MOST],
             count: 0,
         }
     }

@@ -1,10 +1,13 @@
 // Does the rows of standard input, each on an empty store of two slots, and writes each command with its reply, and then what the store holds. A row is
 // a line that names it and a line for each command: the record's clock, and the words with one space between. An empty line stands between rows.
+use commands::execute::BUFFER_LEAST;
 use commands::execute::execute;
 use libc::STDIN_FILENO;
 use libc::STDOUT_FILENO;
 use store::Expiry;
 use store::check::well_formed;
+use store::layout::HEADER_SIZE;
+use store::layout::SLOT_SIZE;
 use store::read;
 use wire::integers::Natural;
 use wire::integers::read_natural;
@@ -20,10 +23,10 @@ ghost use Rattle.store.specs.Promises.{Held};
 
 const INPUT: usize = 8192;
 
-// 16 bytes and two slots of 128.
-const STORE: usize = 272;
+// A store of two slots.
+const STORE: usize = HEADER_SIZE + 2 * SLOT_SIZE;
 
-const REPLY: usize = 56000;
+const REPLY: usize = BUFFER_LEAST;
 
 // The longest line of words, and room for it as RESP.
 const LINE: usize = 160;
@@ -125,7 +128,8 @@ fn answer(clock: u64, command: &[u8], store: &mut [u8]) {
         return;
     }
     let mut reply = [0u8; REPLY];
-    let n = execute(clock, command, store, &mut reply);
+    let done = execute(clock, command, store, &mut reply);
+    let n = done.replied;
     write(b"      ");
     write_spelt(&reply[..n]);
 }

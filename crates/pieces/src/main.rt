@@ -1,19 +1,22 @@
 // Feeds the stream of standard input uncut, and then in pieces of 1, 2, 7 and 1,000 bytes, each way from a fresh feeder and an empty store of four
 // slots, and writes what each way comes to and whether it comes to the same as uncut.
+use commands::execute::BUFFER_LEAST;
 use feeder::Fed;
 use feeder::Feeder;
 use libc::STDIN_FILENO;
 use libc::STDOUT_FILENO;
 use std::num::wrapping_add_u64;
+use store::layout::HEADER_SIZE;
+use store::layout::SLOT_SIZE;
 ghost use Prim.Native.Nat.{_≤_, _<_};
 ghost use lib.ListN.{length};
 
 const STREAM: usize = 100000;
 
-// 16 bytes and four slots of 128.
-const STORE: usize = 528;
+// A store of four slots.
+const STORE: usize = HEADER_SIZE + 4 * SLOT_SIZE;
 
-const REPLY: usize = 56000;
+const REPLY: usize = BUFFER_LEAST;
 
 const MODULUS: u64 = 4294967291;
 

@@ -9,7 +9,7 @@ use native.Mathlib.Omega.{arith}
 use lib.ListN.{length, drop, getD, length-drop, drop-of-length-le}
 use lib.Seq.{drop-cons, getD-drop}
 use Rattle.wire.specs.Lists.{any, keep, isSome, orElse}
-use Rattle.wire.proofs.Lists.{both-ways}
+use Rattle.wire.proofs.Lists.{both-ways, impossible}
 use Rattle.store.specs.declared.Found.the-variants as founds
 use Rattle.store.specs.Layout.{headerSize, slotSize}
 use Rattle.store.specs.Store.{Slot, decodeSlot, slotCount, decode, wellFormed}
@@ -113,7 +113,7 @@ module _ (p : Slot → Bool) (b : List ℕ) (from i : ℕ) (z : p none ≡ false
   found-held h = go (lowestSlot p (drop from (decode b .slots))) refl h
     where
       go : (o : Option ℕ) → lowestSlot p (drop from (decode b .slots)) ≡ o → founds.At i ≡ foundFor (Option·map (λ j. from + j) o) → Held b i
-      go none q r = let x : _≡_ {A = ℕ} 0 1 = cc in absurd (omega arith)
+      go none q r = impossible cc
       go (some j) q r = later-held j (cc) (lowest-some p (drop from (decode b .slots)) j q)
 
 pub named-held : (p : Slot → Bool) (b : List ℕ) (i : ℕ) → p none ≡ false → wellFormed b ≡ true → founds.At i ≡ foundFor (lowestSlot p (decode b .slots)) → Held b i

@@ -10,7 +10,7 @@ use borrow.Author.Tests.{ltb-true, ltb-false, eqb-true, eqb-false}
 use lib.ListN.{length, getD}
 use Rattle.wire.specs.Lists.{orElse}
 use Rattle.wire.specs.Bytes.{same}
-use Rattle.wire.proofs.Lists.{and-left, and-right, both-ways}
+use Rattle.wire.proofs.Lists.{and-left, and-right, both-ways, impossible}
 use Rattle.wire.proofs.Bytes.{same-true, same-refl, same-sym}
 use Rattle.store.specs.Store.{Entry, Slot, holds, clash}
 use Rattle.store.specs.Time.{lowestSlot, entryOf}
@@ -26,7 +26,7 @@ lowest-cons : (p : Slot → Bool) (s : Slot) (ss : List Slot) (i : ℕ) (t : Boo
     → cond t (some 0) (Option·map suc o) ≡ some i → Lowest p (s ∷ ss) i
 lowest-cons p s ss zero true o e f h = record { inside = omega arith; here = e; earlier = λ j l. absurd (omega arith) }
 lowest-cons p s ss (suc i) true o e f h = let z : _≡_ {A = ℕ} 0 (suc i) = cc in absurd (omega arith)
-lowest-cons p s ss i false none e f h = let z : _≡_ {A = ℕ} 0 1 = cc in absurd (omega arith)
+lowest-cons p s ss i false none e f h = impossible cc
 lowest-cons p s ss zero false (some k) e f h = let z : _≡_ {A = ℕ} 0 (suc k) = cc in absurd (omega arith)
 lowest-cons p s ss (suc i) false (some k) e f h = go (f i (cc))
   where
@@ -40,7 +40,7 @@ lowest-cons p s ss (suc i) false (some k) e f h = go (f i (cc))
 -- the lowest slot of which p holds: it is inside, p holds of it, and of none before it
 pub lowest-some : (p : Slot → Bool) (ss : List Slot) (i : ℕ) → lowestSlot p ss ≡ some i → Lowest p ss i
 unfolding lowestSlot
-lowest-some p [] i h = let z : _≡_ {A = ℕ} 0 1 = cc in absurd (omega arith)
+lowest-some p [] i h = impossible cc
 lowest-some p (s ∷ ss) i h = lowest-cons p s ss i (p s) (lowestSlot p ss) refl (lowest-some p ss) h
 
 none-cons : (t : Bool) (o : Option ℕ) → cond t (some 0) (Option·map suc o) ≡ none → (t ≡ false) × (o ≡ none)

@@ -1,27 +1,27 @@
 -- Laws of the tests of a store's bytes, in the forms in which the code makes them.
 use mathlib.Core.Path.{_≡_, refl, sym, _∙_}
 use mathlib.Core.Bool.{Bool, true, false, cond, _&&_, and-true, and-false}
-use mathlib.Core.List.{List, [], _∷_, _++_}
+use mathlib.Core.List.{List, [], _∷_}
 use mathlib.Core.Option.{none}
-use Prim.Native.Nat.{ℕ, _+_, _-_, _*_, _/_, _≤_, _<_}
+use Prim.Native.Nat.{ℕ, _+_, _-_, _*_, _≤_, _<_}
 use native.Mathlib.Numerals.{add-one}
 use native.Mathlib.Omega.{arith}
-use lib.Dec.{leb, ltb}
+use lib.Dec.{leb}
 use lib.ListN.{length, drop, getD, length-map, List·getD-map, drop-of-length-le}
 use lib.Seq.{drop-drop, drop-cons}
 use lib.Pow.{areBytes}
 use borrow.Author.Tests.{eq-eqb, ne-eqb, le-leb, lt-leb, leb-true, leb-false, eqb-true}
 use Rattle.wire.specs.Lists.{every, all, any}
-use Rattle.wire.specs.Bytes.{Bytes, part, allZero}
+use Rattle.wire.specs.Bytes.{Bytes, part}
 use Rattle.wire.proofs.Lists.{all-at, every-at}
 use Rattle.wire.proofs.Bytes.{bytes-part}
-use Rattle.store.specs.Layout.{headerSize, slotSize, slotsMost, clockSize, reservedSize, timeLimit}
-use Rattle.store.specs.Store.{decodeSlot, slotsIn, slotsWithin, slotCount, slotBytes, clockOf, decode, slotWell, holds, distinct, wellFormed, sizeTests, headerTests}
+use Rattle.store.specs.Layout.{headerSize, slotSize, slotsMost}
+use Rattle.store.specs.Store.{decodeSlot, slotsIn, slotsWithin, slotCount, slotBytes, decode, slotWell, holds, distinct, wellFormed, sizeTests, headerTests}
 use Rattle.store.specs.Promises.{SlotBytes, slotAt, countFor, slotsOf, SlotsWell}
 use Rattle.store.proofs.Pieces.{length-part}
 use Rattle.store.proofs.Encode.{length-slotsIn}
 use Rattle.store.proofs.Places.{slotsIn-at}
-use Rattle.store.proofs.SlotChecks.{every-append, every-fails}
+use Rattle.store.proofs.SlotChecks.{every-fails}
 
 -- ---- slots by their number
 

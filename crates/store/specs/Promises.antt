@@ -1,14 +1,14 @@
 -- What the functions of the store ask and answer, in the terms of the other definitions.
 use mathlib.Core.Path.{_≡_}
-use mathlib.Core.Bool.{Bool, true, false, cond, _&&_, _||_}
+use mathlib.Core.Bool.{Bool, true, false, cond, _&&_}
 use mathlib.Core.List.{List, [], _∷_, map, _++_}
 use mathlib.Core.Option.{Option, none, some, Option·map}
 use Prim.Native.Nat.{ℕ, _+_, _-_, _*_, _/_, _%_, _^_, _≤_, _<_}
 use lib.Bits.{bitOr, bitXor}
-use lib.Dec.{leb, ltb, eqb}
+use lib.Dec.{eqb}
 use lib.ListN.{length, drop, getD, set}
 use Rattle.wire.specs.Lists.{every, all, any, orElse}
-use Rattle.wire.specs.Bytes.{Bytes, fromLE, part, allZero, toLE}
+use Rattle.wire.specs.Bytes.{Bytes, fromLE, part, toLE}
 use Rattle.store.specs.declared.Expiry.{Expiry}
 use Rattle.store.specs.declared.Expiry.the-variants.{Never, At}
 use Rattle.store.specs.declared.Found.{Found}
@@ -76,12 +76,12 @@ unfoldable pub spreadOf : ℕ → ℕ → ℕ
 spreadOf x y = bitXor (halvesSum x y) (halvesSum x y / 2 ^ 31) % 2 ^ 32
 
 -- a number of a slot's key and field
-unfoldable pub nameOf : List ℕ → ℕ
-nameOf t = spreadOf (keyWord (part keyAt keyMost t)) (fieldWord (part fieldAt fieldMost t))
+unfoldable pub nameHash : List ℕ → ℕ
+nameHash t = spreadOf (keyWord (part keyAt keyMost t)) (fieldWord (part fieldAt fieldMost t))
 
--- The marks of names are bits: each name has two, which are set where the name was seen.
-abbrev pub marksSize : ℕ
-marksSize = 512
+-- The names seen are kept in a Bloom filter: the hash of each sets two bits.
+abbrev pub filterWords : ℕ
+filterWords = 512
 
 -- bit a is set where setting it changes nothing
 unfoldable pub hasBit : ℕ → List ℕ → Bool
@@ -96,35 +96,35 @@ firstBit name = name / 2 ^ 17 % 32768
 unfoldable pub secondBit : ℕ → ℕ
 secondBit name = name % 32768
 
-unfoldable pub seen : ℕ → List ℕ → Bool
-seen name m = hasBit (firstBit name) m && hasBit (secondBit name) (withBit (firstBit name) m)
+unfoldable pub mayContain : ℕ → List ℕ → Bool
+mayContain name m = hasBit (firstBit name) m && hasBit (secondBit name) (withBit (firstBit name) m)
 
-unfoldable pub withMark : ℕ → List ℕ → List ℕ
-withMark name m = withBit (secondBit name) (withBit (firstBit name) m)
+unfoldable pub withName : ℕ → List ℕ → List ℕ
+withName name m = withBit (secondBit name) (withBit (firstBit name) m)
 
--- the marks with those of a slot's name
-unfoldable pub withSlotMark : List ℕ → List ℕ → List ℕ
-withSlotMark t m = cond (eqb (getD t stateAt 0) emptyState) m (withMark (nameOf t) m)
+-- the filter with a slot's name
+unfoldable pub withSlotName : List ℕ → List ℕ → List ℕ
+withSlotName t m = cond (eqb (getD t stateAt 0) emptyState) m (withName (nameHash t) m)
 
-pub record HasMarks (name : ℕ) (m : List ℕ) : Type 0 where
+pub record HasBits (name : ℕ) (m : List ℕ) : Type 0 where
   pub first : hasBit (firstBit name) m ≡ true
   pub second : hasBit (secondBit name) m ≡ true
 
--- every slot from slot i on that holds an entry has its marks
-pub record Marked (count : ℕ) (b : List ℕ) (i : ℕ) (m : List ℕ) : Type 0 where
-  pub size : length m ≡ marksSize
-  pub marks : (j : ℕ) → i ≤ j → j < count → (getD (slotAt b j) stateAt 0 ≡ emptyState → ⊥) → HasMarks (nameOf (slotAt b j)) m
+-- the name of every slot from slot i on that holds an entry is in the filter
+pub record Covered (count : ℕ) (b : List ℕ) (i : ℕ) (m : List ℕ) : Type 0 where
+  pub size : length m ≡ filterWords
+  pub names : (j : ℕ) → i ≤ j → j < count → (getD (slotAt b j) stateAt 0 ≡ emptyState → ⊥) → HasBits (nameHash (slotAt b j)) m
 
--- slot i is to be looked at, with the marks of those after it
+-- slot i is to be looked at, with the filter of the names after it
 pub record Turn (count : ℕ) (b : List ℕ) (i : ℕ) (m : List ℕ) : Type 0 where
   pub slots : SlotsWell count b
   pub inside : i < count
-  pub marked : Marked count b (i + 1) m
+  pub covered : Covered count b (i + 1) m
 
--- whether slot i has the name of a later one, and the marks with its own
+-- whether slot i has the name of a later one, and the filter with its own
 pub record Turned (count : ℕ) (b : List ℕ) (i : ℕ) (before after : List ℕ) (r : Bool) : Type 0 where
   pub answer : r ≡ any (clash (decodeSlot (slotAt b i))) (drop (i + 1) (slotsOf count b))
-  pub marks : after ≡ withSlotMark (slotAt b i) before
+  pub filter : after ≡ withSlotName (slotAt b i) before
 
 -- ---- a store
 

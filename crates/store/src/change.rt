@@ -110,7 +110,9 @@ pub fn put(
     expiry: Expiry,
 )
     requires { ⌜ Placeable (now store) i (entry (now key) (now field) (now value) version expiry) ⌝ }
-    ensures { λ _. ⌜ Holds (now (store .exit)) (withSlot i (some (entry (now (key .entry)) (now (field .entry)) (now (value .entry)) version expiry)) (decode (now (store .entry)))) ⌝ }
+    ensures { λ _.
+        let e = entry (now (key .entry)) (now (field .entry)) (now (value .entry)) version expiry in
+        ⌜ Holds (now (store .exit)) (withSlot i (some e) (decode (now (store .entry)))) ⌝ }
 {
     let start = HEADER_SIZE + SLOT_SIZE * i;
     let end = start + SLOT_SIZE;
@@ -120,7 +122,9 @@ pub fn put(
 // Writes the version and the expiry of the entry in slot i anew.
 pub fn restamp(store: &mut [u8], i: usize, version: u64, expiry: Expiry)
     requires { ⌜ (Held (now store) i) × (version ≤ versionMost) × (instantOf expiry ≤ timeLimit) ⌝ }
-    ensures { λ _. ⌜ Holds (now (store .exit)) (withSlot i (some (stamped version expiry (entryAt (decode (now (store .entry)) .slots) i))) (decode (now (store .entry)))) ⌝ }
+    ensures { λ _.
+        let before = decode (now (store .entry)) in
+        ⌜ Holds (now (store .exit)) (withSlot i (some (stamped version expiry (entryAt (before .slots) i))) before) ⌝ }
 {
     let start = HEADER_SIZE + SLOT_SIZE * i;
     let end = start + SLOT_SIZE;

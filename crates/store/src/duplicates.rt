@@ -10,15 +10,15 @@ ghost use lib.ListN.{length, drop};
 ghost use Rattle.wire.specs.Lists.{any};
 ghost use Rattle.store.specs.Layout.{slotSize, keyMost, fieldMost};
 ghost use Rattle.store.specs.Store.{holds, distinct};
-ghost use Rattle.store.specs.Promises.{slotsOf, SlotsWell, rotated, keyWord, fieldWord, spreadOf, nameOf, marksSize, hasBit, withBit, seen, withMark, Turn, Turned};
+ghost use Rattle.store.specs.Promises.{slotsOf, SlotsWell, rotated, keyWord, fieldWord, spreadOf, nameHash, filterWords, hasBit, withBit, mayContain, withName, Turn, Turned};
 
 // The halves of a word are below it.
 const HALF: u64 = 0x1_0000_0000;
 
-// The size of the marks of the names that were seen, of which a word has 64.
-const MARKS: usize = 512;
+// The Bloom filter of the names seen: its words of 64 bits, and its bits.
+const FILTER_WORDS: usize = 512;
 
-const BITS: u64 = 32768;
+const FILTER_BITS: u64 = 32768;
 
 // Whether a slot from a slot on holds an entry of a key and a field.
 fn named_from(store: &[u8], count: usize, from: usize, key: &[u8], field: &[u8]) -> bool
@@ -74,9 +74,9 @@ fn spread(x: u64, y: u64) -> u64
 }
 
 // A number of a slot's key and field: the same for the same ones.
-fn name_of(t: &[u8]) -> u64
+fn name_hash(t: &[u8]) -> u64
     requires { ⌜ length (now t) ≡ slotSize ⌝ }
-    ensures { λ r. ⌜ r ≡ nameOf (now (t .entry)) ⌝ }
+    ensures { λ r. ⌜ r ≡ nameHash (now (t .entry)) ⌝ }
 {
     spread(
         key_word(&t[KEY_AT..FIELD_AT]),
@@ -84,41 +84,41 @@ fn name_of(t: &[u8]) -> u64
     )
 }
 
-// Sets a bit of the marks, and answers whether it was set before.
-fn set_bit(marks: &mut [u64], a: usize) -> bool
-    requires { ⌜ a / 64 < length (now marks) ⌝ }
-    ensures { λ r. ⌜ r ≡ hasBit a (now (marks .entry)) ⌝ }
-    ensures { λ _. ⌜ now (marks .exit) ≡ withBit a (now (marks .entry)) ⌝ }
+// Sets a bit of the filter, and answers whether it was set before.
+fn set_bit(filter: &mut [u64], a: usize) -> bool
+    requires { ⌜ a / 64 < length (now filter) ⌝ }
+    ensures { λ r. ⌜ r ≡ hasBit a (now (filter .entry)) ⌝ }
+    ensures { λ _. ⌜ now (filter .exit) ≡ withBit a (now (filter .entry)) ⌝ }
 {
     let i = a / 64;
-    let old = marks[i];
+    let old = filter[i];
     let new = old | 1 << (a % 64);
-    marks[i] = new;
+    filter[i] = new;
     new == old
 }
 
-// Marks a name by its two bits, and answers whether both were set before.
-fn mark(marks: &mut [u64], name: u64) -> bool
-    requires { ⌜ length (now marks) ≡ marksSize ⌝ }
-    ensures { λ r. ⌜ r ≡ seen name (now (marks .entry)) ⌝ }
-    ensures { λ _. ⌜ now (marks .exit) ≡ withMark name (now (marks .entry)) ⌝ }
+// Inserts a name by its two bits, and answers whether both were set before.
+fn insert(filter: &mut [u64], name: u64) -> bool
+    requires { ⌜ length (now filter) ≡ filterWords ⌝ }
+    ensures { λ r. ⌜ r ≡ mayContain name (now (filter .entry)) ⌝ }
+    ensures { λ _. ⌜ now (filter .exit) ≡ withName name (now (filter .entry)) ⌝ }
 {
-    let first = set_bit(marks, (name / 0x2_0000 % BITS) as usize);
-    let second = set_bit(marks, (name % BITS) as usize);
+    let first = set_bit(filter, (name / 0x2_0000 % FILTER_BITS) as usize);
+    let second = set_bit(filter, (name % FILTER_BITS) as usize);
     first & second
 }
 
 // Whether a slot after slot i holds an entry of its key and field. They are searched only where both bits of its name were set before; both are
 // set afterwards.
-fn repeats(store: &[u8], count: usize, i: usize, marks: &mut [u64]) -> bool
-    requires { ⌜ Turn count (now store) i (now marks) ⌝ }
-    ensures { λ r. ⌜ Turned count (now (store .entry)) i (now (marks .entry)) (now (marks .exit)) r ⌝ }
+fn repeats(store: &[u8], count: usize, i: usize, filter: &mut [u64]) -> bool
+    requires { ⌜ Turn count (now store) i (now filter) ⌝ }
+    ensures { λ r. ⌜ Turned count (now (store .entry)) i (now (filter .entry)) (now (filter .exit)) r ⌝ }
 {
     let t = slot::bytes(store, i);
     if slot::is_empty(t) {
         return false;
     }
-    if !mark(marks, name_of(t)) {
+    if !insert(filter, name_hash(t)) {
         return false;
     }
     named_from(store, count, i + 1, slot::key(t), slot::field(t))
@@ -129,11 +129,11 @@ pub fn all_distinct(store: &[u8], count: usize) -> bool
     requires { ⌜ SlotsWell count (now store) ⌝ }
     ensures { λ r. ⌜ r ≡ distinct (slotsOf count (now (store .entry))) ⌝ }
 {
-    let mut marks = [0u64; MARKS];
+    let mut filter = [0u64; FILTER_WORDS];
     let mut i = count;
     while 0 < i {
         i -= 1;
-        if repeats(store, count, i, &mut marks) {
+        if repeats(store, count, i, &mut filter) {
             return false;
         }
     }

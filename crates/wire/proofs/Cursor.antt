@@ -1,7 +1,7 @@
 -- Places in a command: what its readers find at a place, and where they go on.
 use mathlib.Core.Path.{_≡_, refl, sym, ap, ap₂, _∙_}
 use mathlib.Core.Bool.{Bool, true, false, false≢true, cond, _&&_}
-use mathlib.Core.List.{List, [], _∷_, _++_, append-assoc, append-nil, map, map-append}
+use mathlib.Core.List.{List, [], _∷_, _++_, append-assoc, append-nil, map-append}
 use mathlib.Core.Option.{Option, none, some, Option·map}
 use Prim.Native.Nat.{ℕ, zero, suc, _+_, _-_, _≤_, _<_}
 use native.Mathlib.Numerals.{add-one}
@@ -12,6 +12,7 @@ use borrow.Author.Tests.{le-leb, ltb-true, ltb-false, ne-eqb, eq-eqb}
 use lib.Dec.{leb, ltb, eqb}
 use lib.ListN.{length, getD, take, drop, set, length-append, length-take, length-drop, length-map, drop-of-length-le, List·getD-map, List·getD-eq-default}
 use lib.Seq.{drop-cons, drop-drop, drop-length, take-at, take-append-seam, drop-append-seam, getD-set-same, getD-set-other, getD-take, take-suc-set, length-take-le, append-snoc}
+use Rattle.wire.proofs.Lists.{impossible}
 use Rattle.wire.specs.declared.integers.Natural.the-variants as naturals
 use Rattle.wire.specs.declared.places.Next.{Next}
 use Rattle.wire.specs.declared.places.Next.the-variants as nexts
@@ -23,7 +24,6 @@ use Rattle.wire.specs.Integer.{naturalText, readNatural}
 use Rattle.wire.specs.Words.{Word, Read, crlf, beforeCR, fromCR, readCount, readWord, readWords, wordsOf, wordsMost, wordAt}
 use Rattle.wire.specs.Reply.{bulk}
 use Rattle.wire.specs.Promises.{naturalFor, countedFor, placedFor, wordIn, wordsIn, placeEnd, Inside, Places, nextOf}
-use Rattle.wire.proofs.Lists.{impossible}
 use Rattle.wire.proofs.Words.{split-CR, count-is, word-is}
 
 -- ---- lines
@@ -166,7 +166,7 @@ module _ (s : List ℕ) (at mark most : ℕ) where
           go : (o : Option ℕ) → naturals.Refused ≡ naturalFor o
               → counts.Damaged ≡ countedFor (length s) (Option·map (λ n. record { found = n; rest = drop (end + 2) s }) o)
           go none r = refl
-          go (some n) r = absurd (let z : _≡_ {A = ℕ} 0 1 = cc in omega arith)
+          go (some n) r = impossible cc
 
       pub counted-value : (n : ℕ) → same (part end 2 s) crlf ≡ true
           → naturals.Value n ≡ naturalFor (readNatural most (take (end - (at + 1)) (drop (at + 1) s)))
@@ -176,7 +176,7 @@ module _ (s : List ℕ) (at mark most : ℕ) where
         where
           go : (o : Option ℕ) → naturals.Value n ≡ naturalFor o
               → counts.Count n (end + 2) ≡ countedFor (length s) (Option·map (λ n. record { found = n; rest = drop (end + 2) s }) o)
-          go none r = absurd (let z : _≡_ {A = ℕ} 0 1 = cc in omega arith)
+          go none r = impossible cc
           go (some m) r =
               let place : end + 2 ≡ length s - length (drop (end + 2) s) = omega (arith, length-drop (end + 2) s, ends-room s end h) in
               let same-count : n ≡ m = cc in
@@ -191,7 +191,7 @@ module _ (s : List ℕ) (at mark most : ℕ) where
     where
       go : (o : Option (Read ℕ)) → readCount mark most (drop at s) ≡ o → counts.Count n k ≡ countedFor (length s) o
           → (readCount mark most (drop at s) ≡ some (record { found = n; rest = drop k s })) × (k ≤ length s) × (n ≤ most)
-      go none e h = absurd (let z : _≡_ {A = ℕ} 0 1 = cc in omega arith)
+      go none e h = impossible cc
       go (some c) e h =
           let f : c .found ≡ n = cc in
           let p : length s - length (c .rest) ≡ k = cc in
@@ -206,7 +206,7 @@ module _ (s : List ℕ) (at mark most : ℕ) where
     where
       go : (o : Option (Read ℕ)) → counts.Damaged ≡ countedFor (length s) o → o ≡ none
       go none h = refl
-      go (some c) h = absurd (let z : _≡_ {A = ℕ} 0 1 = cc in omega arith)
+      go (some c) h = impossible cc
 
 -- ---- a word at a place
 
@@ -256,7 +256,7 @@ module _ (s : List ℕ) (at : ℕ) where
     where
       go : (o : Option (Read Word)) → readWord (drop at s) ≡ o → placed.Word start size next ≡ placedFor (length s) o
           → (readWord (drop at s) ≡ some (record { found = take size (drop start s); rest = drop next s })) × (start + size ≤ length s) × (next ≤ length s)
-      go none e h = absurd (let z : _≡_ {A = ℕ} 0 1 = cc in omega arith)
+      go none e h = impossible cc
       go (some w) e h =
           let p : length s - (length (w .found) + 2 + length (w .rest)) ≡ start = cc in
           let q : length (w .found) ≡ size = cc in
@@ -278,7 +278,7 @@ module _ (s : List ℕ) (at : ℕ) where
     where
       go : (o : Option (Read Word)) → placed.Damaged ≡ placedFor (length s) o → o ≡ none
       go none h = refl
-      go (some w) h = absurd (let z : _≡_ {A = ℕ} 0 1 = cc in omega arith)
+      go (some w) h = impossible cc
 
 -- ---- the words of a command
 
@@ -444,7 +444,7 @@ unfolding nextOf
 next-end count n {r} e q = go (ltb n count) refl e
   where
     go : (t : Bool) → ltb n count ≡ t → r ≡ cond t (nexts.Word n) nexts.End → count ≤ n
-    go true p d = impossible (cc)
+    go true p d = impossible cc
     go false p d = ltb-false n count p
 
 pub next-at : (count n k : ℕ) {r : Next} → r ≡ nextOf count n → r ≡ nexts.Word k → (k ≡ n) × (n < count)
@@ -453,4 +453,4 @@ next-at count n k {r} e q = go (ltb n count) refl e
   where
     go : (t : Bool) → ltb n count ≡ t → r ≡ cond t (nexts.Word n) nexts.End → (k ≡ n) × (n < count)
     go true p d = (cc, ltb-true n count p)
-    go false p d = impossible (cc)
+    go false p d = impossible cc

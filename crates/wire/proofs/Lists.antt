@@ -42,16 +42,16 @@ or-late false h = h
 pub both-ways {ℓ} : {A : Type ℓ} {t : Bool} → t ≡ true → t ≡ false → A
 both-ways p q = absurd (true≢false (sym p ∙ q))
 
--- What cannot be: `cc` proves 0 ≡ 1 from equations between different constructors.
-pub impossible {ℓ} : {A : Type ℓ} → _≡_ {A = ℕ} 0 1 → A
-impossible e = absurd (omega arith)
-
 -- each test of a list that passes passes
 pub every-at : (ts : List Bool) → every ts ≡ true → (i : ℕ) → getD ts i true ≡ true
 unfolding every
 every-at [] h i = refl
 every-at (t ∷ ts) h zero = and-left t (every ts) h
 every-at (t ∷ ts) h (suc i) = every-at ts (and-right t (every ts) h) i
+
+-- where constructors that differ are said to be equal, `cc` says so of 0 and 1, and anything follows: `impossible cc`
+pub impossible {ℓ} : {A : Type ℓ} → _≡_ {A = ℕ} 0 1 → A
+impossible h = absurd (omega arith)
 
 -- ---- elements
 

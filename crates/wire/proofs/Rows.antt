@@ -75,9 +75,9 @@ module _ (table w : List ℕ) (rows i : ℕ) where
 pub row-nothing : (o : Option ℕ) → rowFor o ≡ rows.Nothing → o ≡ none
 unfolding rowFor
 row-nothing none h = refl
-row-nothing (some k) h = impossible (cc)
+row-nothing (some k) h = impossible cc
 
 pub row-at : (o : Option ℕ) (k : ℕ) → rowFor o ≡ rows.At k → o ≡ some k
 unfolding rowFor
-row-at none k h = impossible (cc)
+row-at none k h = impossible cc
 row-at (some j) k h = cc

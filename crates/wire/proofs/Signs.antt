@@ -12,6 +12,7 @@ use lib.IntN.{ℤ, pos, negsuc, negℤ, _+ℤ_, negℤ-+ℤ, +ℤ-comm, +ℤ-neg
 use lib.Signed.{leZ}
 use lib.ListN.{length, take, drop, getD}
 use lib.Seq.{take-all}
+use Rattle.wire.proofs.Lists.{impossible}
 use Rattle.wire.specs.Lists.{onlyIf, orElse}
 use Rattle.wire.specs.Integer.{isNatural, isNegated, value, readPlain, within, lowest64, highest64, readInteger, readNatural, naturalText, integerText}
 use Rattle.wire.specs.declared.integers.Natural.{Natural}
@@ -20,7 +21,6 @@ use Rattle.wire.specs.declared.integers.Integer.{Integer}
 use Rattle.wire.specs.declared.integers.Integer.the-variants as integers
 use Rattle.wire.specs.declared.integers.Signed.{Signed}
 use Rattle.wire.specs.Promises.{naturalFor, integerFor, signedFor, integerOf}
-use Rattle.wire.proofs.Lists.{impossible}
 use Rattle.wire.proofs.Digits.{text-negated, negated-natural, negated-value, text-value}
 use Rattle.wire.proofs.Reading.{and-false, natural-is}
 
@@ -74,14 +74,14 @@ sign-said (negsuc n) = refl
 -- A number was read.
 pub read-value : (o : Option ℕ) {n : ℕ} → naturals.Value n ≡ naturalFor o → o ≡ some n
 unfolding naturalFor
-read-value none h = impossible (cc)
+read-value none h = impossible cc
 read-value (some m) h = cc
 
 -- A text was refused.
 pub read-refused : (o : Option ℕ) → naturals.Refused ≡ naturalFor o → o ≡ none
 unfolding naturalFor
 read-refused none h = refl
-read-refused (some m) h = impossible (cc)
+read-refused (some m) h = impossible cc
 
 -- ---- an integer is a number, or one after a minus
 

@@ -136,7 +136,9 @@ pub fn add(a: Signed, b: Signed) -> Integer
 
 // The integer of a sign and a magnitude, refused where it lies outside signed 64 bits.
 fn bounded(negative: bool, magnitude: u64) -> Integer
-    ensures { λ r. ⌜ r ≡ integerFor (onlyIf (within lowest64 highest64 (integerOf (record { negative = negative; magnitude = magnitude }))) (integerOf (record { negative = negative; magnitude = magnitude }))) ⌝ }
+    ensures { λ r.
+        let z = integerOf (record { negative = negative; magnitude = magnitude }) in
+        ⌜ r ≡ integerFor (onlyIf (within lowest64 highest64 z) z) ⌝ }
 {
     if magnitude == 0 {
         return Integer::Value(Signed {

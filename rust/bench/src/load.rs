@@ -1,11 +1,13 @@
 //! What is timed: a store, and the pieces that are fed to it.
 
 use generate::Random;
+use generate::layout::{
+    FIELD, FIELD_LENGTH, HEADER, HELD, KEY, KEY_LENGTH, SLOT, STATE, VALUE, VALUE_LENGTH, VERSION,
+    store_size,
+};
 
-const HEADER: usize = 16;
-const SLOT: usize = 128;
 const CLOCK: u64 = 1_700_000_000_000;
-const KEY: &str = "mob";
+const MOB: &str = "mob";
 
 /// A store and pieces, how many records they complete, none of them refused, and by how many to
 /// divide the time.
@@ -68,15 +70,15 @@ pub fn day(slots: usize, held: usize, records: usize, order: Order) -> Load {
         match at % 5 {
             0 => {
                 versions[number] = version + 1;
-                record(&format!("EXHINCRBY {KEY} {field} 1 VER {version}"))
+                record(&format!("EXHINCRBY {MOB} {field} 1 VER {version}"))
             }
             1 => {
                 versions[number] = version.max(1);
-                record(&format!("EXHSET {KEY} {field} 0 NX"))
+                record(&format!("EXHSET {MOB} {field} 0 NX"))
             }
-            2 => record(&format!("EXHGET {KEY} {field}")),
-            3 => record(&format!("EXHVER {KEY} {field}")),
-            _ => record(&format!("EXHLEN {KEY}")),
+            2 => record(&format!("EXHGET {MOB} {field}")),
+            3 => record(&format!("EXHVER {MOB} {field}")),
+            _ => record(&format!("EXHLEN {MOB}")),
         }
     });
     let label = order.label();
@@ -119,7 +121,7 @@ pub fn noise(slots: usize, bytes: usize) -> Load {
 
 /// All fields of a full store.
 pub fn get_all(slots: usize, records: usize) -> Load {
-    let records = vec![record(&format!("EXHGETALL {KEY}")); records];
+    let records = vec![record(&format!("EXHGETALL {MOB}")); records];
     Load::of_records(
         format!("EXHGETALL of {slots}"),
         store(slots, slots, Order::Ascending),
@@ -133,7 +135,7 @@ pub fn set_many(slots: usize, pairs: usize, records: usize) -> Load {
     let one = |_| {
         let pair = |_| format!(" {} 1", tag(random.below(slots)));
         let pairs: String = (0..pairs).map(pair).collect();
-        record(&format!("EXHMSET {KEY}{pairs}"))
+        record(&format!("EXHMSET {MOB}{pairs}"))
     };
     let name = format!("EXHMSET of {pairs} pairs, {slots} slots held");
     let store = store(slots, slots, Order::Ascending);
@@ -143,7 +145,7 @@ pub fn set_many(slots: usize, pairs: usize, records: usize) -> Load {
 /// One field at a time.
 pub fn get(slots: usize, records: usize, order: Order) -> Load {
     let mut random = Random::new(5);
-    let one = |_| record(&format!("EXHGET {KEY} {}", tag(random.below(slots))));
+    let one = |_| record(&format!("EXHGET {MOB} {}", tag(random.below(slots))));
     let name = format!("EXHGET, {slots} slots held{}", order.label());
     let store = store(slots, slots, order);
     Load::of_records(name, store, (0..records).map(one).collect())
@@ -151,7 +153,7 @@ pub fn get(slots: usize, records: usize, order: Order) -> Load {
 
 /// A record byte by byte, without its last byte: no call completes it.
 pub fn single_bytes(slots: usize) -> Load {
-    let record = record(&format!("EXHMGET {KEY}{}", " tag0000".repeat(60)));
+    let record = record(&format!("EXHMGET {MOB}{}", " tag0000".repeat(60)));
     let bytes = record[..record.len() - 1].iter();
     let pieces: Vec<Vec<u8>> = bytes.map(|byte| vec![*byte]).collect();
     Load {
@@ -169,26 +171,23 @@ fn tag(number: usize) -> String {
 
 /// A store whose first slots hold a tag with value 1 and version 1.
 fn store(slots: usize, held: usize, order: Order) -> Vec<u8> {
-    let mut store = vec![0; exhash::store_size(slots)];
+    let mut store = vec![0; store_size(slots)];
     let numbers = order.numbers(held);
     for (slot, number) in store[HEADER..].chunks_mut(SLOT).zip(numbers) {
         let field = tag(number);
-        slot[..5].copy_from_slice(&[1, KEY.len() as u8, field.len() as u8, 1, 1]);
-        slot[16..][..KEY.len()].copy_from_slice(KEY.as_bytes());
-        slot[32..][..field.len()].copy_from_slice(field.as_bytes());
-        slot[64] = b'1';
+        slot[STATE] = HELD;
+        slot[KEY_LENGTH] = MOB.len() as u8;
+        slot[FIELD_LENGTH] = field.len() as u8;
+        slot[VALUE_LENGTH] = 1;
+        slot[VERSION.start] = 1;
+        slot[KEY][..MOB.len()].copy_from_slice(MOB.as_bytes());
+        slot[FIELD][..field.len()].copy_from_slice(field.as_bytes());
+        slot[VALUE.start] = b'1';
     }
     store
 }
 
 /// A record with a command of words split by spaces.
 fn record(command: &str) -> Vec<u8> {
-    let words: Vec<&str> = command.split(' ').collect();
-    let mut body = format!("*{}\r\n", words.len());
-    for word in words {
-        body += &format!("${}\r\n{word}\r\n", word.len());
-    }
-    let length = u16::try_from(body.len()).unwrap().to_le_bytes();
-    let clock = CLOCK.to_le_bytes();
-    [b"\x45\x57", &clock[..], &length, body.as_bytes()].concat()
+    generate::record(CLOCK, command)
 }

@@ -4,12 +4,14 @@
 
 mod load;
 
+use generate::layout::{LEAST_REPLY_BUFFER, MOST_SLOTS, MOST_USED};
 use load::{Load, Order};
 use std::hint::black_box;
 use std::time::Instant;
 
 const ROUNDS: usize = 41;
 const READS: usize = 50;
+const RECORDS: usize = 500;
 
 /// An implementation's feeder.
 trait Feeding {
@@ -157,12 +159,12 @@ fn print_row(name: &str, times: &Times) {
 
 fn print_loads(lent: &mut Lent) {
     let loads = [
-        load::day(100, 90, 500, Order::Ascending),
-        load::day(500, 500, 500, Order::Ascending),
-        load::day(500, 500, 500, Order::Shuffled),
-        load::day_in_pieces(100, 90, 500),
-        load::noise(100, 65_536),
-        load::get_all(500, 100),
+        load::day(100, 90, RECORDS, Order::Ascending),
+        load::day(MOST_SLOTS, MOST_SLOTS, RECORDS, Order::Ascending),
+        load::day(MOST_SLOTS, MOST_SLOTS, RECORDS, Order::Shuffled),
+        load::day_in_pieces(100, 90, RECORDS),
+        load::noise(100, MOST_USED),
+        load::get_all(MOST_SLOTS, 100),
         load::set_many(100, 20, 200),
     ];
     println!("| ns a record, unless said otherwise | exhash | model | exhash / model |");
@@ -172,18 +174,18 @@ fn print_loads(lent: &mut Lent) {
     }
 }
 
-/// EXHGET by the number of held slots, and its growth from 50 to 500.
+/// EXHGET by the number of held slots, and its growth from 50 to the most.
 fn print_growth(lent: &mut Lent) {
     let mut at_50 = None;
-    for slots in [10, 50, 100, 250, 500] {
-        let load = load::get(slots, 500, Order::Ascending);
+    for slots in [10, 50, 100, 250, MOST_SLOTS] {
+        let load = load::get(slots, RECORDS, Order::Ascending);
         let times = times(&load, lent);
         print_row(&load.name, &times);
         match (slots, &at_50) {
             (50, _) => at_50 = Some(times),
-            (500, Some(at_50)) => {
+            (MOST_SLOTS, Some(at_50)) => {
                 let (library, model) = (times.library / at_50.library, times.model / at_50.model);
-                println!("| growth from 50 to 500, times | {library:.1} | {model:.1} | |");
+                println!("| growth from 50 to {MOST_SLOTS}, times | {library:.1} | {model:.1} | |");
             }
             _ => {}
         }
@@ -198,7 +200,7 @@ fn print_single_byte(lent: &mut Lent) {
         "one byte fed, exhash",
         "one byte fed, model",
     ];
-    let load = load::single_bytes(500);
+    let load = load::single_bytes(MOST_SLOTS);
     assert_alike(&load, lent);
     let rounds = (0..ROUNDS).map(|_| {
         [
@@ -209,7 +211,7 @@ fn print_single_byte(lent: &mut Lent) {
         ]
     });
     let rounds: Vec<[f64; 4]> = rounds.collect();
-    println!("\n| 500 slots held | ns | times the sum | times the sum modulo 256 |");
+    println!("\n| {MOST_SLOTS} slots held | ns | times the sum | times the sum modulo 256 |");
     println!("|---|---|---|---|");
     for (row, name) in names.iter().enumerate() {
         let ns = median(rounds.iter().map(|times| times[row]));
@@ -222,11 +224,11 @@ fn print_single_byte(lent: &mut Lent) {
 fn main() {
     let mut lent = Lent {
         store: Vec::new(),
-        reply: vec![0; exhash::REPLY_SIZE],
+        reply: vec![0; LEAST_REPLY_BUFFER],
     };
     print_loads(&mut lent);
     print_growth(&mut lent);
-    let shuffled = load::get(500, 500, Order::Shuffled);
+    let shuffled = load::get(MOST_SLOTS, RECORDS, Order::Shuffled);
     print_row(&shuffled.name, &times(&shuffled, &mut lent));
     print_single_byte(&mut lent);
     println!("\nMedians of {ROUNDS} rounds, in turns; the buffers are not cleared before a call.");

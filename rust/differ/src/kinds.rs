@@ -1,7 +1,8 @@
 //! The kinds of cases: each makes its inputs from a generator and compares every call.
 
 use crate::pair::{Call, Pair, hex};
-use generate::{Generator, LEAST_REPLY_BUFFER, MOST_WAITING, State};
+use generate::layout::{LEAST_REPLY_BUFFER, MOST_WAITING};
+use generate::{Generator, State};
 use model::feeder::whole;
 
 /// One case of a kind; an error says what differs.
@@ -27,7 +28,7 @@ pub fn session(generator: &mut Generator, pair: &mut Pair) -> Result<(), String>
     (0..SESSION_COMMANDS).try_for_each(|_| record(generator, pair))
 }
 
-/// The same on a store of 500 slots.
+/// The same on a store of the most slots.
 pub fn large_session(generator: &mut Generator, pair: &mut Pair) -> Result<(), String> {
     pair.begin(&FRESH, &generator.large_store(), FILL);
     (0..LARGE_SESSION_COMMANDS).try_for_each(|_| record(generator, pair))

@@ -1,12 +1,13 @@
 //! One feeding call made by both implementations, and everything compared.
 
 use exhash::interface;
-use generate::{LEAST_REPLY_BUFFER, MOST_WAITING, State};
+use generate::layout::MOST_WAITING;
+use generate::{LONGEST_REPLY_BUFFER, State};
 use std::collections::BTreeMap;
 use std::fmt::{self, Write};
 
 /// Longer than the largest buffer lent, so that bytes past its end are compared too.
-pub const REPLY_SPACE: usize = LEAST_REPLY_BUFFER + 8_000;
+pub const REPLY_SPACE: usize = LONGEST_REPLY_BUFFER + 4_000;
 
 /// What one implementation holds.
 #[derive(Clone, PartialEq, Eq)]
@@ -231,6 +232,7 @@ pub fn hex(bytes: &[u8]) -> String {
 #[cfg(test)]
 mod tests {
     use super::*;
+    use generate::layout::{LEAST_REPLY_BUFFER, store_size};
 
     /// A pair whose two memories differ as `damage` says, fed once.
     fn feed_after(damage: fn(&mut Memory)) -> Result<Call, String> {
@@ -239,7 +241,7 @@ mod tests {
             waiting: [0; MOST_WAITING],
             count: 0,
         };
-        pair.begin(&state, &[0; 144], 7);
+        pair.begin(&state, &[0; store_size(1)], 7);
         damage(&mut pair.library);
         pair.feed(b"x", LEAST_REPLY_BUFFER)
     }
@@ -253,7 +255,9 @@ mod tests {
         assert!(reported(|memory| memory.waiting[9] = 1).contains("waiting: bytes 9 to 9: 01"));
         assert!(reported(|memory| memory.store[0] = 1).contains("store: bytes 0 to 0: 01"));
         let past_the_end = |memory: &mut Memory| memory.reply[REPLY_SPACE - 1] = 8;
-        assert!(reported(past_the_end).contains("reply: bytes 63999 to 63999: 08, model 07"));
+        let last = REPLY_SPACE - 1;
+        let expected = format!("reply: bytes {last} to {last}: 08, model 07");
+        assert!(reported(past_the_end).contains(&expected));
     }
 
     #[test]

@@ -1,6 +1,7 @@
 //! A small comparison, for builds without optimization.
 
 use differ::{Sizes, compare, errors};
+use model::reply::Refusal;
 
 const SIZES: Sizes = Sizes {
     commands: 10_000,
@@ -10,7 +11,6 @@ const SIZES: Sizes = Sizes {
     stores: 1_000,
     states: 1_000,
 };
-const REFUSALS_OF_COMMANDS: usize = 14;
 
 #[test]
 fn the_library_agrees_with_the_model() {
@@ -41,5 +41,5 @@ fn the_library_agrees_with_the_model() {
     assert_eq!(of_states.calls, 2 * states);
     let answers = |number: usize| tallies.iter().map(move |(_, tally)| tally.answers[number]);
     assert!((0..4).all(|number| answers(number).sum::<u64>() > 0));
-    assert_eq!(errors(&tallies).len(), REFUSALS_OF_COMMANDS);
+    assert_eq!(errors(&tallies).len(), Refusal::ALL.len());
 }

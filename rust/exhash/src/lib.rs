@@ -33,10 +33,14 @@ pub const REPLY_SIZE: usize = 56_000;
 pub const USED_MOST: usize = 65_536;
 /// A store has 1 to this many slots.
 pub const SLOTS_MOST: usize = 500;
+/// A store is a header, and then its slots.
+pub const HEADER_SIZE: usize = 16;
+/// A slot holds one field.
+pub const SLOT_SIZE: usize = 128;
 
 /// The bytes of a store of some slots.
 pub const fn store_size(slots: usize) -> usize {
-    16 + 128 * slots
+    HEADER_SIZE + SLOT_SIZE * slots
 }
 
 /// Reads records out of a stream and does their commands on a lent store.

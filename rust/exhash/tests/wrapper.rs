@@ -2,8 +2,10 @@
 
 use exhash::interface::State;
 use exhash::{
-    Fed, Feeder, REPLY_SIZE, Refusal, SLOTS_MOST, USED_MOST, WAITING_MOST, store_check, store_size,
+    Fed, Feeder, HEADER_SIZE, REPLY_SIZE, Refusal, SLOT_SIZE, SLOTS_MOST, USED_MOST, WAITING_MOST,
+    store_check, store_size,
 };
+use generate::layout::{FIELD, FIELD_LENGTH, HELD, STATE, VERSION};
 
 /// "Whole example, clock 1000, `EXHGET m t1`": from an empty store the reply is nil.
 const EXAMPLE: &[u8] = b"\x45\x57\xE8\x03\0\0\0\0\0\0\x1F\0\
@@ -115,8 +117,11 @@ fn a_damaged_state_waits_with_all_its_places() {
     assert_eq!(feeder.waiting(), waiting);
 }
 
+/// The length of fields that are alike.
+const ALIKE: usize = 16;
+
 /// A field whose second word, turned, is its first: the check marks all such fields alike.
-fn alike(number: u64) -> [u8; 16] {
+fn alike(number: u64) -> [u8; ALIKE] {
     let words = [number, number.rotate_right(4)].map(u64::to_le_bytes);
     words.concat().try_into().unwrap()
 }
@@ -124,13 +129,15 @@ fn alike(number: u64) -> [u8; 16] {
 #[test]
 fn names_that_share_their_marks_are_told_apart() {
     let mut store = vec![0; store_size(SLOTS_MOST)];
-    let slots = store[16..].chunks_mut(128);
+    let slots = store[HEADER_SIZE..].chunks_mut(SLOT_SIZE);
     for (number, slot) in (1..).zip(slots) {
-        slot[..5].copy_from_slice(&[1, 0, 16, 0, 1]);
-        slot[32..48].copy_from_slice(&alike(number));
+        slot[STATE] = HELD;
+        slot[FIELD_LENGTH] = ALIKE as u8;
+        slot[VERSION.start] = 1;
+        slot[FIELD][..ALIKE].copy_from_slice(&alike(number));
     }
     assert_eq!(store_check(&store), Ok(()));
-    let last = store_size(SLOTS_MOST - 1) + 32;
-    store[last..][..16].copy_from_slice(&alike(1));
+    let last = store_size(SLOTS_MOST - 1) + FIELD.start;
+    store[last..][..ALIKE].copy_from_slice(&alike(1));
     assert_eq!(store_check(&store), Err(Refusal::Store));
 }

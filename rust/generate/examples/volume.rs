@@ -1,6 +1,7 @@
 //! The time that 200,000 commands and 20,000 cut streams take, made only and then run by the model.
 
 use generate::Generator;
+use generate::layout::LEAST_REPLY_BUFFER;
 use model::{Feeder, execute, feed};
 use std::time::Instant;
 
@@ -15,7 +16,7 @@ fn main() {
         start.elapsed()
     );
 
-    let mut reply = vec![0; 56_000];
+    let mut reply = vec![0; LEAST_REPLY_BUFFER];
     let start = Instant::now();
     let replied =
         make_commands(|store, clock, command| execute(clock, command, store, &mut reply).reply_len);

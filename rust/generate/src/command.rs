@@ -1,9 +1,10 @@
 //! Commands: all names, options in any order and case, and damaged RESP.
 
+use crate::Generator;
+use crate::layout::{LARGEST_VERSION, LONGEST_COMMAND, MOST_WORDS, TIME_LIMIT, VERSION};
 use crate::store::{clock_of, low_first, name_of};
 use crate::text::{self, usual_or_long};
 use crate::words::Words;
-use crate::{Generator, LONGEST_COMMAND, TIME_LIMIT};
 
 /// The words after the name and the key.
 #[derive(Clone, Copy)]
@@ -52,6 +53,12 @@ const NAMES: [(&[u8], Shape); 23] = [
     (b"EXHVALS", Shape::Nothing),
     (b"EXHGETALL", Shape::Nothing),
 ];
+
+/// The names of all commands.
+pub fn names() -> impl Iterator<Item = &'static str> {
+    let text = |name| std::str::from_utf8(name).unwrap_or_default();
+    NAMES.iter().map(move |(name, _)| text(*name))
+}
 
 /// Commands left out, and names that are almost one.
 const UNKNOWN_NAMES: [&[u8]; 9] = [
@@ -111,7 +118,7 @@ const ALL_OPTIONS: Groups = &[
 ];
 
 impl Generator {
-    /// A command's bytes, 1 to 1,024 of them. Its names, versions and times are often the store's.
+    /// A command's bytes, no more than a record takes. Its names, versions and times are often the store's.
     pub fn command(&mut self, store: &[u8]) -> Vec<u8> {
         loop {
             let command = self.command_of_any_length(store);
@@ -152,7 +159,7 @@ impl Generator {
         }
     }
 
-    /// Exactly 1,024 bytes, by a word that is too long.
+    /// As many bytes as a record takes, by a word that is too long.
     fn longest_command(&mut self, store: &[u8]) -> Vec<u8> {
         let mut words = Words::default();
         words.push(b"EXHMGET");
@@ -162,7 +169,7 @@ impl Generator {
         words.resp()
     }
 
-    /// Around 64 words, mostly empty.
+    /// Around the most words, mostly empty.
     fn command_of_many_words(&mut self, store: &[u8]) -> Vec<u8> {
         let mut words = Words::default();
         let name = self
@@ -170,7 +177,7 @@ impl Generator {
             .pick(&[&b"EXHMGET"[..], b"EXHDEL", b"EXHMSET", b"EXHMGETWITHVER"]);
         words.push(name);
         self.push_key(&mut words, store);
-        let count = self.random.between(60, 65);
+        let count = self.random.between(MOST_WORDS - 4, MOST_WORDS + 1);
         while words.count() < count {
             words.push(self.random.pick(&[&b""[..], b"a", b"b", b"1"]));
         }
@@ -316,11 +323,11 @@ impl Generator {
 
     /// A version: a slot's or one next to it, or an end.
     fn push_version(&mut self, words: &mut Words, store: &[u8]) {
-        let held = low_first(&self.slot(store)[4..8]);
+        let held = low_first(&self.slot(store)[VERSION]);
         match self.random.below(8) {
             0 => words.push(self.random.pick(&text::NUMBERS)),
             1 => words.push_number(i128::from(held) + 1),
-            2 => words.push(self.random.pick(&[&b"0"[..], b"1", b"2", b"4294967295"])),
+            2 => words.push_number(self.random.pick(&[0, 1, 2, i128::from(LARGEST_VERSION)])),
             _ => words.push_number(i128::from(held)),
         }
     }

@@ -1,6 +1,8 @@
 //! Feeder states: fresh, waiting and damaged.
 
-use crate::{Generator, MOST_WAITING};
+use crate::Generator;
+use crate::layout::{HEAD, LONGEST_RECORD, MARK, MOST_USED, MOST_WAITING};
+use crate::stream::record;
 
 /// A feeder's state as its two parts.
 #[derive(Clone, Debug, PartialEq, Eq)]
@@ -35,7 +37,9 @@ impl Generator {
             0 => State::of(&[]),
             1 => {
                 let record = self.longest_record();
-                let cut = self.random.pick(&[1, 2, 9, 10, 11, 12, 13, 1034, 1035]);
+                let heads = [1, 2, HEAD - 3, HEAD - 2, HEAD - 1, HEAD, HEAD + 1];
+                let cuts = [&heads[..], &[MOST_WAITING - 1, MOST_WAITING]].concat();
+                let cut = self.random.pick(&cuts);
                 State::of(&record[..cut])
             }
             _ => {
@@ -51,19 +55,22 @@ impl Generator {
         let mut state = self.left_state(store);
         match self.random.below(6) {
             0 => {
-                state.count = self
-                    .random
-                    .pick(&[1036, 1037, 65_536, usize::MAX, usize::MAX - 1])
+                let counts = [LONGEST_RECORD, LONGEST_RECORD + 1, MOST_USED];
+                let counts = [&counts[..], &[usize::MAX, usize::MAX - 1]].concat();
+                state.count = self.random.pick(&counts);
             }
             1 => self.fill_after(&mut state),
             2 => {
-                let other = self.random.between(0x46, 0x144) as u8;
+                // Any byte but the mark's first.
+                let other = usize::from(MARK[0]) + self.random.between(1, 255);
+                let other = other as u8;
                 state.waiting[0] = other;
                 state.count = state.count.max(1);
             }
             3 => {
-                let second = self.random.pick(&[0x45, 0x56, 0x58, 0]);
-                state = State::of(&[0x45, second, 0x57]);
+                let [first, mark] = MARK;
+                let second = self.random.pick(&[first, mark - 1, mark + 1, 0]);
+                state = State::of(&[first, second, mark]);
                 state.count = self.random.between(2, 3);
             }
             4 => {
@@ -71,8 +78,8 @@ impl Generator {
                 state = State::of(&head);
             }
             _ => {
-                // A whole record of less than 1,036 bytes waits no longer.
-                let record = self.record_of(0, b"*1\r\n$6\r\nEXHLEN\r\n");
+                // A whole record waits no longer.
+                let record = record(0, "EXHLEN");
                 state = State::of(&record);
             }
         }

@@ -7,20 +7,21 @@
 
 mod command;
 mod feeder;
+pub mod layout;
 mod random;
 mod store;
 mod stream;
 mod text;
 mod words;
 
+pub use command::names;
 pub use feeder::State;
+use layout::LEAST_REPLY_BUFFER;
 pub use random::Random;
+pub use stream::record;
 
-/// "The latest clock is below 4,102,444,800,000."
-pub const TIME_LIMIT: u64 = 4_102_444_800_000;
-pub const LONGEST_COMMAND: usize = 1024;
-pub const MOST_WAITING: usize = 1035;
-pub const LEAST_REPLY_BUFFER: usize = 56_000;
+/// The longest reply buffer that is lent.
+pub const LONGEST_REPLY_BUFFER: usize = LEAST_REPLY_BUFFER + 4_000;
 
 /// The source of all inputs.
 #[derive(Clone, Debug)]
@@ -38,8 +39,10 @@ impl Generator {
     /// A reply buffer's length: mostly just enough, sometimes too little or more.
     pub fn reply_buffer_length(&mut self) -> usize {
         match self.random.below(16) {
-            0 => self.random.pick(&[0, 1, 55_999]),
-            1 => self.random.pick(&[56_001, 60_000]),
+            0 => self.random.pick(&[0, 1, LEAST_REPLY_BUFFER - 1]),
+            1 => self
+                .random
+                .pick(&[LEAST_REPLY_BUFFER + 1, LONGEST_REPLY_BUFFER]),
             _ => LEAST_REPLY_BUFFER,
         }
     }

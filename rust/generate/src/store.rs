@@ -1,15 +1,17 @@
 //! Stores, well formed and damaged, and clocks around their expiries.
 
+use crate::Generator;
+use crate::layout::{
+    CLOCK, EMPTY, EXPIRING, EXPIRY, FIELD, FIELD_LENGTH, HEADER, HELD, KEY, KEY_LENGTH,
+    LONGEST_FIELD, LONGEST_KEY, LONGEST_VALUE, MOST_SLOTS, RESERVED, SLOT, STATE, TIME_LIMIT,
+    VALUE, VALUE_LENGTH, VERSION, store_size,
+};
 use crate::random::Random;
 use crate::text::{FIELDS, KEYS, VALUES, VERSIONS};
-use crate::{Generator, TIME_LIMIT};
-
-const HEADER: usize = 16;
-const SLOT: usize = 128;
-const MOST_SLOTS: usize = 500;
+use std::ops::Range;
 
 impl Generator {
-    /// A well-formed store of 1 to 4 slots, now and then of 500.
+    /// A well-formed store of 1 to 4 slots, now and then of the most.
     pub fn store(&mut self) -> Vec<u8> {
         if self.random.once_in(256) {
             self.large_store()
@@ -19,13 +21,13 @@ impl Generator {
         }
     }
 
-    /// A well-formed store of 500 slots, sometimes all of one key and as long as can be.
+    /// A well-formed store of the most slots, sometimes all of one key and as long as can be.
     pub fn large_store(&mut self) -> Vec<u8> {
         let full = self.random.once_in(4);
         let mut store = self.store_of(MOST_SLOTS);
         let clock = clock_of(&store);
         for (at, slot) in store[HEADER..].chunks_exact_mut(SLOT).enumerate().skip(8) {
-            let mut field = [b'f'; 32];
+            let mut field = [b'f'; LONGEST_FIELD];
             field[..3].copy_from_slice(&[
                 b'0' + (at / 100) as u8,
                 b'0' + (at / 10 % 10) as u8,
@@ -33,9 +35,9 @@ impl Generator {
             ]);
             let random = &mut self.random;
             if full {
-                write_entry(slot, b"m", &field, &[b'v'; 64], random, clock);
+                write_entry(slot, b"m", &field, &[b'v'; LONGEST_VALUE], random, clock);
             } else if !random.once_in(64) {
-                let length = random.between(3, 32);
+                let length = random.between(3, LONGEST_FIELD);
                 let (key, value) = (random.pick(&KEYS), random.pick(&VALUES));
                 write_entry(slot, key, &field[..length], value, random, clock);
             }
@@ -47,8 +49,8 @@ impl Generator {
     fn store_of(&mut self, slots: usize) -> Vec<u8> {
         let random = &mut self.random;
         let clock = store_clock(random);
-        let mut store = vec![0; HEADER + SLOT * slots];
-        store[..8].copy_from_slice(&clock.to_le_bytes());
+        let mut store = vec![0; store_size(slots)];
+        store[CLOCK].copy_from_slice(&clock.to_le_bytes());
         for at in 0..slots.min(8) {
             // The first key and the first fields are the most frequent.
             let key = KEYS[random.below(KEYS.len()) * random.below(2)];
@@ -95,12 +97,12 @@ impl Generator {
         let lengths = [
             0,
             1,
-            15,
-            16,
+            HEADER - 1,
+            HEADER,
             length - 1,
             length + 1,
-            length - 64,
-            HEADER + SLOT * (MOST_SLOTS + 1),
+            length - SLOT / 2,
+            store_size(MOST_SLOTS + 1),
         ];
         store.resize(self.random.pick(&lengths), 0);
     }
@@ -108,26 +110,26 @@ impl Generator {
     fn damage_header(&mut self, store: &mut [u8]) {
         if self.random.once_in(2) {
             let clock = self.random.pick(&[TIME_LIMIT, TIME_LIMIT + 1, u64::MAX]);
-            store[..8].copy_from_slice(&clock.to_le_bytes());
+            store[CLOCK].copy_from_slice(&clock.to_le_bytes());
         } else {
-            let at = self.random.between(8, 15);
-            store[at] = self.random.between(1, 255) as u8;
+            let at = one_of(RESERVED, &mut self.random);
+            store[at] = above(0, &mut self.random);
         }
     }
 
     /// Two held slots with the same key and field.
     fn repeat_a_name(&mut self, store: &mut Vec<u8>) {
-        if store.len() < HEADER + 2 * SLOT {
-            store.resize(HEADER + 2 * SLOT, 0);
+        if store.len() < store_size(2) {
+            store.resize(store_size(2), 0);
         }
         let clock = clock_of(store);
-        let slots = (store.len() - HEADER) / SLOT;
+        let slots = slots_of(store);
         let first = self.random.below(slots);
         let second = (first + self.random.between(1, slots - 1)) % slots;
         let random = &mut self.random;
         let (key, field) = (random.pick(&KEYS), random.pick(&FIELDS));
         for slot in [first, second] {
-            let start = HEADER + SLOT * slot;
+            let start = store_size(slot);
             let value = random.pick(&VALUES);
             write_entry(
                 &mut store[start..start + SLOT],
@@ -141,27 +143,26 @@ impl Generator {
     }
 
     fn damage_a_slot(&mut self, store: &mut [u8]) {
-        let slots = (store.len() - HEADER) / SLOT;
-        let start = HEADER + SLOT * self.random.below(slots);
+        let start = store_size(self.random.below(slots_of(store)));
         let slot = &mut store[start..start + SLOT];
         let random = &mut self.random;
         match random.below(8) {
-            0 => slot[0] = random.between(3, 255) as u8,
-            1 => slot[1] = random.between(17, 255) as u8,
-            2 => slot[2] = random.between(33, 255) as u8,
-            3 => slot[3] = random.between(65, 255) as u8,
+            0 => slot[STATE] = above(EXPIRING.into(), random),
+            1 => slot[KEY_LENGTH] = above(LONGEST_KEY, random),
+            2 => slot[FIELD_LENGTH] = above(LONGEST_FIELD, random),
+            3 => slot[VALUE_LENGTH] = above(LONGEST_VALUE, random),
             4 => {
-                slot[0] = 1;
-                slot[random.between(8, 15)] = random.between(1, 255) as u8;
+                slot[STATE] = HELD;
+                slot[one_of(EXPIRY, random)] = above(0, random);
             }
             5 => {
                 let expiry = random.pick(&[TIME_LIMIT + 1, u64::MAX]);
-                slot[0] = 2;
-                slot[8..16].copy_from_slice(&expiry.to_le_bytes());
+                slot[STATE] = EXPIRING;
+                slot[EXPIRY].copy_from_slice(&expiry.to_le_bytes());
             }
             6 => {
                 slot.fill(0);
-                slot[random.between(1, SLOT - 1)] = random.between(1, 255) as u8;
+                slot[one_of(KEY_LENGTH..SLOT, random)] = above(0, random);
             }
             _ => fill_beyond_a_length(slot, random),
         }
@@ -170,7 +171,7 @@ impl Generator {
     /// A record's clock: around the store's clock, its expiries and the limit.
     pub fn clock(&mut self, store: &[u8]) -> u64 {
         let slot = self.slot(store);
-        let expiry = low_first(&slot[8..16]);
+        let expiry = low_first(&slot[EXPIRY]);
         let random = &mut self.random;
         let near = [0, 1, 2][random.below(3)];
         match random.below(8) {
@@ -185,8 +186,7 @@ impl Generator {
 
     /// One of the store's slots.
     pub(crate) fn slot<'s>(&mut self, store: &'s [u8]) -> &'s [u8] {
-        let slots = store.len().saturating_sub(HEADER) / SLOT;
-        let start = HEADER + SLOT * self.random.below(slots);
+        let start = store_size(self.random.below(slots_of(store)));
         store.get(start..start + SLOT).unwrap_or(&[0; SLOT])
     }
 }
@@ -201,8 +201,23 @@ fn store_clock(random: &mut Random) -> u64 {
     }
 }
 
+/// As many slots as there are whole ones.
+fn slots_of(store: &[u8]) -> usize {
+    store.len().saturating_sub(HEADER) / SLOT
+}
+
+/// A place among some.
+fn one_of(places: Range<usize>, random: &mut Random) -> usize {
+    random.between(places.start, places.end - 1)
+}
+
+/// A byte above a number.
+fn above(number: usize, random: &mut Random) -> u8 {
+    random.between(number + 1, 255) as u8
+}
+
 pub(crate) fn clock_of(store: &[u8]) -> u64 {
-    low_first(store.get(..8).unwrap_or(&[]))
+    low_first(store.get(CLOCK).unwrap_or(&[]))
 }
 
 pub(crate) fn low_first(bytes: &[u8]) -> u64 {
@@ -212,9 +227,9 @@ pub(crate) fn low_first(bytes: &[u8]) -> u64 {
 
 /// Key and field of a held slot.
 pub(crate) fn name_of(slot: &[u8]) -> Option<(&[u8], &[u8])> {
-    let key = slot.get(16..32)?.get(..usize::from(slot[1]))?;
-    let field = slot.get(32..64)?.get(..usize::from(slot[2]))?;
-    (slot[0] != 0).then_some((key, field))
+    let key = slot.get(KEY)?.get(..usize::from(slot[KEY_LENGTH]))?;
+    let field = slot.get(FIELD)?.get(..usize::from(slot[FIELD_LENGTH]))?;
+    (slot[STATE] != EMPTY).then_some((key, field))
 }
 
 fn write_entry(
@@ -226,15 +241,17 @@ fn write_entry(
     clock: u64,
 ) {
     slot.fill(0);
-    slot[0] = random.between(1, 2) as u8;
-    slot[1..4].copy_from_slice(&[key.len() as u8, field.len() as u8, value.len() as u8]);
-    slot[4..8].copy_from_slice(&random.pick(&VERSIONS).to_le_bytes());
-    if slot[0] == 2 {
-        slot[8..16].copy_from_slice(&expiry(random, clock).to_le_bytes());
+    slot[STATE] = random.between(HELD.into(), EXPIRING.into()) as u8;
+    slot[KEY_LENGTH] = key.len() as u8;
+    slot[FIELD_LENGTH] = field.len() as u8;
+    slot[VALUE_LENGTH] = value.len() as u8;
+    slot[VERSION].copy_from_slice(&random.pick(&VERSIONS).to_le_bytes());
+    if slot[STATE] == EXPIRING {
+        slot[EXPIRY].copy_from_slice(&expiry(random, clock).to_le_bytes());
     }
-    slot[16..][..key.len()].copy_from_slice(key);
-    slot[32..][..field.len()].copy_from_slice(field);
-    slot[64..][..value.len()].copy_from_slice(value);
+    slot[KEY][..key.len()].copy_from_slice(key);
+    slot[FIELD][..field.len()].copy_from_slice(field);
+    slot[VALUE][..value.len()].copy_from_slice(value);
 }
 
 fn expiry(random: &mut Random, clock: u64) -> u64 {
@@ -256,9 +273,14 @@ fn expiry(random: &mut Random, clock: u64) -> u64 {
 
 /// A held slot with a byte that is not zero beyond one of its lengths.
 fn fill_beyond_a_length(slot: &mut [u8], random: &mut Random) {
-    let (which, place, size) = random.pick(&[(1, 16, 16), (2, 32, 32), (3, 64, 64)]);
-    slot[0] = slot[0].max(1);
-    let length = usize::from(slot[which]).min(size - 1);
-    slot[which] = length as u8;
-    slot[place + random.between(length, size - 1)] = random.between(1, 255) as u8;
+    let places = [
+        (KEY_LENGTH, KEY),
+        (FIELD_LENGTH, FIELD),
+        (VALUE_LENGTH, VALUE),
+    ];
+    let (which, place) = &places[random.below(places.len())];
+    slot[STATE] = slot[STATE].max(HELD);
+    let length = usize::from(slot[*which]).min(place.len() - 1);
+    slot[*which] = length as u8;
+    slot[one_of(place.start + length..place.end, random)] = above(0, random);
 }

@@ -1,10 +1,24 @@
 //! Streams of records, noise and cut or false marks, and ways to cut them.
 
-use crate::{Generator, LONGEST_COMMAND};
+use crate::Generator;
+use crate::layout::{HEAD, LONGEST_COMMAND, LONGEST_RECORD, MARK, MOST_USED, MOST_WAITING, head};
+use crate::words::Words;
 
-const MARK: [u8; 2] = [0x45, 0x57];
-/// A call uses 65,536 bytes at most.
-const MOST_USED: usize = 65_536;
+/// A record whose command is words split by single spaces.
+pub fn record(clock: u64, command: &str) -> Vec<u8> {
+    let mut words = Words::default();
+    for word in command.split(' ') {
+        words.push(word.as_bytes());
+    }
+    record_of(clock, &words.resp())
+}
+
+/// The command is short enough for its length.
+pub(crate) fn record_of(clock: u64, command: &[u8]) -> Vec<u8> {
+    let mut record = head(clock, command.len() as u16);
+    record.extend_from_slice(command);
+    record
+}
 
 impl Generator {
     /// A stream of a few parts, now and then with noise longer than a call may use.
@@ -25,7 +39,7 @@ impl Generator {
         match self.random.below(16) {
             0 => stream.extend(self.noise(30)),
             1 => stream.extend(self.noise_of_marks()),
-            2 => stream.push(0x45),
+            2 => stream.push(MARK[0]),
             3 => stream.extend_from_slice(&MARK),
             4 => stream.extend(self.false_head()),
             5 => {
@@ -56,7 +70,8 @@ impl Generator {
     /// Up to 40 bytes that are mostly parts of marks and heads.
     fn noise_of_marks(&mut self) -> Vec<u8> {
         let count = self.random.between(1, 40);
-        let bytes = [0x45, 0x45, 0x57, 0x57, 0, 0, 1, 4, 0xFF];
+        let [first, second] = MARK;
+        let bytes = [first, first, second, second, 0, 0, 1, 4, 0xFF];
         (0..count).map(|_| self.random.pick(&bytes)).collect()
     }
 
@@ -64,28 +79,24 @@ impl Generator {
     pub fn record(&mut self, store: &[u8]) -> Vec<u8> {
         let clock = self.clock(store);
         let command = self.command(store);
-        self.record_of(clock, &command)
+        record_of(clock, &command)
     }
 
-    pub(crate) fn record_of(&mut self, clock: u64, command: &[u8]) -> Vec<u8> {
-        let mut record = head(clock, command.len() as u16);
-        record.extend_from_slice(command);
-        record
-    }
-
-    /// A record of 1,036 bytes.
+    /// A record as long as can be.
     pub(crate) fn longest_record(&mut self) -> Vec<u8> {
         let mut record = head(1000, LONGEST_COMMAND as u16);
-        record.resize(
-            12 + LONGEST_COMMAND,
-            self.random.pick(&[0, 0x45, 0x57, 0xFF]),
-        );
+        let [first, second] = MARK;
+        let fill = self.random.pick(&[0, first, second, 0xFF]);
+        record.resize(LONGEST_RECORD, fill);
         record
     }
 
     /// A mark with L out of range.
     pub(crate) fn false_head(&mut self) -> Vec<u8> {
-        let length = self.random.pick(&[0, 1025, 0x5745, 0x4557, 0x0800, 65_535]);
+        // Some hold the mark's bytes, so that a mark begins inside the head.
+        let too_long = LONGEST_COMMAND as u16 + 1;
+        let lengths = [0, too_long, 0x5745, 0x4557, 0x0800, u16::MAX];
+        let length = self.random.pick(&lengths);
         let clock = self.random.pick(&[0, 1000, 0x5745, 0x4557_4545, u64::MAX]);
         head(clock, length)
     }
@@ -96,8 +107,8 @@ impl Generator {
             0 => &[usize::MAX],
             1 if length < 4000 => &[1],
             2 => &[2, 7, 1000],
-            3 => &[0, 1, 2, 3, 11, 12, 13],
-            4 => &[1000, 1035, 1036, 65_536],
+            3 => &[0, 1, 2, 3, HEAD - 1, HEAD, HEAD + 1],
+            4 => &[1000, MOST_WAITING, LONGEST_RECORD, MOST_USED],
             _ => &[0, 1, 5, 30, 100, 500],
         };
         // A long stream is cut into fewer pieces.
@@ -111,12 +122,4 @@ impl Generator {
         }
         pieces
     }
-}
-
-/// Mark, clock and L.
-fn head(clock: u64, length: u16) -> Vec<u8> {
-    let mut head = MARK.to_vec();
-    head.extend_from_slice(&clock.to_le_bytes());
-    head.extend_from_slice(&length.to_le_bytes());
-    head
 }

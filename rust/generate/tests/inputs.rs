@@ -1,10 +1,11 @@
 //! What the generator promises of its inputs, judged by the model.
 
-use generate::{Generator, State};
+use generate::layout::LEAST_REPLY_BUFFER;
+use generate::{Generator, LONGEST_REPLY_BUFFER, State};
 use model::feeder::whole;
+use model::reply::Refusal;
 use model::{Feeder, execute, feed, store_check};
-
-const REFUSALS: [u32; 14] = [10, 11, 12, 13, 14, 15, 16, 17, 18, 20, 21, 22, 23, 24];
+use std::collections::BTreeMap;
 
 fn feeder(state: &State) -> Feeder {
     Feeder {
@@ -30,7 +31,7 @@ fn stores_are_well_formed_or_damaged() {
 #[test]
 fn states_are_left_by_feeding_or_damaged() {
     let mut generator = Generator::new(2);
-    let mut reply = vec![0; 56_000];
+    let mut reply = vec![0; LEAST_REPLY_BUFFER];
     for _ in 0..5_000 {
         let mut store = generator.store();
         let left = feeder(&generator.left_state(&store));
@@ -46,28 +47,31 @@ fn states_are_left_by_feeding_or_damaged() {
 #[test]
 fn commands_meet_every_refusal() {
     let mut generator = Generator::new(3);
-    let mut met = [0; 25];
-    let mut reply = vec![0; 56_000];
+    let mut met = BTreeMap::new();
+    let mut reply = vec![0; LEAST_REPLY_BUFFER];
     for _ in 0..20_000 {
         let mut store = generator.store();
         let before = store.clone();
         let (clock, command) = (generator.clock(&store), generator.command(&store));
         let done = execute(clock, &command, &mut store, &mut reply);
-        met[done.refusal as usize] += 1;
+        *met.entry(done.refusal).or_insert(0) += 1;
         assert_eq!(store_check(&store), 0);
         assert!(done.reply_len > 0);
         assert!(!(10..=18).contains(&done.refusal) || store == before);
     }
     println!("commands by refusal: {met:?}");
-    assert!(met[0] > 10_000);
-    assert!(REFUSALS.iter().all(|number| met[*number as usize] >= 20));
+    assert!(met[&0] > 10_000);
+    for refusal in Refusal::ALL {
+        assert!(met[&refusal.number()] >= 20, "{refusal:?}");
+    }
+    assert_eq!(met.len(), 1 + Refusal::ALL.len());
 }
 
 /// Cut anywhere, with refused calls in between, a stream gives what it gives uncut.
 #[test]
 fn cut_streams_agree_with_the_uncut_one() {
     let mut generator = Generator::new(4);
-    let mut reply = vec![0; 60_000];
+    let mut reply = vec![0; LONGEST_REPLY_BUFFER];
     for _ in 0..2_000 {
         let mut store = generator.store();
         let stream = generator.stream(&store);
@@ -82,7 +86,7 @@ fn cut_streams_agree_with_the_uncut_one() {
             while !piece.is_empty() {
                 let buffer = generator.reply_buffer_length();
                 let fed = feed(feeder, piece, &mut store, &mut reply[..buffer]);
-                assert_eq!(fed.refusal, if buffer < 56_000 { 3 } else { 0 });
+                assert_eq!(fed.refusal, if buffer < LEAST_REPLY_BUFFER { 3 } else { 0 });
                 assert_eq!(fed.used == 0, fed.refusal == 3);
                 replies.extend_from_slice(&reply[..fed.reply_len]);
                 skipped += fed.skipped;
@@ -101,7 +105,7 @@ fn cut_streams_agree_with_the_uncut_one() {
 #[test]
 fn anything_gets_an_answer() {
     let mut generator = Generator::new(6);
-    let mut reply = vec![0; 60_000];
+    let mut reply = vec![0; LONGEST_REPLY_BUFFER];
     for _ in 0..10_000 {
         let mut store = generator.damaged_store();
         let (clock, command) = (generator.clock(&store), generator.command(&store));

@@ -15,13 +15,14 @@
 #![forbid(unsafe_code)]
 
 use generate::Generator;
+use generate::layout::store_size;
 use model::feeder::whole;
 
 pub const SEED: u64 = 2;
 pub const CASES: usize = 300;
 pub const LONGEST_PART: usize = 1_500;
 const SESSION_RECORDS: usize = 6;
-const LARGEST_STORE: usize = 16 + 128 * 3;
+const MOST_SLOTS: usize = 3;
 
 /// A stream, and what the definition for one uncut stream gives for it.
 #[derive(Clone, Debug, PartialEq, Eq)]
@@ -76,7 +77,8 @@ fn answered(store: Vec<u8>, stream: Vec<u8>) -> Case {
 
 fn is_short(case: &Case) -> bool {
     let parts = [&case.stream, &case.replies];
-    case.store.len() <= LARGEST_STORE && parts.iter().all(|part| part.len() <= LONGEST_PART)
+    case.store.len() <= store_size(MOST_SLOTS)
+        && parts.iter().all(|part| part.len() <= LONGEST_PART)
 }
 
 /// The cases in the form described above.

@@ -1,36 +1,12 @@
 //! The cases kept in crates/cases/stdin.
 
+use generate::layout::LEAST_REPLY_BUFFER;
 use make_cases::{CASES, LONGEST_PART, SEED, bytes, cases};
+use model::reply::Refusal;
 use model::{Feeder, feed, store_check};
 use std::collections::BTreeMap;
 
 const LARGEST_FILE: usize = 400_000;
-const REFUSALS_OF_COMMANDS: usize = 14;
-const NAMES: [&str; 23] = [
-    "EXHSET",
-    "EXHMSET",
-    "EXHINCRBY",
-    "EXHEXPIRE",
-    "EXHEXPIREAT",
-    "EXHPEXPIRE",
-    "EXHPEXPIREAT",
-    "EXHPERSIST",
-    "EXHSETVER",
-    "EXHPTTL",
-    "EXHTTL",
-    "EXHVER",
-    "EXHGET",
-    "EXHSTRLEN",
-    "EXHEXISTS",
-    "EXHGETWITHVER",
-    "EXHMGET",
-    "EXHMGETWITHVER",
-    "EXHDEL",
-    "EXHLEN",
-    "EXHKEYS",
-    "EXHVALS",
-    "EXHGETALL",
-];
 
 fn kept() -> Vec<u8> {
     let file = concat!(env!("CARGO_MANIFEST_DIR"), "/../../crates/cases/stdin");
@@ -71,7 +47,7 @@ fn the_file_is_made_from_its_seed() {
 fn feeding_byte_by_byte_gives_the_answers() {
     let file = kept();
     let mut reader = Reader { rest: &file };
-    let mut reply = vec![0; 56_000];
+    let mut reply = vec![0; LEAST_REPLY_BUFFER];
     let mut count = 0;
     while !reader.rest.is_empty() {
         let mut store = reader.part().to_vec();
@@ -99,7 +75,7 @@ fn the_cases_meet_every_name_and_refusal() {
     let cases = cases(SEED, CASES);
     let text = |bytes: &[u8]| String::from_utf8_lossy(bytes).to_ascii_uppercase();
     let streams: String = cases.iter().map(|case| text(&case.stream)).collect();
-    for name in NAMES {
+    for name in generate::names() {
         let word = format!("${}\r\n{name}\r\n", name.len());
         assert!(streams.contains(&word), "{name}");
     }
@@ -108,7 +84,7 @@ fn the_cases_meet_every_name_and_refusal() {
     for line in replies.lines().filter(|line| line.starts_with("-ERR ")) {
         *errors.entry(line).or_insert(0) += 1;
     }
-    assert_eq!(errors.len(), REFUSALS_OF_COMMANDS);
+    assert_eq!(errors.len(), Refusal::ALL.len());
     assert!(errors.values().all(|count| *count >= 5), "{errors:?}");
     assert!(cases.iter().any(|case| case.skipped > 0));
     assert!(cases.iter().any(|case| !case.waiting.is_empty()));

@@ -1,8 +1,9 @@
 //! Command by command.
 
 use crate::integer::{Text, plain};
+use crate::layout::{LARGEST_VERSION, LEAST_REPLY_BUFFER, TIME_LIMIT};
 use crate::parse::{self, Command, Condition, Expire, IncrBy, NewExpiry, Set};
-use crate::reply::{LEAST_BUFFER, Refusal, Reply};
+use crate::reply::{Refusal, Reply};
 use crate::resp;
 use crate::store::{self, Entry, Name, Slot, Store};
 use crate::time;
@@ -27,7 +28,7 @@ pub fn execute(clock: u64, command: &[u8], store: &mut [u8], reply: &mut [u8]) -
     let Some(mut store) = Store::view(store) else {
         return refused(2);
     };
-    if reply.len() < LEAST_BUFFER {
+    if reply.len() < LEAST_REPLY_BUFFER {
         return refused(3);
     }
     let mut reply = Reply::new(reply);
@@ -43,7 +44,7 @@ pub fn execute(clock: u64, command: &[u8], store: &mut [u8], reply: &mut [u8]) -
 
 fn obey(clock: u64, command: &[u8], store: &mut Store, reply: &mut Reply) -> Result<(), Refusal> {
     let words = resp::words(command).ok_or(Refusal::Protocol)?;
-    if clock >= time::LIMIT {
+    if clock >= TIME_LIMIT {
         return Err(Refusal::ClockOutOfRange);
     }
     let now = time::now(store.clock(), clock);
@@ -133,7 +134,7 @@ fn mset(key: &[u8], pairs: &[[&[u8]; 2]], store: &mut Store, now: u64) -> Result
             // "A repeated field counted once."
             None => new_fields += usize::from(repeats == 0),
             // "Version would pass its largest, at any pair of an EXHMSET."
-            Some(slot) if store::version(slot) >= versions::LARGEST - repeats => {
+            Some(slot) if store::version(slot) >= LARGEST_VERSION - repeats => {
                 return Err(Refusal::VersionOverflow);
             }
             Some(_) => {}

@@ -2,18 +2,11 @@
 
 use crate::commands;
 use crate::integer::low_first;
-use crate::reply::LEAST_BUFFER;
+use crate::layout::{
+    COMMAND_LENGTH, HEAD, LEAST_REPLY_BUFFER, LONGEST_RECORD, MARK, MOST_USED, MOST_WAITING,
+    RECORD_CLOCK,
+};
 use crate::store::{is_zero, store_check};
-
-/// Mark, clock and L.
-const HEAD: usize = 12;
-const LONGEST_COMMAND: usize = 1024;
-const LONGEST_RECORD: usize = HEAD + LONGEST_COMMAND;
-
-pub const MOST_WAITING: usize = LONGEST_RECORD - 1;
-
-/// A call uses no more bytes than this.
-pub const MOST_USED: usize = 65_536;
 
 /// "The waiting bytes (at most 1,035) and how many, unused places zero."
 #[derive(Clone, Debug, PartialEq, Eq)]
@@ -94,7 +87,7 @@ fn refusal(feeder: &Feeder, store: &[u8], reply: &[u8]) -> u32 {
         1
     } else if store_check(store) != 0 {
         2
-    } else if reply.len() < LEAST_BUFFER {
+    } else if reply.len() < LEAST_REPLY_BUFFER {
         3
     } else {
         0
@@ -135,12 +128,15 @@ impl Stream<'_> {
 
     /// The rule of "The record", at one place of the stream.
     fn next(&self, at: usize) -> Next {
+        const FIRST: u8 = MARK[0];
+        const SECOND: u8 = MARK[1];
         match (self.get(at), self.get(at + 1)) {
-            (None, _) | (Some(0x45), None) => return Next::Wait,
-            (Some(0x45), Some(0x57)) => {}
+            (None, _) | (Some(FIRST), None) => return Next::Wait,
+            (Some(FIRST), Some(SECOND)) => {}
             _ => return Next::Skip,
         }
-        let (Some(low), Some(high)) = (self.get(at + 10), self.get(at + 11)) else {
+        let [low, high] = [COMMAND_LENGTH.start, COMMAND_LENGTH.end - 1];
+        let (Some(low), Some(high)) = (self.get(at + low), self.get(at + high)) else {
             return Next::Wait;
         };
         let length = HEAD + usize::from(u16::from_le_bytes([low, high]));
@@ -206,7 +202,7 @@ fn join<'a>(head: &[u8], tail: &[u8], to: &'a mut [u8]) -> &'a [u8] {
 /// "Mark, then the clock in ms, then L, then L bytes of command."
 fn execute_record(record: &[u8], store: &mut [u8], reply: &mut [u8]) -> usize {
     let (head, command) = record.split_at(HEAD);
-    let clock = low_first(&head[2..10]);
+    let clock = low_first(&head[RECORD_CLOCK]);
     commands::execute(clock, command, store, reply).reply_len
 }
 
@@ -220,7 +216,7 @@ pub struct Whole<'a> {
 
 /// Demand 3's definition, which "knows no calls and no cuts", on a well-formed store.
 pub fn whole<'a>(stream: &'a [u8], store: &mut [u8]) -> Whole<'a> {
-    let mut reply = vec![0; LEAST_BUFFER];
+    let mut reply = vec![0; LEAST_REPLY_BUFFER];
     let mut replies = Vec::new();
     let mut skipped = 0;
     let mut rest = stream;

@@ -1,14 +1,15 @@
 //! The second implementation of paper 01: written from the paper, clear before fast.
 //!
-//! The modules follow the paper's sections, from the bottom: numbers and words
-//! (`integer`, `resp`), the store (`store`, `time`, `versions`), commands
-//! (`parse`, `commands`, `reply`), then the feeder.
+//! The modules follow the paper's sections, from the bottom: its numbers (`layout`), integers and
+//! words (`integer`, `resp`), the store (`store`, `time`, `versions`), commands (`parse`, `commands`,
+//! `reply`), then the feeder.
 
 #![forbid(unsafe_code)]
 
 pub mod commands;
 pub mod feeder;
 pub mod integer;
+pub mod layout;
 pub mod parse;
 pub mod reply;
 pub mod resp;

@@ -1,10 +1,11 @@
 //! From words to a command: checks 12 to 18, in that order.
 
 use crate::integer::{plain, plain_up_to};
+use crate::layout::{LARGEST_VERSION, LONGEST_FIELD, LONGEST_KEY, LONGEST_VALUE, TIME_LIMIT};
 use crate::reply::Refusal;
-use crate::store::{LONGEST_FIELD, LONGEST_KEY, LONGEST_VALUE, Name};
+use crate::store::Name;
 use crate::time::{self, Unit};
-use crate::versions::{self, Given};
+use crate::versions::Given;
 
 type Word<'w> = &'w [u8];
 
@@ -283,12 +284,12 @@ fn integer(text: Word) -> Result<i64, Refusal> {
 
 /// "Times are plain, 0 to 4,102,444,800,000."
 fn time(text: Word) -> Result<u64, Refusal> {
-    plain_up_to(text, time::LIMIT).ok_or(Refusal::NotAnInteger)
+    plain_up_to(text, TIME_LIMIT).ok_or(Refusal::NotAnInteger)
 }
 
 /// "Versions plain, 0 to their largest."
 fn version(text: Word) -> Result<u32, Refusal> {
-    let version = plain_up_to(text, u64::from(versions::LARGEST));
+    let version = plain_up_to(text, u64::from(LARGEST_VERSION));
     version
         .map(|version| version as u32)
         .ok_or(Refusal::NotAnInteger)

@@ -2,9 +2,6 @@
 
 use crate::integer::Text;
 
-/// A reply buffer under this size is refused.
-pub const LEAST_BUFFER: usize = 56_000;
-
 /// The refusals of a command, with the paper's numbers.
 #[derive(Clone, Copy, Debug, PartialEq, Eq)]
 pub enum Refusal {
@@ -25,6 +22,24 @@ pub enum Refusal {
 }
 
 impl Refusal {
+    /// In the order of their numbers.
+    pub const ALL: [Refusal; 14] = [
+        Refusal::Protocol,
+        Refusal::ClockOutOfRange,
+        Refusal::UnknownCommand,
+        Refusal::WrongNumberOfArguments,
+        Refusal::TooLong,
+        Refusal::SyntaxError,
+        Refusal::NotAnInteger,
+        Refusal::InvalidVersion,
+        Refusal::InvalidExpireTime,
+        Refusal::StaleVersion,
+        Refusal::HashValueNotAnInteger,
+        Refusal::Overflow,
+        Refusal::VersionOverflow,
+        Refusal::StoreFull,
+    ];
+
     pub fn number(self) -> u32 {
         self as u32
     }
@@ -100,7 +115,7 @@ impl<'a> Reply<'a> {
         self.raw(b"\r\n");
     }
 
-    /// A buffer of `LEAST_BUFFER` holds the longest reply, so nothing is ever cut off.
+    /// A buffer of `LEAST_REPLY_BUFFER` holds the longest reply, so nothing is ever cut off.
     fn raw(&mut self, bytes: &[u8]) {
         let end = self.length + bytes.len();
         if let Some(place) = self.buffer.get_mut(self.length..end) {

@@ -1,6 +1,6 @@
 //! The command's words: "one RESP2 array of 1 to 64 bulk strings, filling the L bytes exactly".
 
-pub const MOST_WORDS: usize = 64;
+use crate::layout::MOST_WORDS;
 
 /// The words of a command, each a part of its bytes.
 pub struct Words<'a> {
@@ -71,7 +71,7 @@ impl<'a> Cursor<'a> {
 
 #[cfg(test)]
 mod tests {
-    use super::words;
+    use super::{MOST_WORDS, words};
 
     #[test]
     fn words_fill_the_command_exactly() {
@@ -109,8 +109,8 @@ mod tests {
     }
 
     #[test]
-    fn sixty_four_words_at_most() {
-        for (count, accepted) in [(64, true), (65, false)] {
+    fn so_many_words_at_most() {
+        for (count, accepted) in [(MOST_WORDS, true), (MOST_WORDS + 1, false)] {
             let command = format!("*{count}\r\n{}", "$0\r\n\r\n".repeat(count));
             assert_eq!(words(command.as_bytes()).is_some(), accepted);
         }

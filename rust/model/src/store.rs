@@ -1,21 +1,13 @@
 //! The store's bytes.
 
 use crate::integer::low_first;
+use crate::layout::{
+    CLOCK, EMPTY, EXPIRY, FIELD, FIELD_LENGTH, HEADER, HELD, HELD_WITH_EXPIRY, KEY, KEY_LENGTH,
+    MOST_SLOTS, RESERVED, SLOT, STATE, TIME_LIMIT, VALUE, VALUE_LENGTH, VERSION,
+};
 use crate::time;
 
-pub const MOST_SLOTS: usize = 500;
-pub const LONGEST_KEY: usize = 16;
-pub const LONGEST_FIELD: usize = 32;
-pub const LONGEST_VALUE: usize = 64;
-
-const HEADER: usize = 16;
-const SLOT: usize = 128;
-
-const EMPTY: u8 = 0;
-const HELD: u8 = 1;
-const HELD_WITH_EXPIRY: u8 = 2;
-
-/// One slot: state, three lengths, version, expiry, then the places of key, field and value.
+/// One slot's bytes.
 pub type Slot = [u8; SLOT];
 
 const EMPTY_SLOT: Slot = [0; SLOT];
@@ -36,7 +28,7 @@ pub struct Entry<'a> {
 }
 
 pub fn is_held(slot: &Slot) -> bool {
-    slot[0] != EMPTY
+    slot[STATE] != EMPTY
 }
 
 pub fn is_live(slot: &Slot, now: u64) -> bool {
@@ -44,11 +36,11 @@ pub fn is_live(slot: &Slot, now: u64) -> bool {
 }
 
 pub fn key(slot: &Slot) -> &[u8] {
-    first(&slot[16..32], slot[1])
+    first(&slot[KEY], slot[KEY_LENGTH])
 }
 
 pub fn field(slot: &Slot) -> &[u8] {
-    first(&slot[32..64], slot[2])
+    first(&slot[FIELD], slot[FIELD_LENGTH])
 }
 
 pub fn name(slot: &Slot) -> Name<'_> {
@@ -59,40 +51,40 @@ pub fn name(slot: &Slot) -> Name<'_> {
 }
 
 pub fn value(slot: &Slot) -> &[u8] {
-    first(&slot[64..128], slot[3])
+    first(&slot[VALUE], slot[VALUE_LENGTH])
 }
 
 pub fn version(slot: &Slot) -> u32 {
-    u32::from_le_bytes([slot[4], slot[5], slot[6], slot[7]])
+    low_first(&slot[VERSION]) as u32
 }
 
 pub fn expiry(slot: &Slot) -> Option<u64> {
-    (slot[0] == HELD_WITH_EXPIRY).then(|| expiry_bytes(slot))
+    (slot[STATE] == HELD_WITH_EXPIRY).then(|| expiry_bytes(slot))
 }
 
 pub fn set_version(slot: &mut Slot, version: u32) {
-    slot[4..8].copy_from_slice(&version.to_le_bytes());
+    slot[VERSION].copy_from_slice(&version.to_le_bytes());
 }
 
 pub fn set_expiry(slot: &mut Slot, expiry: Option<u64>) {
-    slot[0] = match expiry {
+    slot[STATE] = match expiry {
         None => HELD,
         Some(_) => HELD_WITH_EXPIRY,
     };
-    slot[8..16].copy_from_slice(&expiry.unwrap_or(0).to_le_bytes());
+    slot[EXPIRY].copy_from_slice(&expiry.unwrap_or(0).to_le_bytes());
 }
 
 /// The entry's lengths have passed check 14.
 pub fn write(slot: &mut Slot, entry: &Entry) {
     *slot = EMPTY_SLOT;
-    slot[1] = entry.name.key.len() as u8;
-    slot[2] = entry.name.field.len() as u8;
-    slot[3] = entry.value.len() as u8;
+    slot[KEY_LENGTH] = entry.name.key.len() as u8;
+    slot[FIELD_LENGTH] = entry.name.field.len() as u8;
+    slot[VALUE_LENGTH] = entry.value.len() as u8;
     set_version(slot, entry.version);
     set_expiry(slot, entry.expiry);
-    fill(&mut slot[16..32], entry.name.key);
-    fill(&mut slot[32..64], entry.name.field);
-    fill(&mut slot[64..128], entry.value);
+    fill(&mut slot[KEY], entry.name.key);
+    fill(&mut slot[FIELD], entry.name.field);
+    fill(&mut slot[VALUE], entry.value);
 }
 
 /// "An empty slot is all zero."
@@ -101,7 +93,7 @@ pub fn clear(slot: &mut Slot) {
 }
 
 fn expiry_bytes(slot: &Slot) -> u64 {
-    low_first(&slot[8..16])
+    low_first(&slot[EXPIRY])
 }
 
 fn first(place: &[u8], length: u8) -> &[u8] {
@@ -121,7 +113,7 @@ pub struct Store<'a> {
 }
 
 impl<'a> Store<'a> {
-    /// None if there are not 16+128·n bytes, n from 1 to 500.
+    /// None if the bytes are not a header and 1 to `MOST_SLOTS` slots.
     pub fn view(bytes: &'a mut [u8]) -> Option<Store<'a>> {
         let (header, places) = bytes.split_first_chunk_mut()?;
         let (slots, rest) = places.as_chunks_mut();
@@ -129,11 +121,11 @@ impl<'a> Store<'a> {
     }
 
     pub fn clock(&self) -> u64 {
-        low_first(&self.header[..8])
+        low_first(&self.header[CLOCK])
     }
 
     pub fn set_clock(&mut self, now: u64) {
-        self.header[..8].copy_from_slice(&now.to_le_bytes());
+        self.header[CLOCK].copy_from_slice(&now.to_le_bytes());
     }
 
     /// The slot of a live entry. A dead one is removed: "every dead entry it names is removed".
@@ -193,23 +185,23 @@ fn is_well_formed(store: &[u8]) -> bool {
     };
     let (slots, rest) = places.as_chunks();
     is_length(slots.len(), rest.len())
-        && low_first(&header[..8]) < time::LIMIT
-        && is_zero(&header[8..])
+        && low_first(&header[CLOCK]) < TIME_LIMIT
+        && is_zero(&header[RESERVED])
         && slots.iter().all(is_slot_well_formed)
         && are_distinct(slots)
 }
 
 fn is_slot_well_formed(slot: &Slot) -> bool {
-    let expiry_fits = match slot[0] {
+    let expiry_fits = match slot[STATE] {
         EMPTY => return is_zero(slot),
         HELD => expiry_bytes(slot) == 0,
-        HELD_WITH_EXPIRY => expiry_bytes(slot) <= time::LIMIT,
+        HELD_WITH_EXPIRY => expiry_bytes(slot) <= TIME_LIMIT,
         _ => false,
     };
     expiry_fits
-        && is_zero_beyond(&slot[16..32], slot[1])
-        && is_zero_beyond(&slot[32..64], slot[2])
-        && is_zero_beyond(&slot[64..128], slot[3])
+        && is_zero_beyond(&slot[KEY], slot[KEY_LENGTH])
+        && is_zero_beyond(&slot[FIELD], slot[FIELD_LENGTH])
+        && is_zero_beyond(&slot[VALUE], slot[VALUE_LENGTH])
 }
 
 /// "Places beyond a length are zero"; the length is no longer than the place.
@@ -240,5 +232,8 @@ fn are_distinct(slots: &[Slot]) -> bool {
 
 /// With zero beyond the lengths, the two places and the two lengths tell key and field.
 fn key_and_field(slot: &Slot) -> (&[u8], &[u8]) {
-    (&slot[16..64], &slot[1..3])
+    (
+        &slot[KEY.start..FIELD.end],
+        &slot[KEY_LENGTH..=FIELD_LENGTH],
+    )
 }

@@ -1,7 +1,6 @@
 //! Time.
 
-/// No clock reaches this many ms; an expiry may.
-pub const LIMIT: u64 = 4_102_444_800_000;
+use crate::layout::TIME_LIMIT;
 
 /// "EX and EXAT are seconds, PX and PXAT ms; EX and PX count from now."
 #[derive(Clone, Copy, Debug, PartialEq, Eq)]
@@ -30,5 +29,5 @@ pub fn instant(unit: Unit, time: u64, now: u64) -> Option<u64> {
         Unit::Px => time.checked_add(now)?,
         Unit::PxAt => time,
     };
-    (instant <= LIMIT).then_some(instant)
+    (instant <= TIME_LIMIT).then_some(instant)
 }

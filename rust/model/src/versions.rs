@@ -1,7 +1,6 @@
 //! Versions.
 
-/// "Largest version 4,294,967,295."
-pub const LARGEST: u32 = u32::MAX;
+use crate::layout::LARGEST_VERSION;
 
 /// The version a command gives.
 #[derive(Clone, Copy, Debug, PartialEq, Eq)]
@@ -24,6 +23,7 @@ pub fn next(given: Given, live: Option<u32>) -> Option<u32> {
     match (given, live) {
         (Given::Abs(given), _) => Some(given),
         (_, None) => Some(1),
-        (_, Some(held)) => held.checked_add(1),
+        (_, Some(LARGEST_VERSION)) => None,
+        (_, Some(held)) => Some(held + 1),
     }
 }

@@ -3,15 +3,19 @@
 mod common;
 
 use common::{Handset, record};
+use model::layout::{
+    HEAD, LARGEST_VERSION, LEAST_REPLY_BUFFER, LONGEST_COMMAND, LONGEST_FIELD, LONGEST_VALUE,
+    MOST_SLOTS, MOST_USED, MOST_WAITING, TIME_LIMIT, store_size,
+};
 use model::{Fed, Feeder, execute, feed, store_check};
 
-const MARK: [u8; 2] = [0x45, 0x57];
+const LONGEST_L: u16 = LONGEST_COMMAND as u16;
 const VERSION_OVERFLOW: &str = "-ERR version overflow";
 const FULL: &str = "-ERR store is full";
 
 /// A head with a mark and an L, its clock zero.
 fn head(length: u16) -> Vec<u8> {
-    [&MARK[..], &[0; 8], &length.to_le_bytes()].concat()
+    common::head(0, length)
 }
 
 fn waiting(fed: &Fed) -> &[u8] {
@@ -21,7 +25,7 @@ fn waiting(fed: &Fed) -> &[u8] {
 #[test]
 fn a_45_before_the_mark_is_skipped_alone() {
     let stream = [&[0x45], &record(1000, "EXHGET m t1")[..]].concat();
-    assert_eq!(stream.len(), 1 + 12 + 31);
+    assert_eq!(stream.len(), 1 + HEAD + 31);
     let (fed, reply) = Handset::new(1).feed(Feeder::fresh(), &stream);
     assert_eq!(
         (fed.used, fed.skipped, reply.as_str()),
@@ -33,64 +37,68 @@ fn a_45_before_the_mark_is_skipped_alone() {
 #[test]
 fn with_l_out_of_range_only_the_45_is_skipped() {
     // The record begins in the false head's clock, as its L, or after it.
-    for start in [2, 10, 12] {
+    for start in [2, HEAD - 2, HEAD] {
         let record = record(1000, "EXHLEN m");
-        let stream = [&head(65_535)[..start], &record].concat();
+        let stream = [&head(u16::MAX)[..start], &record].concat();
         let (fed, reply) = Handset::new(1).feed(Feeder::fresh(), &stream);
         assert_eq!(
             (fed.used, fed.skipped, reply.as_str()),
             (stream.len(), start, ":0")
         );
     }
-    for length in [0, 1025, 65_535] {
-        let (fed, _) = Handset::new(1).feed(Feeder::fresh(), &head(length));
-        assert_eq!((fed.used, fed.skipped, waiting(&fed)), (12, 12, &[][..]));
-    }
-    for length in [1, 1024] {
+    for length in [0, LONGEST_L + 1, u16::MAX] {
         let (fed, _) = Handset::new(1).feed(Feeder::fresh(), &head(length));
         assert_eq!(
             (fed.used, fed.skipped, waiting(&fed)),
-            (12, 0, &head(length)[..])
+            (HEAD, HEAD, &[][..])
+        );
+    }
+    for length in [1, LONGEST_L] {
+        let (fed, _) = Handset::new(1).feed(Feeder::fresh(), &head(length));
+        assert_eq!(
+            (fed.used, fed.skipped, waiting(&fed)),
+            (HEAD, 0, &head(length)[..])
         );
     }
 }
 
 #[test]
 fn nothing_is_decided_from_the_low_byte_of_l() {
-    let cut = &head(0)[..11];
+    let cut = &head(0)[..HEAD - 1];
     let (fed, _) = Handset::new(1).feed(Feeder::fresh(), cut);
-    assert_eq!((fed.used, fed.skipped, waiting(&fed)), (11, 0, cut));
+    assert_eq!((fed.used, fed.skipped, waiting(&fed)), (HEAD - 1, 0, cut));
 }
 
 #[test]
 fn skipped_can_exceed_used() {
     let mut handset = Handset::new(1);
-    let (fed, _) = handset.feed(Feeder::fresh(), &head(0)[..11]);
+    let (fed, _) = handset.feed(Feeder::fresh(), &head(0)[..HEAD - 1]);
     let (fed, _) = handset.feed(fed.feeder, &[0]);
-    assert_eq!((fed.used, fed.skipped), (1, 12));
+    assert_eq!((fed.used, fed.skipped), (1, HEAD));
     assert_eq!(fed.feeder, Feeder::fresh());
 }
 
 #[test]
-fn a_call_uses_65_536_bytes_of_its_piece_at_most() {
+fn a_call_uses_so_many_bytes_of_its_piece_at_most() {
     let mut handset = Handset::new(1);
-    let (fed, _) = handset.feed(Feeder::fresh(), &[0; 70_000]);
-    assert_eq!((fed.used, fed.skipped), (65_536, 65_536));
+    let noise = [0; MOST_USED + 4_000];
+    let (fed, _) = handset.feed(Feeder::fresh(), &noise);
+    assert_eq!((fed.used, fed.skipped), (MOST_USED, MOST_USED));
     // Bytes that waited do not count.
-    let (fed, _) = handset.feed(Feeder::fresh(), &head(0)[..11]);
-    let (fed, _) = handset.feed(fed.feeder, &[0; 70_000]);
-    assert_eq!((fed.used, fed.skipped), (65_536, 65_547));
+    let (fed, _) = handset.feed(Feeder::fresh(), &head(0)[..HEAD - 1]);
+    let (fed, _) = handset.feed(fed.feeder, &noise);
+    assert_eq!((fed.used, fed.skipped), (MOST_USED, MOST_USED + HEAD - 1));
     // A record that ends with the last byte is done; one byte later it waits.
     let record = record(0, "EXHLEN m");
     for (noise, done) in [
-        (65_536 - record.len(), true),
-        (65_537 - record.len(), false),
+        (MOST_USED - record.len(), true),
+        (MOST_USED + 1 - record.len(), false),
     ] {
         let piece = [&vec![0; noise], &record[..]].concat();
         let (fed, _) = handset.feed(Feeder::fresh(), &piece);
         assert_eq!(
             (fed.used, fed.skipped, fed.reply_len > 0),
-            (65_536, noise, done)
+            (MOST_USED, noise, done)
         );
     }
 }
@@ -100,13 +108,13 @@ fn refusals_of_a_call_in_order_and_without_a_trace() {
     let mut damaged = Feeder::fresh();
     damaged.count = usize::MAX;
     let piece = record(0, "EXHSET m a 1");
-    let good = vec![0; 144];
-    let bad = vec![1; 144];
+    let good = vec![0; store_size(1)];
+    let bad = vec![1; store_size(1)];
     for piece in [&piece[..], &[]] {
         for (feeder, store, length, refusal) in [
             (&damaged, &bad, 0, 1),
             (&Feeder::fresh(), &bad, 0, 2),
-            (&Feeder::fresh(), &good, 55_999, 3),
+            (&Feeder::fresh(), &good, LEAST_REPLY_BUFFER - 1, 3),
         ] {
             let mut lent = (store.clone(), vec![7; length]);
             let fed = feed(feeder.clone(), piece, &mut lent.0, &mut lent.1);
@@ -134,16 +142,16 @@ fn states_that_no_feeding_leaves() {
     for (feeder, refusal) in [
         (state(0, &[]), 0),
         (state(1, &[0x45]), 0),
-        (state(11, &head(0)[..11]), 0),
-        (state(1035, &head(1024)), 0),
+        (state(HEAD - 1, &head(0)[..HEAD - 1]), 0),
+        (state(MOST_WAITING, &head(LONGEST_L)), 0),
         (state(1, &[0x44]), 1),
         (state(0, &[0x45]), 1),
         (state(2, &[0x45, 0x45]), 1),
-        (state(12, &head(0)), 1),
-        (state(12, &head(1025)), 1),
+        (state(HEAD, &head(0)), 1),
+        (state(HEAD, &head(LONGEST_L + 1)), 1),
         (state(whole.len(), &whole), 1),
         (state(whole.len() - 1, &whole), 1),
-        (state(1036, &head(1024)), 1),
+        (state(MOST_WAITING + 1, &head(LONGEST_L)), 1),
         (state(usize::MAX, &[]), 1),
     ] {
         let (fed, _) = Handset::new(1).feed(feeder.clone(), &[]);
@@ -157,7 +165,7 @@ fn a_refused_command_is_a_completed_record() {
     let mut handset = Handset::new(1);
     let (fed, reply) = handset.feed(Feeder::fresh(), &stream);
     assert_eq!((fed.refusal, reply.as_str()), (0, "-ERR unknown command"));
-    assert_eq!(handset.store, vec![0; 144]);
+    assert_eq!(handset.store, vec![0; store_size(1)]);
     let (fed, reply) = handset.feed(fed.feeder, &stream[fed.used..]);
     assert_eq!((fed.refusal, reply.as_str()), (0, ":0"));
     assert_eq!(handset.store[0], 6);
@@ -166,13 +174,14 @@ fn a_refused_command_is_a_completed_record() {
 #[test]
 fn version_overflow_before_store_full() {
     let mut handset = Handset::new(2);
-    handset.reply(0, "EXHSET m a 1 ABS 4294967294");
+    let version = LARGEST_VERSION - 1;
+    handset.reply(0, &format!("EXHSET m a 1 ABS {version}"));
     handset.reply(0, "EXHSET m b 1");
     let twice = handset.run(1, "EXHMSET m c 1 d 1 a 1 a 2");
     assert_eq!(twice, (23, VERSION_OVERFLOW.to_string()));
     let once = handset.run(1, "EXHMSET m c 1 d 1 a 1");
     assert_eq!(once, (24, FULL.to_string()));
-    assert_eq!(handset.reply(1, "EXHVER m a"), ":4294967294");
+    assert_eq!(handset.reply(1, "EXHVER m a"), format!(":{version}"));
 }
 
 #[test]
@@ -189,7 +198,7 @@ fn exhmset_is_all_or_none() {
 #[test]
 fn a_refused_exhmset_still_removes_every_dead_entry_it_names() {
     let mut handset = Handset::new(4);
-    handset.reply(0, "EXHSET m a 1 ABS 4294967295");
+    handset.reply(0, &format!("EXHSET m a 1 ABS {LARGEST_VERSION}"));
     handset.reply(0, "EXHSET m b 1 PX 1");
     handset.reply(0, "EXHSET m c 1 PX 1");
     let (number, _) = handset.run(1, "EXHMSET m b 1 a 1 b 2");
@@ -215,11 +224,12 @@ fn dead_fields_are_missing() {
 
 #[test]
 fn a_dead_entry_stays_until_check_18_is_passed() {
+    let too_late = format!("EXHSET m a 1 EXAT {}", TIME_LIMIT / 1000 + 1);
     for (command, refusal) in [
         ("EXHSET m a 1 EX", 15),
         ("EXHSET m a 1 EX x", 16),
         ("EXHSET m a 1 ABS 0 NX", 17),
-        ("EXHSET m a 1 EXAT 4102444801", 18),
+        (&too_late, 18),
     ] {
         let mut handset = Handset::new(1);
         handset.reply(0, "EXHSET m a 1 PX 1");
@@ -231,15 +241,15 @@ fn a_dead_entry_stays_until_check_18_is_passed() {
 
 #[test]
 fn the_lowest_number_is_given() {
-    let long = "x".repeat(65);
+    let long = "x".repeat(LONGEST_VALUE + 1);
     for (command, refusal) in [
         (format!("EXHSET m a {long} EX EX EX"), 14),
         ("EXHSET m a 1 ABS 0 EX x PXAT 1".to_string(), 15),
         ("EXHSET m a 1 ABS 0 EX x".to_string(), 16),
-        ("EXHSET m a 1 ABS 0 EX 4102444800000".to_string(), 17),
+        (format!("EXHSET m a 1 ABS 0 EX {TIME_LIMIT}"), 17),
         (format!("EXHINCRBY m a {long}"), 16),
-        (format!("EXHSET {long} a 1 GT"), 14),
-        ("EXHSET m a 1 GT".to_string(), 15),
+        (format!("EXHSET {long} a 1 XN"), 14),
+        ("EXHSET m a 1 XN".to_string(), 15),
         ("EXHSCAN m a".to_string(), 12),
     ] {
         assert_eq!(Handset::new(1).run(0, &command).0, refusal, "{command}");
@@ -248,14 +258,18 @@ fn the_lowest_number_is_given() {
 
 #[test]
 fn the_longest_reply_fits() {
-    let mut handset = Handset::new(500);
-    for number in 0..500 {
-        let (field, value) = (format!("{number:032}"), "v".repeat(64));
+    let mut handset = Handset::new(MOST_SLOTS);
+    let mut expected = format!("*{}\r\n", 2 * MOST_SLOTS);
+    for number in 0..MOST_SLOTS {
+        let field = format!("{number:0LONGEST_FIELD$}");
+        let value = "v".repeat(LONGEST_VALUE);
         handset.reply(0, &format!("EXHSET m {field} {value}"));
+        expected += &format!("${LONGEST_FIELD}\r\n{field}\r\n${LONGEST_VALUE}\r\n{value}\r\n");
     }
-    let mut reply = vec![0; 56_000];
+    let mut reply = vec![0; LEAST_REPLY_BUFFER];
     let command = common::resp("EXHGETALL m");
     let done = execute(0, &command, &mut handset.store, &mut reply);
-    assert_eq!((done.refusal, done.reply_len), (0, 55_007));
+    assert_eq!(done.refusal, 0);
+    assert!(reply[..done.reply_len] == *expected.as_bytes());
     assert_eq!(store_check(&handset.store), 0);
 }

@@ -13,44 +13,8 @@ Inv-loop stream cut replies store₀ reply₀ run₀ at₀ store reply run at = 
 abbrev μ-loop : tie.MeasureT-loop
 μ-loop stream cut replies store₀ reply₀ run₀ at₀ store reply run at = length stream - at
 
-fresh-requires : tie.Need-fresh-requires Inv-loop μ-loop
-fresh-requires c κs = search needs
-
-loop-holds : tie.Need-loop-holds Inv-loop μ-loop
-loop-holds c = search needs
-
-advance-requires : tie.Need-advance-requires Inv-loop μ-loop
-advance-requires c κs = search needs
-
-sub-feed : tie.Need-sub-feed Inv-loop μ-loop
-sub-feed c = search needs
-
-part-feed-start : tie.Need-part-feed-start Inv-loop μ-loop
-part-feed-start c = search needs
-
-part-feed-end : tie.Need-part-feed-end Inv-loop μ-loop
-part-feed-end c = search needs
-
-feed-requires : tie.Need-feed-requires Inv-loop μ-loop
-feed-requires c κs = search needs
-
-with-call-requires : tie.Need-with-call-requires Inv-loop μ-loop
-with-call-requires c κs = search needs
-
-advance-requires-2 : tie.Need-advance-requires-2 Inv-loop μ-loop
-advance-requires-2 c κs = search needs
-
 loop-less : tie.Need-loop-less Inv-loop μ-loop
 loop-less c = omega (arith, c .advance2 .ensures)
-
-loop-again : tie.Need-loop-again Inv-loop μ-loop
-loop-again c = search needs
-
-same-length : tie.Need-same-length Inv-loop μ-loop
-same-length c = search needs
-
-same-length-2 : tie.Need-same-length-2 Inv-loop μ-loop
-same-length-2 c = search needs
 
 returns : tie.Need-returns Inv-loop μ-loop
 returns c = tt
@@ -61,17 +25,17 @@ feed-cut-spec =
     (tie.spec
     Inv-loop
     μ-loop
-    fresh-requires
-    loop-holds
-    advance-requires
-    sub-feed
-    part-feed-start
-    part-feed-end
-    feed-requires
-    with-call-requires
-    advance-requires-2
+    (λ c κs. search needs)
+    (λ c. search needs)
+    (λ c κs. search needs)
+    (λ c. search needs)
+    (λ c. search needs)
+    (λ c. search needs)
+    (λ c κs. search needs)
+    (λ c κs. search needs)
+    (λ c κs. search needs)
     loop-less
-    loop-again
-    same-length
-    same-length-2
+    (λ c. search needs)
+    (λ c. search needs)
+    (λ c. search needs)
     returns)

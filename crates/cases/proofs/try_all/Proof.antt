@@ -12,18 +12,6 @@ Inv-loop input score₀ at₀ score at = at ≤ length input
 abbrev μ-loop : tie.MeasureT-loop
 μ-loop input score₀ at₀ score at = length input - at
 
-loop-holds : tie.Need-loop-holds Inv-loop μ-loop
-loop-holds c = omega arith
-
-case-at-requires : tie.Need-case-at-requires Inv-loop μ-loop
-case-at-requires c κs = search needs
-
-with-case-requires : tie.Need-with-case-requires Inv-loop μ-loop
-with-case-requires c κs = search needs
-
-after-case-requires : tie.Need-after-case-requires Inv-loop μ-loop
-after-case-requires c κs = search needs
-
 loop-less : tie.Need-loop-less Inv-loop μ-loop
 loop-less c = omega (arith, c .after-case .ensures)
 
@@ -39,10 +27,10 @@ try-all-spec =
     (tie.spec
     Inv-loop
     μ-loop
-    loop-holds
-    case-at-requires
-    with-case-requires
-    after-case-requires
+    (λ c. omega arith)
+    (λ c κs. search needs)
+    (λ c κs. search needs)
+    (λ c κs. search needs)
     loop-less
     loop-again
     returns)

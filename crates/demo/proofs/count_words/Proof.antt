@@ -12,12 +12,6 @@ Inv-loop text n₀ from₀ n from = (n ≤ from) × (from ≤ length text + 1)
 abbrev μ-loop : tie.MeasureT-loop
 μ-loop text n₀ from₀ n from = length text - from
 
-loop-holds : tie.Need-loop-holds Inv-loop μ-loop
-loop-holds c = omega arith
-
-seek-requires : tie.Need-seek-requires Inv-loop μ-loop
-seek-requires c κs = search needs
-
 add-n : tie.Need-add-n Inv-loop μ-loop
 add-n c = omega (arith, c .seek .ensures)
 
@@ -36,4 +30,4 @@ returns c = tt
 pub count-words-spec : {M : Type 1} → statement M
 count-words-spec =
     tie.close
-    (tie.spec Inv-loop μ-loop loop-holds seek-requires add-n add-from loop-less loop-again returns)
+    (tie.spec Inv-loop μ-loop (λ c. omega arith) (λ c κs. search needs) add-n add-from loop-less loop-again returns)

@@ -13,41 +13,11 @@ Inv-loop script store₀ reply₀ stage₀ from₀ store reply stage from = (fro
 abbrev μ-loop : tie.MeasureT-loop
 μ-loop script store₀ reply₀ stage₀ from₀ store reply stage from = length script - from
 
-fresh-requires : tie.Need-fresh-requires Inv-loop μ-loop
-fresh-requires c κs = search needs
-
-loop-holds : tie.Need-loop-holds Inv-loop μ-loop
-loop-holds c = search needs
-
-seek-requires : tie.Need-seek-requires Inv-loop μ-loop
-seek-requires c κs = search needs
-
-sub-play-line : tie.Need-sub-play-line Inv-loop μ-loop
-sub-play-line c = search needs
-
-part-play-line-start : tie.Need-part-play-line-start Inv-loop μ-loop
-part-play-line-start c = search needs
-
-part-play-line-end : tie.Need-part-play-line-end Inv-loop μ-loop
-part-play-line-end c = search needs
-
-play-line-requires : tie.Need-play-line-requires Inv-loop μ-loop
-play-line-requires c κs = search needs
-
 add-from : tie.Need-add-from Inv-loop μ-loop
 add-from c = omega (arith, c .before .before .before .before .before .before .before .before .seek .ensures)
 
 loop-less : tie.Need-loop-less Inv-loop μ-loop
 loop-less c = omega (arith, c .before .before .before .before .before .before .before .before .seek .ensures)
-
-loop-again : tie.Need-loop-again Inv-loop μ-loop
-loop-again c = search needs
-
-same-length : tie.Need-same-length Inv-loop μ-loop
-same-length c = search needs
-
-same-length-2 : tie.Need-same-length-2 Inv-loop μ-loop
-same-length-2 c = search needs
 
 returns : tie.Need-returns Inv-loop μ-loop
 returns c = tt
@@ -58,16 +28,16 @@ play-spec =
     (tie.spec
     Inv-loop
     μ-loop
-    fresh-requires
-    loop-holds
-    seek-requires
-    sub-play-line
-    part-play-line-start
-    part-play-line-end
-    play-line-requires
+    (λ c κs. search needs)
+    (λ c. search needs)
+    (λ c κs. search needs)
+    (λ c. search needs)
+    (λ c. search needs)
+    (λ c. search needs)
+    (λ c κs. search needs)
     add-from
     loop-less
-    loop-again
-    same-length
-    same-length-2
+    (λ c. search needs)
+    (λ c. search needs)
+    (λ c. search needs)
     returns)

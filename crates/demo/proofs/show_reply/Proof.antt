@@ -12,24 +12,6 @@ Inv-loop reply value₀ from₀ value from = from ≤ length reply + 2
 abbrev μ-loop : tie.MeasureT-loop
 μ-loop reply value₀ from₀ value from = length reply - from
 
-loop-holds : tie.Need-loop-holds Inv-loop μ-loop
-loop-holds c = omega arith
-
-seek-requires : tie.Need-seek-requires Inv-loop μ-loop
-seek-requires c κs = search needs
-
-sub-show-line : tie.Need-sub-show-line Inv-loop μ-loop
-sub-show-line c = search needs
-
-part-show-line-start : tie.Need-part-show-line-start Inv-loop μ-loop
-part-show-line-start c = search needs
-
-part-show-line-end : tie.Need-part-show-line-end Inv-loop μ-loop
-part-show-line-end c = search needs
-
-show-line-requires : tie.Need-show-line-requires Inv-loop μ-loop
-show-line-requires c κs = search needs
-
 add-from : tie.Need-add-from Inv-loop μ-loop
 add-from c = omega (arith, c .before .before .seek .ensures)
 
@@ -48,12 +30,12 @@ show-reply-spec =
     (tie.spec
     Inv-loop
     μ-loop
-    loop-holds
-    seek-requires
-    sub-show-line
-    part-show-line-start
-    part-show-line-end
-    show-line-requires
+    (λ c. omega arith)
+    (λ c κs. search needs)
+    (λ c. search needs)
+    (λ c. search needs)
+    (λ c. search needs)
+    (λ c κs. search needs)
     add-from
     loop-less
     loop-again

@@ -15,23 +15,8 @@ Inv-loop store count i₀ i = (wellFormed store ≡ true) × (count ≡ slotCoun
 abbrev μ-loop : tie.MeasureT-loop
 μ-loop store count i₀ i = count - i
 
-well-formed-requires : tie.Need-well-formed-requires Inv-loop μ-loop
-well-formed-requires c κs = search needs
-
-returns : tie.Need-returns Inv-loop μ-loop
-returns c = search needs
-
-slice-aggregate-say : tie.Need-slice-aggregate-say Inv-loop μ-loop
-slice-aggregate-say c = search needs
-
 clock-requires : tie.Need-clock-requires Inv-loop μ-loop
 clock-requires c κs = sym (c .before .before .well-formed .ensures) ∙ not-false _ (c .before .if1 .left)
-
-slice-aggregate-say-2 : tie.Need-slice-aggregate-say-2 Inv-loop μ-loop
-slice-aggregate-say-2 c = search needs
-
-say-requires : tie.Need-say-requires Inv-loop μ-loop
-say-requires c κs = search needs
 
 slots-requires : tie.Need-slots-requires Inv-loop μ-loop
 slots-requires c κs = sym (c .before .before .before .before .before .well-formed .ensures) ∙ not-false _ (c .before .before .before .before .if1 .left)
@@ -39,37 +24,22 @@ slots-requires c κs = sym (c .before .before .before .before .before .well-form
 loop-holds : tie.Need-loop-holds Inv-loop μ-loop
 loop-holds c = (sym (c .before .before .before .before .before .before .well-formed .ensures) ∙ not-false _ (c .before .before .before .before .before .if1 .left), c .slots .ensures ∙ length-decode _, omega arith)
 
-show-slot-requires : tie.Need-show-slot-requires Inv-loop μ-loop
-show-slot-requires c κs = search needs
-
-add-i : tie.Need-add-i Inv-loop μ-loop
-add-i c = search needs
-
-loop-less : tie.Need-loop-less Inv-loop μ-loop
-loop-less c = search needs
-
-loop-again : tie.Need-loop-again Inv-loop μ-loop
-loop-again c = search needs
-
-returns-2 : tie.Need-returns-2 Inv-loop μ-loop
-returns-2 c = search needs
-
 pub show-store-spec : {M : Type 1} → statement M
 show-store-spec =
     tie.close
     (tie.spec
     Inv-loop
     μ-loop
-    well-formed-requires
-    returns
-    slice-aggregate-say
+    (λ c κs. search needs)
+    (λ c. search needs)
+    (λ c. search needs)
     clock-requires
-    slice-aggregate-say-2
-    say-requires
+    (λ c. search needs)
+    (λ c κs. search needs)
     slots-requires
     loop-holds
-    show-slot-requires
-    add-i
-    loop-less
-    loop-again
-    returns-2)
+    (λ c κs. search needs)
+    (λ c. search needs)
+    (λ c. search needs)
+    (λ c. search needs)
+    (λ c. search needs))

@@ -13,38 +13,8 @@ Inv-loop stream cut store₀ reply₀ totals₀ at₀ store reply totals at = (a
 abbrev μ-loop : tie.MeasureT-loop
 μ-loop stream cut store₀ reply₀ totals₀ at₀ store reply totals at = length stream - at
 
-fresh-requires : tie.Need-fresh-requires Inv-loop μ-loop
-fresh-requires c κs = search needs
-
-loop-holds : tie.Need-loop-holds Inv-loop μ-loop
-loop-holds c = search needs
-
-advance-requires : tie.Need-advance-requires Inv-loop μ-loop
-advance-requires c κs = search needs
-
-sub-feed-piece : tie.Need-sub-feed-piece Inv-loop μ-loop
-sub-feed-piece c = search needs
-
-part-feed-piece-start : tie.Need-part-feed-piece-start Inv-loop μ-loop
-part-feed-piece-start c = search needs
-
-part-feed-piece-end : tie.Need-part-feed-piece-end Inv-loop μ-loop
-part-feed-piece-end c = search needs
-
-feed-piece-requires : tie.Need-feed-piece-requires Inv-loop μ-loop
-feed-piece-requires c κs = search needs
-
 loop-less : tie.Need-loop-less Inv-loop μ-loop
 loop-less c = omega (arith, c .before .before .before .before .before .before .before .before .advance .ensures)
-
-loop-again : tie.Need-loop-again Inv-loop μ-loop
-loop-again c = search needs
-
-same-length : tie.Need-same-length Inv-loop μ-loop
-same-length c = search needs
-
-same-length-2 : tie.Need-same-length-2 Inv-loop μ-loop
-same-length-2 c = search needs
 
 returns : tie.Need-returns Inv-loop μ-loop
 returns c = tt
@@ -55,15 +25,15 @@ feed-cut-spec =
     (tie.spec
     Inv-loop
     μ-loop
-    fresh-requires
-    loop-holds
-    advance-requires
-    sub-feed-piece
-    part-feed-piece-start
-    part-feed-piece-end
-    feed-piece-requires
+    (λ c κs. search needs)
+    (λ c. search needs)
+    (λ c κs. search needs)
+    (λ c. search needs)
+    (λ c. search needs)
+    (λ c. search needs)
+    (λ c κs. search needs)
     loop-less
-    loop-again
-    same-length
-    same-length-2
+    (λ c. search needs)
+    (λ c. search needs)
+    (λ c. search needs)
     returns)

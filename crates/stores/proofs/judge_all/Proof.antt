@@ -12,21 +12,12 @@ Inv-loop input at₀ at = at ≤ length input
 abbrev μ-loop : tie.MeasureT-loop
 μ-loop input at₀ at = length input - at
 
-loop-holds : tie.Need-loop-holds Inv-loop μ-loop
-loop-holds c = omega arith
-
-judge-at-requires : tie.Need-judge-at-requires Inv-loop μ-loop
-judge-at-requires c κs = search needs
-
 loop-less : tie.Need-loop-less Inv-loop μ-loop
 loop-less c = omega (arith, c .judge-at .ensures)
 
 loop-again : tie.Need-loop-again Inv-loop μ-loop
 loop-again c = omega (arith, c .judge-at .ensures)
 
-returns : tie.Need-returns Inv-loop μ-loop
-returns c = search needs
-
 pub judge-all-spec : {M : Type 1} → statement M
 judge-all-spec =
-    tie.close (tie.spec Inv-loop μ-loop loop-holds judge-at-requires loop-less loop-again returns)
+    tie.close (tie.spec Inv-loop μ-loop (λ c. omega arith) (λ c κs. search needs) loop-less loop-again (λ c. search needs))

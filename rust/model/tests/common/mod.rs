@@ -1,5 +1,6 @@
 //! A store and a reply buffer, and the short forms the tests are written in.
 
+use model::layout::{LEAST_REPLY_BUFFER, MARK, store_size};
 use model::{Fed, Feeder, execute, feed};
 
 /// A fresh store of some slots.
@@ -11,8 +12,8 @@ pub struct Handset {
 impl Handset {
     pub fn new(slots: usize) -> Handset {
         Handset {
-            store: vec![0; 16 + 128 * slots],
-            reply: vec![0; 56_000],
+            store: vec![0; store_size(slots)],
+            reply: vec![0; LEAST_REPLY_BUFFER],
         }
     }
 
@@ -47,12 +48,17 @@ pub fn resp(command: &str) -> Vec<u8> {
     bytes.into_bytes()
 }
 
+/// Mark, clock and L.
+#[allow(dead_code)]
+pub fn head(clock: u64, length: u16) -> Vec<u8> {
+    [&MARK[..], &clock.to_le_bytes(), &length.to_le_bytes()].concat()
+}
+
 #[allow(dead_code)]
 pub fn record(clock: u64, command: &str) -> Vec<u8> {
     let command = resp(command);
     let length = u16::try_from(command.len()).unwrap();
-    let clock = clock.to_le_bytes();
-    [&[0x45, 0x57], &clock[..], &length.to_le_bytes(), &command].concat()
+    [head(clock, length), command].concat()
 }
 
 fn lines(reply: &[u8]) -> String {

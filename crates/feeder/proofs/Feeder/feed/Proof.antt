@@ -1,82 +1,76 @@
 use mathlib.Core.Path.{sym, _∙_}
 use Prim.Native.Nat.{ℕ}
 use native.Mathlib.Omega.{arith}
-use lib.ListN.{replicate, length-replicate}
+use lib.ListN.{length-replicate}
 use borrow.Author.Tests.{not-true, not-false}
-use Rattle.feeder.proofs.Doing.{refused-state, refused-store, refused-buffer, command-inside, fed-whole}
+use Rattle.feeder.proofs.OneFeed.{refused-state, refused-store, refused-buffer, fed-whole}
+use Rattle.feeder.specs.Record.{recordMost}
 use borrow.Author.Needs.{needs}
 use Rattle.feeder.proofs.Feeder.feed.Statement.{statement}
 use Rattle.feeder.proofs.Feeder.feed.Tie as tie
 
-feeding-leaves-requires : tie.Need-feeding-leaves-requires
-feeding-leaves-requires c κs = search needs
-
-refused-requires : tie.Need-refused-requires
-refused-requires c κs = search needs
-
 returns : tie.Need-returns
-returns c = refused-state (c .before .before .before .before .before .before .before .before .before .args .t1) (c .before .before .before .before .before .before .before .before .before .args .piece .now) (c .before .before .before .before .before .before .before .before .before .args .store .now) (c .before .before .before .before .before .before .before .before .before .args .reply .now) (sym (c .before .before .feeding-leaves .ensures) ∙ not-true _ (c .before .if1 .taken)) (c .refused .ensures)
-
-well-formed-requires : tie.Need-well-formed-requires
-well-formed-requires c κs = search needs
-
-refused-requires-2 : tie.Need-refused-requires-2
-refused-requires-2 c κs = search needs
-
-same-length : tie.Need-same-length
-same-length c = search needs
+returns c =
+    let args = c .before .before .before .before .before .before .before .before .before .args in
+    refused-state (args .t1) (args .piece .now) (args .store .now) (args .reply .now)
+    (sym (c .before .before .feeding-leaves .ensures) ∙ not-true _ (c .before .if1 .taken)) (c .refused .ensures)
 
 returns-2 : tie.Need-returns-2
-returns-2 c = refused-store (c .before .before .before .before .before .before .before .before .before .before .before .before .args .t1) (c .before .before .before .before .before .before .before .before .before .before .before .before .args .piece .now) (c .before .before .before .before .before .before .before .before .before .before .before .before .args .store .now) (c .before .before .before .before .before .before .before .before .before .before .before .before .args .reply .now) (sym (c .before .before .before .before .before .feeding-leaves .ensures) ∙ not-false _ (c .before .before .before .before .if1 .left)) (sym (c .before .before .well-formed .ensures) ∙ not-true _ (c .before .if2 .taken)) (c .refused2 .ensures)
-
-refused-requires-3 : tie.Need-refused-requires-3
-refused-requires-3 c κs = search needs
-
-same-length-2 : tie.Need-same-length-2
-same-length-2 c = search needs
+returns-2 c =
+    let back = c .before .before .before .before .before in
+    let args = back .before .before .before .before .before .before .before .args in
+    refused-store (args .t1) (args .piece .now) (args .store .now) (args .reply .now)
+    (sym (back .feeding-leaves .ensures) ∙ not-false _ (c .before .before .before .before .if1 .left))
+    (sym (c .before .before .well-formed .ensures) ∙ not-true _ (c .before .if2 .taken)) (c .refused2 .ensures)
 
 returns-3 : tie.Need-returns-3
-returns-3 c = refused-buffer (c .before .before .before .before .before .before .before .before .before .before .before .before .before .args .t1) (c .before .before .before .before .before .before .before .before .before .before .before .before .before .args .piece .now) (c .before .before .before .before .before .before .before .before .before .before .before .before .before .args .store .now) (c .before .before .before .before .before .before .before .before .before .before .before .before .before .args .reply .now) (sym (c .before .before .before .before .before .before .feeding-leaves .ensures) ∙ not-false _ (c .before .before .before .before .before .if1 .left)) (sym (c .before .before .before .well-formed .ensures) ∙ not-false _ (c .before .before .if2 .left)) (c .before .if3 .taken) (c .refused3 .ensures)
-
-slice-aggregate-absorb : tie.Need-slice-aggregate-absorb
-slice-aggregate-absorb c = search needs
+returns-3 c =
+    let back = c .before .before .before .before .before in
+    let args = back .before .before .before .before .before .before .before .before .args in
+    refused-buffer (args .t1) (args .piece .now) (args .store .now) (args .reply .now)
+    (sym (back .before .feeding-leaves .ensures) ∙ not-false _ (back .if1 .left))
+    (sym (c .before .before .before .well-formed .ensures) ∙ not-false _ (c .before .before .if2 .left)) (c .before .if3 .taken)
+    (c .refused3 .ensures)
 
 absorb-requires : tie.Need-absorb-requires
-absorb-requires c κs = (sym (c .before .before .before .before .before .before .before .feeding-leaves .ensures) ∙ not-false _ (c .before .before .before .before .before .before .if1 .left), omega (arith, length-replicate {A = ℕ} 1036 0))
-
-slice-aggregate-reply-to : tie.Need-slice-aggregate-reply-to
-slice-aggregate-reply-to c = search needs
+absorb-requires c κs =
+    let back = c .before .before .before .before .before .before in
+    (sym (back .before .feeding-leaves .ensures) ∙ not-false _ (back .if1 .left), omega (arith, length-replicate {A = ℕ} recordMost 0))
 
 reply-to-requires : tie.Need-reply-to-requires
-reply-to-requires c κs = (command-inside (c .before .before .before .before .before .before .before .before .before .before .before .before .before .before .before .before .before .before .before .args .t1) (c .before .before .before .before .before .before .before .before .before .before .before .before .before .before .before .before .before .before .before .args .piece .now) (replicate 1036 0) (sym (c .before .before .before .before .before .before .before .before .before .before .before .before .feeding-leaves .ensures) ∙ not-false _ (c .before .before .before .before .before .before .before .before .before .before .before .if1 .left)) (omega (arith, length-replicate {A = ℕ} 1036 0)) (c .before .before .before .before .absorb .ensures), (sym (c .before .before .before .before .before .before .before .before .before .well-formed .ensures) ∙ not-false _ (c .before .before .before .before .before .before .before .before .if2 .left), c .before .before .before .before .before .before .before .if3 .left))
-
-same-length-3 : tie.Need-same-length-3
-same-length-3 c = search needs
-
-same-length-4 : tie.Need-same-length-4
-same-length-4 c = search needs
+reply-to-requires c κs =
+    let back = c .before .before .before .before .before .before .before in
+    let well = sym (back .before .before .well-formed .ensures) ∙ not-false _ (back .before .if2 .left) in
+    (c .before .before .before .before .absorb .ensures .inside, (well, back .if3 .left))
 
 returns-4 : tie.Need-returns-4
-returns-4 c = fed-whole (c .before .before .before .before .before .before .before .before .before .before .before .before .before .before .before .before .before .before .before .before .before .before .before .before .args .t1) (c .before .before .before .before .before .before .before .before .before .before .before .before .before .before .before .before .before .before .before .before .before .before .before .before .args .piece .now) (replicate 1036 0) (sym (c .before .before .before .before .before .before .before .before .before .before .before .before .before .before .before .before .before .feeding-leaves .ensures) ∙ not-false _ (c .before .before .before .before .before .before .before .before .before .before .before .before .before .before .before .before .if1 .left)) (omega (arith, length-replicate {A = ℕ} 1036 0)) (c .before .before .before .before .before .before .before .before .before .absorb .ensures) (c .before .before .before .before .before .before .before .before .before .before .before .before .before .before .before .before .before .before .before .before .before .before .before .before .args .store .now) (c .before .before .before .before .before .before .before .before .before .before .before .before .before .before .before .before .before .before .before .before .before .before .before .before .args .reply .now) (sym (c .before .before .before .before .before .before .before .before .before .before .before .before .before .before .well-formed .ensures) ∙ not-false _ (c .before .before .before .before .before .before .before .before .before .before .before .before .before .if2 .left)) (c .before .before .before .before .before .before .before .before .before .before .before .before .if3 .left) (c .before .before .before .before .reply-to .ensures)
+returns-4 c =
+    let back = c .before .before .before .before .before .before .before .before .before in
+    let back2 = back .before .before .before .before .before in
+    let args = back2 .before .before .before .before .before .before .before .before .before .before .args in
+    fed-whole (args .t1) (args .piece .now) (args .store .now) (args .reply .now)
+    (sym (back2 .before .before .before .feeding-leaves .ensures) ∙ not-false _ (back2 .before .before .if1 .left)) (back .absorb .ensures)
+    (sym (back2 .well-formed .ensures) ∙ not-false _ (back .before .before .before .before .if2 .left)) (back .before .before .before .if3 .left)
+    (c .before .before .before .before .reply-to .ensures)
 
 pub feed-spec : {M : Type 1} → statement M
 feed-spec =
     tie.close
     (tie.spec
-    feeding-leaves-requires
-    refused-requires
+    (λ c κs. search needs)
+    (λ c κs. search needs)
     returns
-    well-formed-requires
-    refused-requires-2
-    same-length
+    (λ c κs. search needs)
+    (λ c κs. search needs)
+    (λ c. search needs)
     returns-2
-    refused-requires-3
-    same-length-2
+    (λ c κs. search needs)
+    (λ c. search needs)
     returns-3
-    slice-aggregate-absorb
+    (λ c. search needs)
     absorb-requires
-    slice-aggregate-reply-to
+    (λ c. search needs)
     reply-to-requires
-    same-length-3
-    same-length-4
+    (λ c. search needs)
+    (λ c. search needs)
     returns-4)

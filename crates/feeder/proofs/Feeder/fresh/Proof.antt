@@ -1,6 +1,6 @@
 use mathlib.Core.Path.{refl}
 use Rattle.wire.specs.Bytes.{padded}
-use Rattle.feeder.specs.Feed.{stateOf, fresh}
+use Rattle.feeder.specs.State.{stateOf, fresh}
 use Rattle.feeder.proofs.Feeder.fresh.Statement.{statement}
 use Rattle.feeder.proofs.Feeder.fresh.Tie as tie
 

@@ -1,80 +1,95 @@
 use mathlib.Core.Path.{sym, _∙_}
 use native.Mathlib.Omega.{arith}
-use Rattle.feeder.proofs.Waiting.{left-state}
+use Rattle.feeder.proofs.StateLeft.{left-state}
 use Rattle.feeder.proofs.Absorbing.{completes, end-small, end-beyond, rest-inside, rest-waits, absorbed-record, absorbed-none}
 use borrow.Author.Needs.{needs}
 use Rattle.feeder.proofs.absorb.absorb.Statement.{statement}
 use Rattle.feeder.proofs.absorb.absorb.Tie as tie
 
-offer-requires : tie.Need-offer-requires
-offer-requires c κs = search needs
-
 slice-reshare-prefix-first-stop : tie.Need-slice-reshare-prefix-first-stop
-slice-reshare-prefix-first-stop c = omega (arith, left-state _ (c .before .before .before .before .pre .0) .size, left-state _ (c .before .before .before .before .pre .0) .few)
+slice-reshare-prefix-first-stop c =
+    let pre = c .before .before .before .before .pre in
+    omega (arith, left-state _ (pre .0) .size, left-state _ (pre .0) .few)
 
 slice-aggregate-first-stop : tie.Need-slice-aggregate-first-stop
 slice-aggregate-first-stop c = sym (left-state _ (c .before .before .before .before .before .pre .0) .count)
 
-first-stop-requires : tie.Need-first-stop-requires
-first-stop-requires c κs = search needs
-
-enum-known-stop : tie.Need-enum-known-stop
-enum-known-stop c = search needs
-
 slice-reshare-prefix-complete : tie.Need-slice-reshare-prefix-complete
-slice-reshare-prefix-complete c = omega (arith, left-state _ (c .before .before .before .before .before .before .before .before .before .pre .0) .size, left-state _ (c .before .before .before .before .before .before .before .before .before .pre .0) .few)
+slice-reshare-prefix-complete c =
+    let pre = c .before .before .before .before .before .before .before .before .before .pre in
+    omega (arith, left-state _ (pre .0) .size, left-state _ (pre .0) .few)
 
 slice-aggregate-complete : tie.Need-slice-aggregate-complete
 slice-aggregate-complete c = sym (left-state _ (c .before .before .before .before .before .before .before .before .before .before .pre .0) .count)
 
 complete-requires : tie.Need-complete-requires
-complete-requires c κs = completes _ _ (c .before .before .before .before .before .before .before .before .before .before .before .pre .0) (c .before .before .before .before .before .before .before .offer .ensures) _ _ (sym (c .before .before .before .stop .given .1) ∙ c .before .before .before .before .before .first-stop .ensures) _ (c .before .before .before .before .before .before .before .before .before .before .before .pre .1)
+complete-requires c κs =
+    let back = c .before .before .before .before .before in
+    let pre = back .before .before .before .before .before .before .pre in
+    let stopped = sym (c .before .before .before .stop .given .1) ∙ back .first-stop .ensures in
+    completes _ _ (pre .0) (back .before .before .offer .ensures) _ _ stopped _ (pre .1)
 
 add-end : tie.Need-add-end
-add-end c = omega (arith, end-small _ _ (c .before .before .before .before .before .before .before .before .before .before .before .before .before .before .pre .0) (c .before .before .before .before .before .before .before .before .before .before .offer .ensures) _ _ (sym (c .before .before .before .before .before .before .stop .given .1) ∙ c .before .before .before .before .before .before .before .before .first-stop .ensures))
+add-end c =
+    let back = c .before .before .before .before .before .before in
+    let stopped = sym (back .stop .given .1) ∙ back .before .before .first-stop .ensures in
+    let left = back .before .before .before .before .before .before .before .before .pre .0 in
+    omega (arith, end-small _ _ left (back .before .before .before .before .offer .ensures) _ _ stopped)
 
 add-end-2 : tie.Need-add-end-2
-add-end-2 c = omega (arith, end-small _ _ (c .before .before .before .before .before .before .before .before .before .before .before .before .before .before .pre .0) (c .before .before .before .before .before .before .before .before .before .before .offer .ensures) _ _ (sym (c .before .before .before .before .before .before .stop .given .1) ∙ c .before .before .before .before .before .before .before .before .first-stop .ensures))
-
-forget-requires : tie.Need-forget-requires
-forget-requires c κs = search needs
+add-end-2 c =
+    let back = c .before .before .before .before .before .before in
+    let stopped = sym (back .stop .given .1) ∙ back .before .before .first-stop .ensures in
+    let left = back .before .before .before .before .before .before .before .before .pre .0 in
+    omega (arith, end-small _ _ left (back .before .before .before .before .offer .ensures) _ _ stopped)
 
 sub-t22 : tie.Need-sub-t22
-sub-t22 c = omega (arith, end-beyond _ _ (c .before .before .before .before .before .before .before .before .before .before .before .before .before .before .before .pre .0) (c .before .before .before .before .before .before .before .before .before .before .before .offer .ensures) _ _ (sym (c .before .before .before .before .before .before .before .stop .given .1) ∙ c .before .before .before .before .before .before .before .before .before .first-stop .ensures))
-
-enum-known-stop-2 : tie.Need-enum-known-stop-2
-enum-known-stop-2 c = search needs
+sub-t22 c =
+    let back = c .before .before .before .before .before .before .before in
+    let stopped = sym (back .stop .given .1) ∙ back .before .before .first-stop .ensures in
+    let left = back .before .before .before .before .before .before .before .before .pre .0 in
+    omega (arith, end-beyond _ _ left (back .before .before .before .before .offer .ensures) _ _ stopped)
 
 keep-requires : tie.Need-keep-requires
-keep-requires c κs = (c .before .before .before .before .before .before .before .before .before .pre .0, (rest-inside _ _ (c .before .before .before .before .before .before .before .before .before .pre .0) (c .before .before .before .before .before .offer .ensures) _ (sym (c .before .stop2 .given .1) ∙ c .before .before .before .first-stop .ensures), rest-waits _ _ (c .before .before .before .before .before .before .before .before .before .pre .0) (c .before .before .before .before .before .offer .ensures) _ (sym (c .before .stop2 .given .1) ∙ c .before .before .before .first-stop .ensures)))
-
-same-length : tie.Need-same-length
-same-length c = search needs
+keep-requires c κs =
+    let back = c .before .before .before .before .before in
+    let first-stop = c .before .before .before .first-stop in
+    let offer = back .offer in
+    let pre = back .before .before .before .before .pre in
+    let stopped = sym (c .before .stop2 .given .1) ∙ first-stop .ensures in
+    (pre .0, (rest-inside _ _ (pre .0) (offer .ensures) _ stopped, rest-waits _ _ (pre .0) (offer .ensures) _ stopped))
 
 returns : tie.Need-returns
-returns c = absorbed-record _ _ (c .before .before .before .before .before .before .before .before .before .before .before .before .before .before .before .pre .0) (c .before .before .before .before .before .before .before .before .before .before .before .offer .ensures) _ _ (sym (c .before .before .before .before .before .before .before .stop .given .1) ∙ c .before .before .before .before .before .before .before .before .before .first-stop .ensures) _ (c .before .before .before .complete .ensures) (c .forget .ensures)
+returns c =
+    let back = c .before .before .before .before .before .before .before in
+    let stopped = sym (back .stop .given .1) ∙ back .before .before .first-stop .ensures in
+    let left = back .before .before .before .before .before .before .before .before .pre .0 in
+    absorbed-record _ _ left (back .before .before .before .before .offer .ensures) _ _ stopped _ (c .before .before .before .complete .ensures) (c .forget .ensures)
 
 returns-2 : tie.Need-returns-2
-returns-2 c = absorbed-none _ _ (c .before .before .before .before .before .before .before .before .before .before .pre .0) (c .before .before .before .before .before .before .offer .ensures) _ (sym (c .before .before .stop2 .given .1) ∙ c .before .before .before .before .first-stop .ensures) (c .keep .ensures)
+returns-2 c =
+    let back = c .before .before .before .before .before .before in
+    let stopped = sym (c .before .before .stop2 .given .1) ∙ c .before .before .before .before .first-stop .ensures in
+    absorbed-none _ _ (back .before .before .before .before .pre .0) (back .offer .ensures) _ stopped (c .keep .ensures)
 
 pub absorb-spec : {M : Type 1} → statement M
 absorb-spec =
     tie.close
     (tie.spec
-    offer-requires
+    (λ c κs. search needs)
     slice-reshare-prefix-first-stop
     slice-aggregate-first-stop
-    first-stop-requires
-    enum-known-stop
+    (λ c κs. search needs)
+    (λ c. search needs)
     slice-reshare-prefix-complete
     slice-aggregate-complete
     complete-requires
     add-end
     add-end-2
-    forget-requires
+    (λ c κs. search needs)
     sub-t22
-    enum-known-stop-2
+    (λ c. search needs)
     keep-requires
-    same-length
+    (λ c. search needs)
     returns
     returns-2)

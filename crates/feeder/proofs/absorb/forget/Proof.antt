@@ -1,6 +1,6 @@
 use mathlib.Core.Path.{sym}
 use native.Mathlib.Omega.{arith}
-use Rattle.feeder.proofs.Waiting.{left-state}
+use Rattle.feeder.proofs.StateLeft.{left-state}
 use Rattle.feeder.proofs.Absorbing.{forgotten}
 use borrow.Author.Needs.{needs}
 use Rattle.feeder.proofs.absorb.forget.Statement.{statement}
@@ -12,16 +12,15 @@ slice-relend-prefix-clear c = omega (arith, left-state _ (c .before .pre) .size,
 slice-aggregate-clear : tie.Need-slice-aggregate-clear
 slice-aggregate-clear c = sym (left-state _ (c .before .before .pre) .count)
 
-clear-requires : tie.Need-clear-requires
-clear-requires c κs = search needs
-
-same-length : tie.Need-same-length
-same-length c = search needs
-
 returns : tie.Need-returns
 returns c = forgotten _ (c .before .before .before .before .before .pre) (c .before .before .clear .ensures)
 
 pub forget-spec : {M : Type 1} → statement M
 forget-spec =
     tie.close
-    (tie.spec slice-relend-prefix-clear slice-aggregate-clear clear-requires same-length returns)
+    (tie.spec
+    slice-relend-prefix-clear
+    slice-aggregate-clear
+    (λ c κs. search needs)
+    (λ c. search needs)
+    returns)

@@ -1,6 +1,6 @@
 use mathlib.Core.Path.{sym}
 use native.Mathlib.Omega.{arith}
-use Rattle.feeder.proofs.Waiting.{left-state}
+use Rattle.feeder.proofs.StateLeft.{left-state}
 use Rattle.feeder.proofs.Absorbing.{kept-all, kept-rest}
 use borrow.Author.Needs.{needs}
 use Rattle.feeder.proofs.absorb.keep.Statement.{statement}
@@ -9,14 +9,10 @@ use Rattle.feeder.proofs.absorb.keep.Tie as tie
 append-requires : tie.Need-append-requires
 append-requires c κs = omega (arith, left-state _ (c .before .before .before .before .pre .0) .size, c .before .before .before .before .pre .1)
 
-add-result : tie.Need-add-result
-add-result c = search needs
-
-same-length : tie.Need-same-length
-same-length c = search needs
-
 returns : tie.Need-returns
-returns c = kept-all _ _ (c .before .before .before .before .before .before .before .pre .0) _ (c .before .before .before .before .if1 .taken) (c .before .before .append .ensures)
+returns c =
+    kept-all _ _ (c .before .before .before .before .before .before .before .pre .0) _ (c .before .before .before .before .if1 .taken)
+    (c .before .before .append .ensures)
 
 slice-reshare-prefix-gather : tie.Need-slice-reshare-prefix-gather
 slice-reshare-prefix-gather c = omega (arith, left-state _ (c .before .before .before .pre .0) .size, left-state _ (c .before .before .before .pre .0) .few)
@@ -24,45 +20,41 @@ slice-reshare-prefix-gather c = omega (arith, left-state _ (c .before .before .b
 slice-aggregate-gather : tie.Need-slice-aggregate-gather
 slice-aggregate-gather c = sym (left-state _ (c .before .before .before .before .pre .0) .count)
 
-slice-aggregate-gather-2 : tie.Need-slice-aggregate-gather-2
-slice-aggregate-gather-2 c = search needs
-
 gather-requires : tie.Need-gather-requires
-gather-requires c κs = omega (arith, left-state _ (c .before .before .before .before .before .pre .0) .count, c .before .before .before .before .before .pre .1)
-
-slice-aggregate-copy : tie.Need-slice-aggregate-copy
-slice-aggregate-copy c = search needs
+gather-requires c κs =
+    let pre = c .before .before .before .before .before .pre in
+    omega (arith, left-state _ (pre .0) .count, pre .1)
 
 copy-requires : tie.Need-copy-requires
-copy-requires c κs = omega (arith, left-state _ (c .before .before .before .before .before .before .before .before .before .pre .0) .size, c .before .before .rest2 .given)
+copy-requires c κs =
+    omega
+    (arith, left-state _ (c .before .before .before .before .before .before .before .before .before .pre .0) .size, c .before .before .rest2 .given)
 
 add-result-2 : tie.Need-add-result-2
 add-result-2 c = omega (arith, left-state _ (c .before .before .before .before .before .before .before .before .before .before .before .before .pre .0) .few)
 
-sub-result : tie.Need-sub-result
-sub-result c = search needs
-
-same-length-2 : tie.Need-same-length-2
-same-length-2 c = search needs
-
 returns-2 : tie.Need-returns-2
-returns-2 c = kept-rest _ (c .before .before .before .before .before .before .before .before .before .before .before .before .args .piece .now) (c .before .before .before .before .before .before .before .before .before .before .before .before .pre .0) (c .before .before .before .before .before .before .before .before .before .before .before .before .args .at) (c .before .before .before .before .before .before .gather .ensures) (c .before .before .copy .ensures)
+returns-2 c =
+    let back = c .before .before .before .before .before .before in
+    let back2 = back .before .before .before .before .before .before in
+    let args = back2 .args in
+    kept-rest _ (args .piece .now) (back2 .pre .0) (args .at) (back .gather .ensures) (c .before .before .copy .ensures)
 
 pub keep-spec : {M : Type 1} → statement M
 keep-spec =
     tie.close
     (tie.spec
     append-requires
-    add-result
-    same-length
+    (λ c. search needs)
+    (λ c. search needs)
     returns
     slice-reshare-prefix-gather
     slice-aggregate-gather
-    slice-aggregate-gather-2
+    (λ c. search needs)
     gather-requires
-    slice-aggregate-copy
+    (λ c. search needs)
     copy-requires
     add-result-2
-    sub-result
-    same-length-2
+    (λ c. search needs)
+    (λ c. search needs)
     returns-2)

@@ -1,12 +1,13 @@
 use mathlib.Core.Path.{sym}
 use native.Mathlib.Omega.{arith}
 use lib.Seq.{length-take-le}
+use Rattle.feeder.specs.Absorb.{usedMost}
 use Rattle.feeder.proofs.Absorbing.{offer-some, offer-all}
 use Rattle.feeder.proofs.absorb.offer.Statement.{statement}
 use Rattle.feeder.proofs.absorb.offer.Tie as tie
 
 slice-aggregate-result : tie.Need-slice-aggregate-result
-slice-aggregate-result c = sym (length-take-le 65536 (c .before .before .args .piece .now) (omega arith))
+slice-aggregate-result c = sym (length-take-le usedMost (c .before .before .args .piece .now) (omega arith))
 
 returns : tie.Need-returns
 returns c = offer-some (c .before .before .args .piece .now)

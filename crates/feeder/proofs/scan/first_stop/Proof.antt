@@ -4,7 +4,7 @@ use Prim.Native.Nat.{_+_, _-_}
 use native.Mathlib.Omega.{arith}
 use borrow.Author.Needs.{needs}
 use lib.ListN.{length}
-use Rattle.feeder.proofs.Stops.{Scanning, scan-begins, scan-whole, scan-waits, scan-goes-on, scan-ends}
+use Rattle.feeder.proofs.ScanStops.{Scanning, scan-begins, scan-whole, scan-waits, scan-goes-on, scan-ends}
 use Rattle.feeder.proofs.scan.first_stop.Statement.{statement}
 use Rattle.feeder.proofs.scan.first_stop.Tie as tie
 
@@ -14,41 +14,39 @@ Inv-loop waiting piece end at₀ at = Scanning waiting piece at
 abbrev μ-loop : tie.MeasureT-loop
 μ-loop waiting piece end at₀ at = length waiting + length piece - at
 
-add-end : tie.Need-add-end Inv-loop μ-loop
-add-end c = search needs
-
 loop-holds : tie.Need-loop-holds Inv-loop μ-loop
 loop-holds c = scan-begins (c .before .before .args .waiting .now) (c .before .before .args .piece .now)
 
-head-at-requires : tie.Need-head-at-requires Inv-loop μ-loop
-head-at-requires c κs = search needs
-
-enum-known-head : tie.Need-enum-known-head Inv-loop μ-loop
-enum-known-head c = search needs
-
 returns : tie.Need-returns Inv-loop μ-loop
-returns c = scan-whole (c .before .before .before .before .before .before .before .before .args .waiting .now) (c .before .before .before .before .before .before .before .before .args .piece .now) (c .before .before .before .before .before .loop .at) (c .before .before .before .before .before .loop .inv) (c .before .before .before .before .loop-test .taken) _ (sym (c .before .head .given .1) ∙ c .before .before .before .head-at .ensures)
-
-enum-told : tie.Need-enum-told Inv-loop μ-loop
-enum-told c = search needs
+returns c =
+    let back = c .before .before .before .before .before in
+    let loop = back .loop in
+    let args = back .before .before .before .args in
+    scan-whole (args .waiting .now) (args .piece .now) (loop .at) (loop .inv) (c .before .before .before .before .loop-test .taken) _
+    (sym (c .before .head .given .1) ∙ c .before .before .before .head-at .ensures)
 
 returns-2 : tie.Need-returns-2 Inv-loop μ-loop
-returns-2 c = scan-waits (c .before .before .before .before .before .before .before .args .waiting .now) (c .before .before .before .before .before .before .before .args .piece .now) (c .before .before .before .before .loop .at) (c .before .before .before .before .loop .inv) (c .before .before .before .loop-test .taken) (sym (c .enum-told .given .1) ∙ c .before .before .head-at .ensures)
-
-enum-told-2 : tie.Need-enum-told-2 Inv-loop μ-loop
-enum-told-2 c = search needs
-
-next-place-requires : tie.Need-next-place-requires Inv-loop μ-loop
-next-place-requires c κs = search needs
+returns-2 c =
+    let loop = c .before .before .before .before .loop in
+    let args = c .before .before .before .before .before .before .before .args in
+    scan-waits (args .waiting .now) (args .piece .now) (loop .at) (loop .inv) (c .before .before .before .loop-test .taken)
+    (sym (c .enum-told .given .1) ∙ c .before .before .head-at .ensures)
 
 loop-less : tie.Need-loop-less Inv-loop μ-loop
 loop-less c = omega (arith, c .next-place .ensures .ahead)
 
 loop-again : tie.Need-loop-again Inv-loop μ-loop
-loop-again c = scan-goes-on (c .before .before .before .before .before .before .before .before .args .waiting .now) (c .before .before .before .before .before .before .before .before .args .piece .now) (c .before .before .before .before .before .loop .at) (c .before .before .before .before .before .loop .inv) (c .before .before .before .before .loop-test .taken) (c .next-place .result) (sym (c .before .enum-told2 .given .1) ∙ c .before .before .before .head-at .ensures) (c .next-place .ensures)
+loop-again c =
+    let back = c .before .before .before .before .before in
+    let loop = back .loop in
+    let args = back .before .before .before .args in
+    scan-goes-on (args .waiting .now) (args .piece .now) (loop .at) (loop .inv) (c .before .before .before .before .loop-test .taken)
+    (c .next-place .result) (sym (c .before .enum-told2 .given .1) ∙ c .before .before .before .head-at .ensures) (c .next-place .ensures)
 
 returns-3 : tie.Need-returns-3 Inv-loop μ-loop
-returns-3 c = scan-ends (c .before .before .before .before .args .waiting .now) (c .before .before .before .before .args .piece .now) (c .before .loop .at) (c .before .loop .inv) (c .loop-test .left)
+returns-3 c =
+    let args = c .before .before .before .before .args in
+    scan-ends (args .waiting .now) (args .piece .now) (c .before .loop .at) (c .before .loop .inv) (c .loop-test .left)
 
 pub first-stop-spec : {M : Type 1} → statement M
 first-stop-spec =
@@ -56,15 +54,15 @@ first-stop-spec =
     (tie.spec
     Inv-loop
     μ-loop
-    add-end
+    (λ c. search needs)
     loop-holds
-    head-at-requires
-    enum-known-head
+    (λ c κs. search needs)
+    (λ c. search needs)
     returns
-    enum-told
+    (λ c. search needs)
     returns-2
-    enum-told-2
-    next-place-requires
+    (λ c. search needs)
+    (λ c κs. search needs)
     loop-less
     loop-again
     returns-3)

@@ -4,7 +4,7 @@ use Prim.Native.Nat.{_-_}
 use native.Mathlib.Omega.{arith}
 use lib.ListN.{length}
 use borrow.Author.Needs.{needs}
-use Rattle.feeder.proofs.Stops.{Counting, count-begins, count-mark, count-other, count-ends}
+use Rattle.feeder.proofs.ScanStops.{Counting, count-begins, count-mark, count-other, count-ends}
 use Rattle.feeder.proofs.scan.is_unmarked.Statement.{statement}
 use Rattle.feeder.proofs.scan.is_unmarked.Tie as tie
 
@@ -17,20 +17,19 @@ abbrev μ-loop : tie.MeasureT-loop
 loop-holds : tie.Need-loop-holds Inv-loop μ-loop
 loop-holds c = count-begins (c .args .block .now)
 
-shared-slice-read-if1 : tie.Need-shared-slice-read-if1 Inv-loop μ-loop
-shared-slice-read-if1 c = search needs
-
 add-marks : tie.Need-add-marks Inv-loop μ-loop
 add-marks c = omega (arith, c .before .before .before .loop .inv .few)
-
-add-i : tie.Need-add-i Inv-loop μ-loop
-add-i c = search needs
 
 loop-less : tie.Need-loop-less Inv-loop μ-loop
 loop-less c = omega arith
 
 loop-again : tie.Need-loop-again Inv-loop μ-loop
-loop-again c = ⊎-elim (λ w. rw (w .1) (count-mark (c .before .before .before .before .args .block .now) (c .before .before .before .loop .marks) (c .before .before .before .loop .i) (c .before .before .before .loop .inv) (c .before .before .loop-test .taken))) (λ w. rw (w .1) (count-other (c .before .before .before .before .args .block .now) (c .before .before .before .loop .marks) (c .before .before .before .loop .i) (c .before .before .before .loop .inv) (c .before .before .loop-test .taken) (w .0 .left))) (c .if1 .came)
+loop-again c =
+    let loop-test = c .before .before .loop-test in
+    let loop = c .before .before .before .loop in
+    let args = c .before .before .before .before .args in
+    ⊎-elim (λ w. rw (w .1) (count-mark (args .block .now) (loop .marks) (loop .i) (loop .inv) (loop-test .taken)))
+    (λ w. rw (w .1) (count-other (args .block .now) (loop .marks) (loop .i) (loop .inv) (loop-test .taken) (w .0 .left))) (c .if1 .came)
 
 returns : tie.Need-returns Inv-loop μ-loop
 returns c = count-ends (c .before .before .args .block .now) (c .before .loop .marks) (c .before .loop .i) (c .before .loop .inv) (c .loop-test .left)
@@ -42,9 +41,9 @@ is-unmarked-spec =
     Inv-loop
     μ-loop
     loop-holds
-    shared-slice-read-if1
+    (λ c. search needs)
     add-marks
-    add-i
+    (λ c. search needs)
     loop-less
     loop-again
     returns)

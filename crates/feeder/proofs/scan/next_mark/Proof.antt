@@ -3,31 +3,22 @@ use Prim.Native.Nat.{_-_}
 use native.Mathlib.Omega.{arith}
 use lib.ListN.{length}
 use borrow.Author.Needs.{needs}
-use Rattle.feeder.specs.Promises.{Passed}
-use Rattle.feeder.proofs.Stops.{pass-goes-on}
+use Rattle.feeder.specs.Promises.{UnmarkedUpTo}
+use Rattle.feeder.proofs.ScanStops.{pass-goes-on}
 use Rattle.feeder.proofs.scan.next_mark.Statement.{statement}
 use Rattle.feeder.proofs.scan.next_mark.Tie as tie
 
 abbrev Inv-loop : tie.InvT-loop
-Inv-loop piece from i₀ i = Passed piece from i
+Inv-loop piece from i₀ i = UnmarkedUpTo piece from i
 
 abbrev μ-loop : tie.MeasureT-loop
 μ-loop piece from i₀ i = length piece - i
 
-pass-blocks-requires : tie.Need-pass-blocks-requires Inv-loop μ-loop
-pass-blocks-requires c κs = search needs
-
 loop-holds : tie.Need-loop-holds Inv-loop μ-loop
 loop-holds c = c .pass-blocks .ensures
 
-shared-slice-read-if1 : tie.Need-shared-slice-read-if1 Inv-loop μ-loop
-shared-slice-read-if1 c = search needs
-
 returns : tie.Need-returns Inv-loop μ-loop
 returns c = c .before .before .before .loop .inv
-
-add-i : tie.Need-add-i Inv-loop μ-loop
-add-i c = search needs
 
 loop-less : tie.Need-loop-less Inv-loop μ-loop
 loop-less c = omega arith
@@ -44,11 +35,11 @@ next-mark-spec =
     (tie.spec
     Inv-loop
     μ-loop
-    pass-blocks-requires
+    (λ c κs. search needs)
     loop-holds
-    shared-slice-read-if1
+    (λ c. search needs)
     returns
-    add-i
+    (λ c. search needs)
     loop-less
     loop-again
     returns-2)

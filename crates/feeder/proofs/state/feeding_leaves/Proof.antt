@@ -4,47 +4,44 @@ use lib.Seq.{length-take-le}
 use borrow.Author.Tests.{not-true, not-false}
 use borrow.Author.Needs.{needs}
 use Rattle.wire.proofs.Bytes.{bytes-intro}
-use Rattle.feeder.proofs.Waiting.{left-many, left-dirty, left-clean}
+use Rattle.feeder.proofs.StateLeft.{left-many, left-dirty, left-clean}
 use Rattle.feeder.proofs.state.feeding_leaves.Statement.{statement}
 use Rattle.feeder.proofs.state.feeding_leaves.Tie as tie
 
 returns : tie.Need-returns
 returns c = left-many (c .before .before .args .waiting .now) (c .before .before .args .count) (c .if1 .taken)
 
-sub-all-zero : tie.Need-sub-all-zero
-sub-all-zero c = search needs
-
-part-all-zero-start : tie.Need-part-all-zero-start
-part-all-zero-start c = search needs
-
-part-all-zero-end : tie.Need-part-all-zero-end
-part-all-zero-end c = search needs
-
-all-zero-requires : tie.Need-all-zero-requires
-all-zero-requires c κs = search needs
-
 returns-2 : tie.Need-returns-2
-returns-2 c = left-dirty (c .before .before .before .before .before .args .waiting .now) (c .before .before .before .before .before .args .count) (bytes-intro (c .before .before .before .before .before .args .waiting .now) (λ i. c .before .before .before .before .shared-slice-known .given i .fits)) (c .before .before .before .before .before .pre) (c .before .before .before .if1 .left) (c .before .all-zero .ensures) (not-true _ (c .if2 .taken))
+returns-2 c =
+    let back = c .before .before .before .before .before in
+    let args = back .args in
+    left-dirty (args .waiting .now) (args .count)
+    (bytes-intro (args .waiting .now) (λ i. c .before .before .before .before .shared-slice-known .given i .fits)) (back .pre)
+    (c .before .before .before .if1 .left) (c .before .all-zero .ensures) (not-true _ (c .if2 .taken))
 
 slice-aggregate-all-wait : tie.Need-slice-aggregate-all-wait
-slice-aggregate-all-wait c = sym (length-take-le (c .before .before .before .before .before .before .args .count) (c .before .before .before .before .before .before .args .waiting .now) (omega arith))
-
-all-wait-requires : tie.Need-all-wait-requires
-all-wait-requires c κs = search needs
+slice-aggregate-all-wait c =
+    let args = c .before .before .before .before .before .before .args in
+    sym (length-take-le (args .count) (args .waiting .now) (omega arith))
 
 returns-3 : tie.Need-returns-3
-returns-3 c = left-clean (c .before .before .before .before .before .before .before .args .waiting .now) (c .before .before .before .before .before .before .before .args .count) (bytes-intro (c .before .before .before .before .before .before .before .args .waiting .now) (λ i. c .before .before .before .before .before .before .shared-slice-known .given i .fits)) (c .before .before .before .before .before .before .before .pre) (c .before .before .before .before .before .if1 .left) (c .before .before .before .all-zero .ensures) (not-false _ (c .before .before .if2 .left)) (c .all-wait .ensures)
+returns-3 c =
+    let back = c .before .before .before .before .before in
+    let args = back .before .before .args in
+    left-clean (args .waiting .now) (args .count) (bytes-intro (args .waiting .now) (λ i. back .before .shared-slice-known .given i .fits))
+    (back .before .before .pre) (back .if1 .left) (c .before .before .before .all-zero .ensures) (not-false _ (c .before .before .if2 .left))
+    (c .all-wait .ensures)
 
 pub feeding-leaves-spec : {M : Type 1} → statement M
 feeding-leaves-spec =
     tie.close
     (tie.spec
     returns
-    sub-all-zero
-    part-all-zero-start
-    part-all-zero-end
-    all-zero-requires
+    (λ c. search needs)
+    (λ c. search needs)
+    (λ c. search needs)
+    (λ c κs. search needs)
     returns-2
     slice-aggregate-all-wait
-    all-wait-requires
+    (λ c κs. search needs)
     returns-3)

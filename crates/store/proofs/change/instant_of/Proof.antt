@@ -3,12 +3,6 @@ use borrow.Author.Needs.{needs}
 use Rattle.store.proofs.change.instant_of.Statement.{statement}
 use Rattle.store.proofs.change.instant_of.Tie as tie
 
-enum-told : tie.Need-enum-told
-enum-told c = search needs
-
-enum-known-expiry : tie.Need-enum-known-expiry
-enum-known-expiry c = search needs
-
 returns : tie.Need-returns
 unfolding instantOf
 returns c = rw (c .enum-told .given .1)
@@ -18,4 +12,4 @@ unfolding instantOf
 returns-2 c = rw (c .before .expiry .given .1)
 
 pub instant-of-spec : {M : Type 1} → statement M
-instant-of-spec = tie.close (tie.spec enum-told enum-known-expiry returns returns-2)
+instant-of-spec = tie.close (tie.spec (λ c. search needs) (λ c. search needs) returns returns-2)

@@ -7,31 +7,19 @@ use Rattle.store.proofs.change.put.Statement.{statement}
 use Rattle.store.proofs.change.put.Tie as tie
 
 mul-start : tie.Need-mul-start
-mul-start c = omega (arith, slot-inside (now (c .before .before .before .before .args .store)) (c .before .before .before .before .args .i) (c .before .before .before .before .pre .well) (c .before .before .before .before .pre .inside))
+mul-start c = let back4 = c .before .before .before .before in let args = back4 .args in let pre = back4 .pre in omega (arith, slot-inside (now (args .store)) (args .i) (pre .well) (pre .inside))
 
 add-start : tie.Need-add-start
-add-start c = omega (arith, slot-inside (now (c .before .before .before .before .args .store)) (c .before .before .before .before .args .i) (c .before .before .before .before .pre .well) (c .before .before .before .before .pre .inside))
+add-start c = let back4 = c .before .before .before .before in let args = back4 .args in let pre = back4 .pre in omega (arith, slot-inside (now (args .store)) (args .i) (pre .well) (pre .inside))
 
 add-end : tie.Need-add-end
-add-end c = omega (arith, slot-inside (now (c .before .before .before .before .args .store)) (c .before .before .before .before .args .i) (c .before .before .before .before .pre .well) (c .before .before .before .before .pre .inside))
-
-sub-write-entry : tie.Need-sub-write-entry
-sub-write-entry c = search needs
-
-part-write-entry-start : tie.Need-part-write-entry-start
-part-write-entry-start c = search needs
+add-end c = let back4 = c .before .before .before .before in let args = back4 .args in let pre = back4 .pre in omega (arith, slot-inside (now (args .store)) (args .i) (pre .well) (pre .inside))
 
 part-write-entry-end : tie.Need-part-write-entry-end
-part-write-entry-end c = omega (arith, slot-inside (now (c .before .before .before .before .args .store)) (c .before .before .before .before .args .i) (c .before .before .before .before .pre .well) (c .before .before .before .before .pre .inside))
-
-write-entry-requires : tie.Need-write-entry-requires
-write-entry-requires c κs = search needs
-
-same-length : tie.Need-same-length
-same-length c = search needs
+part-write-entry-end c = let back4 = c .before .before .before .before in let args = back4 .args in let pre = back4 .pre in omega (arith, slot-inside (now (args .store)) (args .i) (pre .well) (pre .inside))
 
 returns : tie.Need-returns
-returns c = slot-placed (now (c .before .before .before .before .before .before .before .before .args .store)) (c .before .before .before .before .before .before .before .before .args .i) _ (c .before .before .write-entry .last .0) (c .before .before .before .before .before .before .before .before .pre) (c .before .before .write-entry .ensures)
+returns c = let back2 = c .before .before in let write-entry = back2 .write-entry in let back8 = back2 .before .before .before .before .before .before in let args = back8 .args in slot-placed (now (args .store)) (args .i) _ (write-entry .last .0) (back8 .pre) (write-entry .ensures)
 
 pub put-spec : {M : Type 1} → statement M
 put-spec =
@@ -40,9 +28,9 @@ put-spec =
     mul-start
     add-start
     add-end
-    sub-write-entry
-    part-write-entry-start
+    (λ c. search needs)
+    (λ c. search needs)
     part-write-entry-end
-    write-entry-requires
-    same-length
+    (λ c κs. search needs)
+    (λ c. search needs)
     returns)

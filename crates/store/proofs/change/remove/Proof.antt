@@ -15,23 +15,11 @@ add-start c = omega (arith, slot-inside (now (c .before .args .store)) (c .befor
 add-end : tie.Need-add-end
 add-end c = omega (arith, slot-inside (now (c .before .args .store)) (c .before .args .i) (c .before .pre .0) (c .before .pre .1))
 
-sub-clear : tie.Need-sub-clear
-sub-clear c = search needs
-
-part-clear-start : tie.Need-part-clear-start
-part-clear-start c = search needs
-
 part-clear-end : tie.Need-part-clear-end
 part-clear-end c = omega (arith, slot-inside (now (c .before .args .store)) (c .before .args .i) (c .before .pre .0) (c .before .pre .1))
 
-clear-requires : tie.Need-clear-requires
-clear-requires c κs = search needs
-
-same-length : tie.Need-same-length
-same-length c = search needs
-
 returns : tie.Need-returns
-returns c = slot-cleared (now (c .before .before .before .before .before .args .store)) (c .before .before .before .before .before .pre .0) (c .before .before .before .before .before .args .i) (c .before .before .before .before .before .pre .1) (c .before .before .clear .last .0) (c .before .before .clear .ensures)
+returns c = let back2 = c .before .before in let clear = back2 .clear in let back5 = back2 .before .before .before in let args = back5 .args in let pre = back5 .pre in slot-cleared (now (args .store)) (pre .0) (args .i) (pre .1) (clear .last .0) (clear .ensures)
 
 pub remove-spec : {M : Type 1} → statement M
 remove-spec =
@@ -40,9 +28,9 @@ remove-spec =
     mul-start
     add-start
     add-end
-    sub-clear
-    part-clear-start
+    (λ c. search needs)
+    (λ c. search needs)
     part-clear-end
-    clear-requires
-    same-length
+    (λ c κs. search needs)
+    (λ c. search needs)
     returns)

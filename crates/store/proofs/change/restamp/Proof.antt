@@ -15,23 +15,11 @@ add-start c = omega (arith, slot-inside (now (c .before .args .store)) (c .befor
 add-end : tie.Need-add-end
 add-end c = omega (arith, slot-inside (now (c .before .args .store)) (c .before .args .i) (c .before .pre .0 .well) (c .before .pre .0 .inside))
 
-sub-write-stamp : tie.Need-sub-write-stamp
-sub-write-stamp c = search needs
-
-part-write-stamp-start : tie.Need-part-write-stamp-start
-part-write-stamp-start c = search needs
-
 part-write-stamp-end : tie.Need-part-write-stamp-end
 part-write-stamp-end c = omega (arith, slot-inside (now (c .before .args .store)) (c .before .args .i) (c .before .pre .0 .well) (c .before .pre .0 .inside))
 
-write-stamp-requires : tie.Need-write-stamp-requires
-write-stamp-requires c κs = search needs
-
-same-length : tie.Need-same-length
-same-length c = search needs
-
 returns : tie.Need-returns
-returns c = slot-stamped (now (c .before .before .before .before .before .args .store)) (c .before .before .before .before .before .args .i) (c .before .before .before .before .before .args .version) (c .before .before .before .before .before .args .expiry) (c .before .before .write-stamp .last .0) (c .before .before .before .before .before .pre .0) (c .before .before .before .before .before .pre .1) (c .before .before .before .before .before .pre .2) (c .before .before .write-stamp .ensures)
+returns c = let back2 = c .before .before in let write-stamp = back2 .write-stamp in let back5 = back2 .before .before .before in let args = back5 .args in let pre = back5 .pre in slot-stamped (now (args .store)) (args .i) (args .version) (args .expiry) (write-stamp .last .0) (pre .0) (pre .1) (pre .2) (write-stamp .ensures)
 
 pub restamp-spec : {M : Type 1} → statement M
 restamp-spec =
@@ -40,9 +28,9 @@ restamp-spec =
     mul-start
     add-start
     add-end
-    sub-write-stamp
-    part-write-stamp-start
+    (λ c. search needs)
+    (λ c. search needs)
     part-write-stamp-end
-    write-stamp-requires
-    same-length
+    (λ c κs. search needs)
+    (λ c. search needs)
     returns)

@@ -6,31 +6,19 @@ use borrow.Author.Needs.{needs}
 use Rattle.store.proofs.change.set_clock.Statement.{statement}
 use Rattle.store.proofs.change.set_clock.Tie as tie
 
-sub-write-le : tie.Need-sub-write-le
-sub-write-le c = search needs
-
-part-write-le-start : tie.Need-part-write-le-start
-part-write-le-start c = search needs
-
 part-write-le-end : tie.Need-part-write-le-end
 part-write-le-end c = omega (arith, header-inside (now (c .before .args .store)) (c .before .pre .0))
 
-write-le-requires : tie.Need-write-le-requires
-write-le-requires c κs = search needs
-
-same-length : tie.Need-same-length
-same-length c = search needs
-
 returns : tie.Need-returns
-returns c = clock-laid (now (c .before .before .before .before .before .args .store)) (c .before .before .before .before .before .pre .0) (c .before .before .before .before .before .args .time) (c .before .before .write-le .last .0) (c .before .before .before .before .before .pre .1) (c .before .before .write-le .ensures)
+returns c = let back2 = c .before .before in let write-le = back2 .write-le in let back5 = back2 .before .before .before in let args = back5 .args in let pre = back5 .pre in clock-laid (now (args .store)) (pre .0) (args .time) (write-le .last .0) (pre .1) (write-le .ensures)
 
 pub set-clock-spec : {M : Type 1} → statement M
 set-clock-spec =
     tie.close
     (tie.spec
-    sub-write-le
-    part-write-le-start
+    (λ c. search needs)
+    (λ c. search needs)
     part-write-le-end
-    write-le-requires
-    same-length
+    (λ c κs. search needs)
+    (λ c. search needs)
     returns)

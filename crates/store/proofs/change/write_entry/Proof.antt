@@ -9,91 +9,43 @@ use borrow.Author.Needs.{needs}
 use Rattle.store.proofs.change.write_entry.Statement.{statement}
 use Rattle.store.proofs.change.write_entry.Tie as tie
 
-cast-t : tie.Need-cast-t
-cast-t c = search needs
-
-slice-write-t : tie.Need-slice-write-t
-slice-write-t c = search needs
-
-cast-t-2 : tie.Need-cast-t-2
-cast-t-2 c = search needs
-
-slice-write-t-2 : tie.Need-slice-write-t-2
-slice-write-t-2 c = search needs
-
-cast-t-3 : tie.Need-cast-t-3
-cast-t-3 c = search needs
-
-slice-write-t-3 : tie.Need-slice-write-t-3
-slice-write-t-3 c = search needs
-
-write-stamp-requires : tie.Need-write-stamp-requires
-write-stamp-requires c κs = search needs
-
-sub-write-padded : tie.Need-sub-write-padded
-sub-write-padded c = search needs
-
-part-write-padded-start : tie.Need-part-write-padded-start
-part-write-padded-start c = search needs
-
 part-write-padded-end : tie.Need-part-write-padded-end
-part-write-padded-end c = omega (arith, stamp-size (now (c .before .before .before .before .before .before .before .before .args .t)) (length (now (c .before .before .before .before .before .before .before .before .args .key)) % 256) (length (now (c .before .before .before .before .before .before .before .before .args .field)) % 256) (length (now (c .before .before .before .before .before .before .before .before .args .value)) % 256) (c .before .before .write-stamp .last .0) (c .before .before .before .before .before .before .before .before .pre .size) (c .before .before .write-stamp .kept .0))
-
-write-padded-requires : tie.Need-write-padded-requires
-write-padded-requires c κs = search needs
-
-sub-write-padded-2 : tie.Need-sub-write-padded-2
-sub-write-padded-2 c = search needs
-
-part-write-padded-start-2 : tie.Need-part-write-padded-start-2
-part-write-padded-start-2 c = search needs
+part-write-padded-end c = let back2 = c .before .before in let write-stamp = back2 .write-stamp in let back8 = back2 .before .before .before .before .before .before in let args = back8 .args in omega (arith, stamp-size (now (args .t)) (length (now (args .key)) % 256) (length (now (args .field)) % 256) (length (now (args .value)) % 256) (write-stamp .last .0) (back8 .pre .size) (write-stamp .kept .0))
 
 part-write-padded-end-2 : tie.Need-part-write-padded-end-2
-part-write-padded-end-2 c = omega (arith, stamp-size (now (c .before .before .before .before .before .before .before .before .before .before .before .before .args .t)) (length (now (c .before .before .before .before .before .before .before .before .before .before .before .before .args .key)) % 256) (length (now (c .before .before .before .before .before .before .before .before .before .before .before .before .args .field)) % 256) (length (now (c .before .before .before .before .before .before .before .before .before .before .before .before .args .value)) % 256) (c .before .before .before .before .before .before .write-stamp .last .0) (c .before .before .before .before .before .before .before .before .before .before .before .before .pre .size) (c .before .before .before .before .before .before .write-stamp .kept .0), same-len-mid 16 16 (c .before .before .before .before .before .before .write-stamp .last .0) (c .before .before .write-padded .last .1 .0) (c .before .before .write-padded .kept .1 .0))
-
-write-padded-requires-2 : tie.Need-write-padded-requires-2
-write-padded-requires-2 c κs = search needs
-
-sub-write-padded-3 : tie.Need-sub-write-padded-3
-sub-write-padded-3 c = search needs
-
-part-write-padded-start-3 : tie.Need-part-write-padded-start-3
-part-write-padded-start-3 c = search needs
+part-write-padded-end-2 c = let back2 = c .before .before in let write-padded = back2 .write-padded in let back6 = back2 .before .before .before .before in let write-stamp = back6 .write-stamp in let back12 = back6 .before .before .before .before .before .before in let args = back12 .args in omega (arith, stamp-size (now (args .t)) (length (now (args .key)) % 256) (length (now (args .field)) % 256) (length (now (args .value)) % 256) (write-stamp .last .0) (back12 .pre .size) (write-stamp .kept .0), same-len-mid 16 16 (write-stamp .last .0) (write-padded .last .1 .0) (write-padded .kept .1 .0))
 
 part-write-padded-end-3 : tie.Need-part-write-padded-end-3
-part-write-padded-end-3 c = omega (arith, stamp-size (now (c .before .before .before .before .before .before .before .before .before .before .before .before .before .before .before .before .args .t)) (length (now (c .before .before .before .before .before .before .before .before .before .before .before .before .before .before .before .before .args .key)) % 256) (length (now (c .before .before .before .before .before .before .before .before .before .before .before .before .before .before .before .before .args .field)) % 256) (length (now (c .before .before .before .before .before .before .before .before .before .before .before .before .before .before .before .before .args .value)) % 256) (c .before .before .before .before .before .before .before .before .before .before .write-stamp .last .0) (c .before .before .before .before .before .before .before .before .before .before .before .before .before .before .before .before .pre .size) (c .before .before .before .before .before .before .before .before .before .before .write-stamp .kept .0), same-len-mid 16 16 (c .before .before .before .before .before .before .before .before .before .before .write-stamp .last .0) (c .before .before .before .before .before .before .write-padded .last .1 .0) (c .before .before .before .before .before .before .write-padded .kept .1 .0), same-len-mid 32 32 (putMid 16 16 (c .before .before .before .before .before .before .before .before .before .before .write-stamp .last .0) (c .before .before .before .before .before .before .write-padded .last .1 .0)) (c .before .before .write-padded2 .last .1 .0) (c .before .before .write-padded2 .kept .1 .0))
-
-write-padded-requires-3 : tie.Need-write-padded-requires-3
-write-padded-requires-3 c κs = search needs
+part-write-padded-end-3 c = let back2 = c .before .before in let write-padded2 = back2 .write-padded2 in let back6 = back2 .before .before .before .before in let write-padded = back6 .write-padded in let back10 = back6 .before .before .before .before in let write-stamp = back10 .write-stamp in let back16 = back10 .before .before .before .before .before .before in let args = back16 .args in omega (arith, stamp-size (now (args .t)) (length (now (args .key)) % 256) (length (now (args .field)) % 256) (length (now (args .value)) % 256) (write-stamp .last .0) (back16 .pre .size) (write-stamp .kept .0), same-len-mid 16 16 (write-stamp .last .0) (write-padded .last .1 .0) (write-padded .kept .1 .0), same-len-mid 32 32 (putMid 16 16 (write-stamp .last .0) (write-padded .last .1 .0)) (write-padded2 .last .1 .0) (write-padded2 .kept .1 .0))
 
 same-length : tie.Need-same-length
-same-length c = omega (arith, stamp-size (now (c .before .before .before .before .before .before .before .before .before .before .before .before .before .before .before .before .before .before .before .before .args .t)) (length (now (c .before .before .before .before .before .before .before .before .before .before .before .before .before .before .before .before .before .before .before .before .args .key)) % 256) (length (now (c .before .before .before .before .before .before .before .before .before .before .before .before .before .before .before .before .before .before .before .before .args .field)) % 256) (length (now (c .before .before .before .before .before .before .before .before .before .before .before .before .before .before .before .before .before .before .before .before .args .value)) % 256) (c .before .before .before .before .before .before .before .before .before .before .before .before .before .before .write-stamp .last .0) (c .before .before .before .before .before .before .before .before .before .before .before .before .before .before .before .before .before .before .before .before .pre .size) (c .before .before .before .before .before .before .before .before .before .before .before .before .before .before .write-stamp .kept .0), same-len-mid 16 16 (c .before .before .before .before .before .before .before .before .before .before .before .before .before .before .write-stamp .last .0) (c .before .before .before .before .before .before .before .before .before .before .write-padded .last .1 .0) (c .before .before .before .before .before .before .before .before .before .before .write-padded .kept .1 .0), same-len-mid 32 32 (putMid 16 16 (c .before .before .before .before .before .before .before .before .before .before .before .before .before .before .write-stamp .last .0) (c .before .before .before .before .before .before .before .before .before .before .write-padded .last .1 .0)) (c .before .before .before .before .before .before .write-padded2 .last .1 .0) (c .before .before .before .before .before .before .write-padded2 .kept .1 .0), same-len-mid 64 64 (putMid 32 32 (putMid 16 16 (c .before .before .before .before .before .before .before .before .before .before .before .before .before .before .write-stamp .last .0) (c .before .before .before .before .before .before .before .before .before .before .write-padded .last .1 .0)) (c .before .before .before .before .before .before .write-padded2 .last .1 .0)) (c .before .before .write-padded3 .last .1 .0) (c .before .before .write-padded3 .kept .1 .0))
+same-length c = let back2 = c .before .before in let write-padded3 = back2 .write-padded3 in let back6 = back2 .before .before .before .before in let write-padded2 = back6 .write-padded2 in let back10 = back6 .before .before .before .before in let write-padded = back10 .write-padded in let back14 = back10 .before .before .before .before in let write-stamp = back14 .write-stamp in let back20 = back14 .before .before .before .before .before .before in let args = back20 .args in omega (arith, stamp-size (now (args .t)) (length (now (args .key)) % 256) (length (now (args .field)) % 256) (length (now (args .value)) % 256) (write-stamp .last .0) (back20 .pre .size) (write-stamp .kept .0), same-len-mid 16 16 (write-stamp .last .0) (write-padded .last .1 .0) (write-padded .kept .1 .0), same-len-mid 32 32 (putMid 16 16 (write-stamp .last .0) (write-padded .last .1 .0)) (write-padded2 .last .1 .0) (write-padded2 .kept .1 .0), same-len-mid 64 64 (putMid 32 32 (putMid 16 16 (write-stamp .last .0) (write-padded .last .1 .0)) (write-padded2 .last .1 .0)) (write-padded3 .last .1 .0) (write-padded3 .kept .1 .0))
 
 returns : tie.Need-returns
-returns c = entry-written (entry (now (c .before .before .before .before .before .before .before .before .before .before .before .before .before .before .before .before .before .before .before .before .args .key)) (now (c .before .before .before .before .before .before .before .before .before .before .before .before .before .before .before .before .before .before .before .before .args .field)) (now (c .before .before .before .before .before .before .before .before .before .before .before .before .before .before .before .before .before .before .before .before .args .value)) (c .before .before .before .before .before .before .before .before .before .before .before .before .before .before .before .before .before .before .before .before .args .version) (c .before .before .before .before .before .before .before .before .before .before .before .before .before .before .before .before .before .before .before .before .args .expiry)) (now (c .before .before .before .before .before .before .before .before .before .before .before .before .before .before .before .before .before .before .before .before .args .t)) (c .before .before .before .before .before .before .before .before .before .before .before .before .before .before .write-stamp .last .0) (c .before .before .before .before .before .before .before .before .before .before .before .before .before .before .before .before .before .before .before .before .pre) (c .before .before .before .before .before .before .before .before .before .before .before .before .before .before .write-stamp .ensures) (c .before .before .before .before .before .before .before .before .before .before .write-padded .last .1 .0) (c .before .before .before .before .before .before .write-padded2 .last .1 .0) (c .before .before .write-padded3 .last .1 .0) (c .before .before .before .before .before .before .before .before .before .before .write-padded .ensures) (c .before .before .before .before .before .before .write-padded2 .ensures) (c .before .before .write-padded3 .ensures)
+returns c = let back2 = c .before .before in let write-padded3 = back2 .write-padded3 in let back6 = back2 .before .before .before .before in let write-padded2 = back6 .write-padded2 in let back10 = back6 .before .before .before .before in let write-padded = back10 .write-padded in let back14 = back10 .before .before .before .before in let write-stamp = back14 .write-stamp in let back20 = back14 .before .before .before .before .before .before in let args = back20 .args in entry-written (entry (now (args .key)) (now (args .field)) (now (args .value)) (args .version) (args .expiry)) (now (args .t)) (write-stamp .last .0) (back20 .pre) (write-stamp .ensures) (write-padded .last .1 .0) (write-padded2 .last .1 .0) (write-padded3 .last .1 .0) (write-padded .ensures) (write-padded2 .ensures) (write-padded3 .ensures)
 
 pub write-entry-spec : {M : Type 1} → statement M
 write-entry-spec =
     tie.close
     (tie.spec
-    cast-t
-    slice-write-t
-    cast-t-2
-    slice-write-t-2
-    cast-t-3
-    slice-write-t-3
-    write-stamp-requires
-    sub-write-padded
-    part-write-padded-start
+    (λ c. search needs)
+    (λ c. search needs)
+    (λ c. search needs)
+    (λ c. search needs)
+    (λ c. search needs)
+    (λ c. search needs)
+    (λ c κs. search needs)
+    (λ c. search needs)
+    (λ c. search needs)
     part-write-padded-end
-    write-padded-requires
-    sub-write-padded-2
-    part-write-padded-start-2
+    (λ c κs. search needs)
+    (λ c. search needs)
+    (λ c. search needs)
     part-write-padded-end-2
-    write-padded-requires-2
-    sub-write-padded-3
-    part-write-padded-start-3
+    (λ c κs. search needs)
+    (λ c. search needs)
+    (λ c. search needs)
     part-write-padded-end-3
-    write-padded-requires-3
+    (λ c κs. search needs)
     same-length
     returns)

@@ -9,15 +9,9 @@ use borrow.Author.Needs.{needs}
 use Rattle.store.proofs.check.lengths_well.Statement.{statement}
 use Rattle.store.proofs.check.lengths_well.Tie as tie
 
-shared-slice-read-if1 : tie.Need-shared-slice-read-if1
-shared-slice-read-if1 c = search needs
-
 returns : tie.Need-returns
 unfolding lengthTests
 returns c = sym (every-fails _ 0 (lt-leb (getD (now (c .before .before .args .t)) 0 0) 2 (c .if1 .taken)))
-
-shared-slice-read-if2 : tie.Need-shared-slice-read-if2
-shared-slice-read-if2 c = search needs
 
 cast-if2 : tie.Need-cast-if2
 cast-if2 c = omega (arith, c .shared-slice-known2 .given 1)
@@ -26,18 +20,12 @@ returns-2 : tie.Need-returns-2
 unfolding lengthTests
 returns-2 c = sym (every-fails _ 1 (lt-leb (getD (now (c .before .before .before .before .args .t)) 1 0) 16 (c .if2 .taken)))
 
-shared-slice-read-if3 : tie.Need-shared-slice-read-if3
-shared-slice-read-if3 c = search needs
-
 cast-if3 : tie.Need-cast-if3
 cast-if3 c = omega (arith, c .shared-slice-known3 .given 2)
 
 returns-3 : tie.Need-returns-3
 unfolding lengthTests
 returns-3 c = sym (every-fails _ 2 (lt-leb (getD (now (c .before .before .before .before .before .before .args .t)) 2 0) 32 (c .if3 .taken)))
-
-shared-slice-read-result : tie.Need-shared-slice-read-result
-shared-slice-read-result c = search needs
 
 cast-result : tie.Need-cast-result
 cast-result c = omega (arith, c .shared-slice-known4 .given 3)
@@ -49,14 +37,14 @@ pub lengths-well-spec : {M : Type 1} → statement M
 lengths-well-spec =
     tie.close
     (tie.spec
-    shared-slice-read-if1
+    (λ c. search needs)
     returns
-    shared-slice-read-if2
+    (λ c. search needs)
     cast-if2
     returns-2
-    shared-slice-read-if3
+    (λ c. search needs)
     cast-if3
     returns-3
-    shared-slice-read-result
+    (λ c. search needs)
     cast-result
     returns-4)

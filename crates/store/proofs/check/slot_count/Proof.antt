@@ -9,12 +9,6 @@ returns c = count-short (c .before .args .size) (c .if1 .taken)
 returns-2 : tie.Need-returns-2
 returns-2 c = count-many (c .before .before .args .size) (c .if2 .taken)
 
-mul-if3 : tie.Need-mul-if3
-mul-if3 c = search needs
-
-add-if3 : tie.Need-add-if3
-add-if3 c = search needs
-
 returns-3 : tie.Need-returns-3
 returns-3 c = count-uneven (c .before .before .before .args .size) (c .if3 .taken)
 
@@ -22,4 +16,4 @@ returns-4 : tie.Need-returns-4
 returns-4 c = count-right (c .before .before .before .args .size) (c .before .if2 .left) (c .if3 .left)
 
 pub slot-count-spec : {M : Type 1} → statement M
-slot-count-spec = tie.close (tie.spec returns returns-2 mul-if3 add-if3 returns-3 returns-4)
+slot-count-spec = tie.close (tie.spec returns returns-2 (λ c. search needs) (λ c. search needs) returns-3 returns-4)

@@ -6,23 +6,11 @@ use borrow.Author.Needs.{needs}
 use Rattle.store.proofs.check.slot_well.Statement.{statement}
 use Rattle.store.proofs.check.slot_well.Tie as tie
 
-shared-slice-read-if1 : tie.Need-shared-slice-read-if1
-shared-slice-read-if1 c = search needs
-
-all-zero-requires : tie.Need-all-zero-requires
-all-zero-requires c κs = search needs
-
 returns : tie.Need-returns
 returns c = c .all-zero .ensures ∙ sym (well-empty (now (c .before .before .before .before .args .t)) (c .before .if1 .taken))
 
-lengths-well-requires : tie.Need-lengths-well-requires
-lengths-well-requires c κs = search needs
-
 returns-2 : tie.Need-returns-2
 returns-2 c = rw (well-held (now (c .before .before .before .before .before .args .t)) (c .before .before .if1 .left), ← (c .before .lengths-well .ensures), not-true (c .before .lengths-well .result) (c .if2 .taken))
-
-expiry-well-requires : tie.Need-expiry-well-requires
-expiry-well-requires c κs = search needs
 
 places-well-requires : tie.Need-places-well-requires
 places-well-requires c κs = (c .before .before .before .before .before .before .before .pre, sym (c .before .before .before .lengths-well .ensures) ∙ not-false (c .before .before .before .lengths-well .result) (c .before .before .if2 .left))
@@ -37,12 +25,12 @@ pub slot-well-spec : {M : Type 1} → statement M
 slot-well-spec =
     tie.close
     (tie.spec
-    shared-slice-read-if1
-    all-zero-requires
+    (λ c. search needs)
+    (λ c κs. search needs)
     returns
-    lengths-well-requires
+    (λ c κs. search needs)
     returns-2
-    expiry-well-requires
+    (λ c κs. search needs)
     places-well-requires
     returns-3
     returns-4)

@@ -16,20 +16,11 @@ abbrev μ-loop : tie.MeasureT-loop
 loop-holds : tie.Need-loop-holds Inv-loop μ-loop
 loop-holds c = judge-begins (c .before .args .count) (now (c .before .args .store))
 
-bytes-requires : tie.Need-bytes-requires Inv-loop μ-loop
-bytes-requires c κs = omega arith
-
 slot-well-requires : tie.Need-slot-well-requires Inv-loop μ-loop
 slot-well-requires c κs = rw (c .bytes .ensures) (slot-size (c .before .before .before .before .args .count) (now (c .before .before .before .before .args .store)) (c .before .before .loop .i) (c .before .before .before .before .pre) (c .before .loop-test .taken))
 
 returns : tie.Need-returns Inv-loop μ-loop
 returns c = sym (judge-fails _ _ _ (c .before .before .before .before .loop .inv) (c .before .before .before .loop-test .taken) (sym (rw (c .before .before .bytes .ensures) at (c .before .slot-well .ensures)) ∙ not-true (c .before .slot-well .result) (c .if1 .taken)))
-
-add-i : tie.Need-add-i Inv-loop μ-loop
-add-i c = omega arith
-
-loop-less : tie.Need-loop-less Inv-loop μ-loop
-loop-less c = omega arith
 
 loop-again : tie.Need-loop-again Inv-loop μ-loop
 loop-again c = judge-goes-on _ _ _ (c .before .before .before .before .loop .inv) (c .before .before .before .loop-test .taken) (sym (rw (c .before .before .bytes .ensures) at (c .before .slot-well .ensures)) ∙ not-false (c .before .slot-well .result) (c .if1 .left))
@@ -44,10 +35,10 @@ slots-well-spec =
     Inv-loop
     μ-loop
     loop-holds
-    bytes-requires
+    (λ c κs. omega arith)
     slot-well-requires
     returns
-    add-i
-    loop-less
+    (λ c. omega arith)
+    (λ c. omega arith)
     loop-again
     returns-2)

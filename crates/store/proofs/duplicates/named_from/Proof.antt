@@ -19,16 +19,10 @@ bytes-requires : tie.Need-bytes-requires Inv-loop μ-loop
 bytes-requires c κs = omega (arith, c .before .before .before .before .before .pre .0 .size)
 
 holds-requires : tie.Need-holds-requires Inv-loop μ-loop
-holds-requires c κs = rw (c .bytes .ensures) (slot-bytes (c .before .before .before .before .before .before .args .count) (now (c .before .before .before .before .before .before .args .store)) (c .before .before .loop .i) (c .before .before .before .before .before .before .pre .0) (c .before .loop-test .taken))
+holds-requires c κs = let back2 = c .before .before in let back6 = back2 .before .before .before .before in let args = back6 .args in rw (c .bytes .ensures) (slot-bytes (args .count) (now (args .store)) (back2 .loop .i) (back6 .pre .0) (c .before .loop-test .taken))
 
 returns : tie.Need-returns Inv-loop μ-loop
 returns c = sym (seek-finds _ _ _ _ _ _ (c .before .before .before .before .loop .inv) (c .before .before .before .loop-test .taken) (sym (rw (c .before .before .bytes .ensures) at (c .before .holds .ensures)) ∙ c .if1 .taken))
-
-add-i : tie.Need-add-i Inv-loop μ-loop
-add-i c = omega arith
-
-loop-less : tie.Need-loop-less Inv-loop μ-loop
-loop-less c = omega arith
 
 loop-again : tie.Need-loop-again Inv-loop μ-loop
 loop-again c = seek-goes-on _ _ _ _ _ _ (c .before .before .before .before .loop .inv) (c .before .before .before .loop-test .taken) (sym (rw (c .before .before .bytes .ensures) at (c .before .holds .ensures)) ∙ c .if1 .left)
@@ -46,7 +40,7 @@ named-from-spec =
     bytes-requires
     holds-requires
     returns
-    add-i
-    loop-less
+    (λ c. omega arith)
+    (λ c. omega arith)
     loop-again
     returns-2)

@@ -1,13 +1,10 @@
 use mathlib.Core.Path.{sym, _∙_}
 use borrow.Author.Tests.{not-true}
 use Rattle.store.proofs.StoreChecks.{slot-size}
-use Rattle.store.proofs.Marks.{turn-empty, turn-unseen, turn-seen, held-bytes}
+use Rattle.store.proofs.BloomFilter.{turn-empty, turn-new, turn-contained, held-bytes}
 use borrow.Author.Needs.{needs}
 use Rattle.store.proofs.duplicates.repeats.Statement.{statement}
 use Rattle.store.proofs.duplicates.repeats.Tie as tie
-
-bytes-requires : tie.Need-bytes-requires
-bytes-requires c κs = search needs
 
 is-empty-requires : tie.Need-is-empty-requires
 is-empty-requires c κs = rw (c .bytes .ensures) (slot-size _ _ _ (c .before .before .before .pre .slots .size) (c .before .before .before .pre .inside))
@@ -15,50 +12,35 @@ is-empty-requires c κs = rw (c .bytes .ensures) (slot-size _ _ _ (c .before .be
 returns : tie.Need-returns
 returns c = turn-empty _ _ _ _ (c .before .before .before .before .before .pre) (sym (rw (c .before .before .bytes .ensures) at (c .before .is-empty .ensures)) ∙ c .if1 .taken)
 
-name-of-requires : tie.Need-name-of-requires
-name-of-requires c κs = rw (c .before .before .before .bytes .ensures) (slot-size _ _ _ (c .before .before .before .before .before .before .pre .slots .size) (c .before .before .before .before .before .before .pre .inside))
-
-mark-requires : tie.Need-mark-requires
-mark-requires c κs = search needs
-
-same-length : tie.Need-same-length
-same-length c = search needs
+name-hash-requires : tie.Need-name-hash-requires
+name-hash-requires c κs = let back3 = c .before .before .before in let pre = back3 .before .before .before .pre in rw (back3 .bytes .ensures) (slot-size _ _ _ (pre .slots .size) (pre .inside))
 
 returns-2 : tie.Need-returns-2
-returns-2 c = turn-unseen _ _ _ _ (c .before .before .before .before .before .before .before .before .before .before .before .pre) (sym (rw (c .before .before .before .before .before .before .before .before .bytes .ensures) at (c .before .before .before .before .before .before .before .is-empty .ensures)) ∙ c .before .before .before .before .before .before .if1 .left) (rw (c .before .before .before .before .name-of .ensures, c .before .before .before .before .before .before .before .before .bytes .ensures) at (c .before .before .before .mark .ensures .1)) (sym (rw (c .before .before .before .before .name-of .ensures, c .before .before .before .before .before .before .before .before .bytes .ensures) at (c .before .before .before .mark .ensures .0)) ∙ not-true (c .before .before .before .mark .result) (c .if2 .taken))
-
-add-named-from : tie.Need-add-named-from
-add-named-from c = search needs
+returns-2 c = let back3 = c .before .before .before in let insert = back3 .insert in let back4 = back3 .before in let name-hash = back4 .name-hash in let back6 = back4 .before .before in let back7 = back6 .before in let back8 = back7 .before in let bytes = back8 .bytes in turn-new _ _ _ _ (back8 .before .before .before .pre) (sym (rw (bytes .ensures) at (back7 .is-empty .ensures)) ∙ back6 .if1 .left) (rw (name-hash .ensures, bytes .ensures) at (insert .ensures .1)) (sym (rw (name-hash .ensures, bytes .ensures) at (insert .ensures .0)) ∙ not-true (insert .result) (c .if2 .taken))
 
 key-requires : tie.Need-key-requires
-key-requires c κs = rw (c .before .before .before .before .before .before .before .before .bytes .ensures) (held-bytes _ _ _ _ (c .before .before .before .before .before .before .before .before .before .before .before .pre) (sym (rw (c .before .before .before .before .before .before .before .before .bytes .ensures) at (c .before .before .before .before .before .before .before .is-empty .ensures)) ∙ c .before .before .before .before .before .before .if1 .left))
+key-requires c κs = let back6 = c .before .before .before .before .before .before in let back7 = back6 .before in let back8 = back7 .before in let bytes = back8 .bytes in rw (bytes .ensures) (held-bytes _ _ _ _ (back8 .before .before .before .pre) (sym (rw (bytes .ensures) at (back7 .is-empty .ensures)) ∙ back6 .if1 .left))
 
 field-requires : tie.Need-field-requires
-field-requires c κs = rw (c .before .before .before .before .before .before .before .before .before .bytes .ensures) (held-bytes _ _ _ _ (c .before .before .before .before .before .before .before .before .before .before .before .before .pre) (sym (rw (c .before .before .before .before .before .before .before .before .before .bytes .ensures) at (c .before .before .before .before .before .before .before .before .is-empty .ensures)) ∙ c .before .before .before .before .before .before .before .if1 .left))
-
-named-from-requires : tie.Need-named-from-requires
-named-from-requires c κs = search needs
-
-same-length-2 : tie.Need-same-length-2
-same-length-2 c = search needs
+field-requires c κs = let back7 = c .before .before .before .before .before .before .before in let back8 = back7 .before in let back9 = back8 .before in let bytes = back9 .bytes in rw (bytes .ensures) (held-bytes _ _ _ _ (back9 .before .before .before .pre) (sym (rw (bytes .ensures) at (back8 .is-empty .ensures)) ∙ back7 .if1 .left))
 
 returns-3 : tie.Need-returns-3
-returns-3 c = turn-seen _ _ _ _ (c .before .before .before .before .before .before .before .before .before .before .before .before .before .before .pre) (sym (rw (c .before .before .before .before .before .before .before .before .before .before .before .bytes .ensures) at (c .before .before .before .before .before .before .before .before .before .before .is-empty .ensures)) ∙ c .before .before .before .before .before .before .before .before .before .if1 .left) (rw (c .before .before .before .before .before .before .before .name-of .ensures, c .before .before .before .before .before .before .before .before .before .before .before .bytes .ensures) at (c .before .before .before .before .before .before .mark .ensures .1)) (rw (c .before .before .key .ensures, c .before .field .ensures, c .before .before .before .before .before .before .before .before .before .before .before .bytes .ensures) at (c .named-from .ensures))
+returns-3 c = let back2 = c .before .before in let back6 = back2 .before .before .before .before in let back7 = back6 .before in let back9 = back7 .before .before in let back10 = back9 .before in let back11 = back10 .before in let bytes = back11 .bytes in turn-contained _ _ _ _ (back11 .before .before .before .pre) (sym (rw (bytes .ensures) at (back10 .is-empty .ensures)) ∙ back9 .if1 .left) (rw (back7 .name-hash .ensures, bytes .ensures) at (back6 .insert .ensures .1)) (rw (back2 .key .ensures, c .before .field .ensures, bytes .ensures) at (c .named-from .ensures))
 
 pub repeats-spec : {M : Type 1} → statement M
 repeats-spec =
     tie.close
     (tie.spec
-    bytes-requires
+    (λ c κs. search needs)
     is-empty-requires
     returns
-    name-of-requires
-    mark-requires
-    same-length
+    name-hash-requires
+    (λ c κs. search needs)
+    (λ c. search needs)
     returns-2
-    add-named-from
+    (λ c. search needs)
     key-requires
     field-requires
-    named-from-requires
-    same-length-2
+    (λ c κs. search needs)
+    (λ c. search needs)
     returns-3)

@@ -14,9 +14,6 @@ Inv-loop store key count n₀ i₀ n i = Count (ofKey key) store count n i
 abbrev μ-loop : tie.MeasureT-loop
 μ-loop store key count n₀ i₀ n i = count - i
 
-slots-requires : tie.Need-slots-requires Inv-loop μ-loop
-slots-requires c κs = search needs
-
 loop-holds : tie.Need-loop-holds Inv-loop μ-loop
 loop-holds c = count-begins (ofKey (now (c .before .before .before .args .key))) (now (c .before .before .before .args .store)) (c .before .before .before .pre) (c .slots .ensures)
 
@@ -25,15 +22,6 @@ bytes-requires c κs = walk-inside (c .before .loop .inv .walk) (c .loop-test .t
 
 of-key-requires : tie.Need-of-key-requires Inv-loop μ-loop
 of-key-requires c κs = walk-bytes (c .before .before .loop .inv .walk) (c .before .loop-test .taken) (c .bytes .ensures)
-
-add-n : tie.Need-add-n Inv-loop μ-loop
-add-n c = search needs
-
-add-i : tie.Need-add-i Inv-loop μ-loop
-add-i c = search needs
-
-loop-less : tie.Need-loop-less Inv-loop μ-loop
-loop-less c = omega arith
 
 loop-again : tie.Need-loop-again Inv-loop μ-loop
 loop-again c =
@@ -51,12 +39,12 @@ count-held-spec =
     (tie.spec
     Inv-loop
     μ-loop
-    slots-requires
+    (λ c κs. search needs)
     loop-holds
     bytes-requires
     of-key-requires
-    add-n
-    add-i
-    loop-less
+    (λ c. search needs)
+    (λ c. search needs)
+    (λ c. omega arith)
     loop-again
     returns)

@@ -14,26 +14,14 @@ Inv-loop store key time count n₀ i₀ n i = Count (liveOfKey time key) store c
 abbrev μ-loop : tie.MeasureT-loop
 μ-loop store key time count n₀ i₀ n i = count - i
 
-slots-requires : tie.Need-slots-requires Inv-loop μ-loop
-slots-requires c κs = search needs
-
 loop-holds : tie.Need-loop-holds Inv-loop μ-loop
-loop-holds c = count-begins (liveOfKey (c .before .before .before .args .time) (now (c .before .before .before .args .key))) (now (c .before .before .before .args .store)) (c .before .before .before .pre) (c .slots .ensures)
+loop-holds c = let back3 = c .before .before .before in let args = back3 .args in count-begins (liveOfKey (args .time) (now (args .key))) (now (args .store)) (back3 .pre) (c .slots .ensures)
 
 bytes-requires : tie.Need-bytes-requires Inv-loop μ-loop
 bytes-requires c κs = walk-inside (c .before .loop .inv .walk) (c .loop-test .taken)
 
 is-live-of-requires : tie.Need-is-live-of-requires Inv-loop μ-loop
 is-live-of-requires c κs = walk-bytes (c .before .before .loop .inv .walk) (c .before .loop-test .taken) (c .bytes .ensures)
-
-add-n : tie.Need-add-n Inv-loop μ-loop
-add-n c = search needs
-
-add-i : tie.Need-add-i Inv-loop μ-loop
-add-i c = search needs
-
-loop-less : tie.Need-loop-less Inv-loop μ-loop
-loop-less c = omega arith
 
 loop-again : tie.Need-loop-again Inv-loop μ-loop
 loop-again c =
@@ -51,12 +39,12 @@ count-live-spec =
     (tie.spec
     Inv-loop
     μ-loop
-    slots-requires
+    (λ c κs. search needs)
     loop-holds
     bytes-requires
     is-live-of-requires
-    add-n
-    add-i
-    loop-less
+    (λ c. search needs)
+    (λ c. search needs)
+    (λ c. omega arith)
     loop-again
     returns)

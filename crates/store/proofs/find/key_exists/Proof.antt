@@ -7,22 +7,13 @@ use Rattle.store.proofs.Searches.{found-any, nothing-any}
 use Rattle.store.proofs.find.key_exists.Statement.{statement}
 use Rattle.store.proofs.find.key_exists.Tie as tie
 
-next-live-requires : tie.Need-next-live-requires
-next-live-requires c κs = search needs
-
-enum-told : tie.Need-enum-told
-enum-told c = search needs
-
-enum-told-2 : tie.Need-enum-told-2
-enum-told-2 c = search needs
-
 returns : tie.Need-returns
 unfolding keyExists
-returns c = sym (found-any (liveOfKey (c .before .before .before .before .before .args .time) (now (c .before .before .before .before .before .args .key))) (decode (now (c .before .before .before .before .before .args .store)) .slots) (c .enum-told .given .0 .0) (sym (c .enum-told .given .1) ∙ c .before .before .next-live .ensures))
+returns c = let back2 = c .before .before in let args = back2 .before .before .before .args in sym (found-any (liveOfKey (args .time) (now (args .key))) (decode (now (args .store)) .slots) (c .enum-told .given .0 .0) (sym (c .enum-told .given .1) ∙ back2 .next-live .ensures))
 
 returns-2 : tie.Need-returns-2
 unfolding keyExists
-returns-2 c = sym (nothing-any (liveOfKey (c .before .before .before .before .before .args .time) (now (c .before .before .before .before .before .args .key))) (decode (now (c .before .before .before .before .before .args .store)) .slots) (sym (c .enum-told2 .given .1) ∙ c .before .before .next-live .ensures))
+returns-2 c = let back2 = c .before .before in let args = back2 .before .before .before .args in sym (nothing-any (liveOfKey (args .time) (now (args .key))) (decode (now (args .store)) .slots) (sym (c .enum-told2 .given .1) ∙ back2 .next-live .ensures))
 
 pub key-exists-spec : {M : Type 1} → statement M
-key-exists-spec = tie.close (tie.spec next-live-requires enum-told enum-told-2 returns returns-2)
+key-exists-spec = tie.close (tie.spec (λ c κs. search needs) (λ c. search needs) (λ c. search needs) returns returns-2)

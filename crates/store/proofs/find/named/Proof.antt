@@ -14,14 +14,8 @@ Inv-loop store key field count fingerprint i₀ i = Seek (holds key field) store
 abbrev μ-loop : tie.MeasureT-loop
 μ-loop store key field count fingerprint i₀ i = count - i
 
-slots-requires : tie.Need-slots-requires Inv-loop μ-loop
-slots-requires c κs = search needs
-
-fingerprint-of-requires : tie.Need-fingerprint-of-requires Inv-loop μ-loop
-fingerprint-of-requires c κs = search needs
-
 loop-holds : tie.Need-loop-holds Inv-loop μ-loop
-loop-holds c = seek-begins (holds (now (c .before .before .before .before .before .args .key)) (now (c .before .before .before .before .before .args .field))) (now (c .before .before .before .before .before .args .store)) (c .before .before .before .before .before .pre) (c .before .slots .ensures)
+loop-holds c = let back5 = c .before .before .before .before .before in let args = back5 .args in seek-begins (holds (now (args .key)) (now (args .field))) (now (args .store)) (back5 .pre) (c .before .slots .ensures)
 
 bytes-requires : tie.Need-bytes-requires Inv-loop μ-loop
 bytes-requires c κs = walk-inside (c .before .loop .inv .walk) (c .loop-test .taken)
@@ -31,12 +25,6 @@ holds-with-requires c κs = (walk-bytes (c .before .before .loop .inv .walk) (c 
 
 returns : tie.Need-returns Inv-loop μ-loop
 returns c = seek-finds (c .before .before .before .before .loop .inv) (c .before .before .before .loop-test .taken) (c .before .before .bytes .ensures) (c .before .holds-with .ensures) (c .if1 .taken)
-
-add-i : tie.Need-add-i Inv-loop μ-loop
-add-i c = search needs
-
-loop-less : tie.Need-loop-less Inv-loop μ-loop
-loop-less c = omega arith
 
 loop-again : tie.Need-loop-again Inv-loop μ-loop
 loop-again c = seek-goes-on (c .before .before .before .before .loop .inv) (c .before .before .before .loop-test .taken) (c .before .before .bytes .ensures) (c .before .holds-with .ensures) (c .if1 .left)
@@ -50,13 +38,13 @@ named-spec =
     (tie.spec
     Inv-loop
     μ-loop
-    slots-requires
-    fingerprint-of-requires
+    (λ c κs. search needs)
+    (λ c κs. search needs)
     loop-holds
     bytes-requires
     holds-with-requires
     returns
-    add-i
-    loop-less
+    (λ c. search needs)
+    (λ c. omega arith)
     loop-again
     returns-2)

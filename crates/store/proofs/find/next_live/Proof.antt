@@ -15,9 +15,6 @@ Inv-loop store key time from count i₀ i = Seek (liveOfKey time key) store coun
 abbrev μ-loop : tie.MeasureT-loop
 μ-loop store key time from count i₀ i = count - i
 
-slots-requires : tie.Need-slots-requires Inv-loop μ-loop
-slots-requires c κs = search needs
-
 loop-holds : tie.Need-loop-holds Inv-loop μ-loop
 loop-holds c = record { walk = record { well = c .before .before .before .pre; slots = c .slots .ensures }; rest = refl }
 
@@ -29,12 +26,6 @@ is-live-of-requires c κs = walk-bytes (c .before .before .loop .inv .walk) (c .
 
 returns : tie.Need-returns Inv-loop μ-loop
 returns c = seek-finds (c .before .before .before .before .loop .inv) (c .before .before .before .loop-test .taken) (c .before .before .bytes .ensures) (c .before .is-live-of .ensures) (c .if1 .taken)
-
-add-i : tie.Need-add-i Inv-loop μ-loop
-add-i c = search needs
-
-loop-less : tie.Need-loop-less Inv-loop μ-loop
-loop-less c = omega arith
 
 loop-again : tie.Need-loop-again Inv-loop μ-loop
 loop-again c = seek-goes-on (c .before .before .before .before .loop .inv) (c .before .before .before .loop-test .taken) (c .before .before .bytes .ensures) (c .before .is-live-of .ensures) (c .if1 .left)
@@ -48,12 +39,12 @@ next-live-spec =
     (tie.spec
     Inv-loop
     μ-loop
-    slots-requires
+    (λ c κs. search needs)
     loop-holds
     bytes-requires
     is-live-of-requires
     returns
-    add-i
-    loop-less
+    (λ c. search needs)
+    (λ c. omega arith)
     loop-again
     returns-2)

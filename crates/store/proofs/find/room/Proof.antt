@@ -16,9 +16,6 @@ Inv-loop store time count n₀ i₀ n i = Count (roomSlot time) store count n i
 abbrev μ-loop : tie.MeasureT-loop
 μ-loop store time count n₀ i₀ n i = count - i
 
-slots-requires : tie.Need-slots-requires Inv-loop μ-loop
-slots-requires c κs = search needs
-
 loop-holds : tie.Need-loop-holds Inv-loop μ-loop
 loop-holds c = count-begins (roomSlot (c .before .before .args .time)) (now (c .before .before .args .store)) (c .before .before .pre) (c .slots .ensures)
 
@@ -27,15 +24,6 @@ bytes-requires c κs = walk-inside (c .before .loop .inv .walk) (c .loop-test .t
 
 is-live-requires : tie.Need-is-live-requires Inv-loop μ-loop
 is-live-requires c κs = walk-bytes (c .before .before .loop .inv .walk) (c .before .loop-test .taken) (c .bytes .ensures) .size
-
-add-n : tie.Need-add-n Inv-loop μ-loop
-add-n c = search needs
-
-add-i : tie.Need-add-i Inv-loop μ-loop
-add-i c = search needs
-
-loop-less : tie.Need-loop-less Inv-loop μ-loop
-loop-less c = omega arith
 
 loop-again : tie.Need-loop-again Inv-loop μ-loop
 unfolding roomSlot
@@ -54,12 +42,12 @@ room-spec =
     (tie.spec
     Inv-loop
     μ-loop
-    slots-requires
+    (λ c κs. search needs)
     loop-holds
     bytes-requires
     is-live-requires
-    add-n
-    add-i
-    loop-less
+    (λ c. search needs)
+    (λ c. search needs)
+    (λ c. omega arith)
     loop-again
     returns)

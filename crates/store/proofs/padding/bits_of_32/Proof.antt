@@ -6,19 +6,10 @@ use borrow.Author.Needs.{needs}
 use Rattle.store.proofs.padding.bits_of_32.Statement.{statement}
 use Rattle.store.proofs.padding.bits_of_32.Tie as tie
 
-bits-of-16-requires : tie.Need-bits-of-16-requires
-bits-of-16-requires c κs = search needs
-
-add-bits-of-16 : tie.Need-add-bits-of-16
-add-bits-of-16 c = search needs
-
-bits-of-16-requires-2 : tie.Need-bits-of-16-requires-2
-bits-of-16-requires-2 c κs = search needs
-
 returns : tie.Need-returns
 unfolding zeroBeyond
 returns c = beyond-bits (c .before .before .before .args .at) 16 16 0 (now (c .before .before .before .args .t)) (omega arith) (c .before .bits-of-16 .result) (c .bits-of-162 .result) (c .before .bits-of-16 .ensures) (c .bits-of-162 .ensures)
 
 pub bits-of-32-spec : {M : Type 1} → statement M
 bits-of-32-spec =
-    tie.close (tie.spec bits-of-16-requires add-bits-of-16 bits-of-16-requires-2 returns)
+    tie.close (tie.spec (λ c κs. search needs) (λ c. search needs) (λ c κs. search needs) returns)

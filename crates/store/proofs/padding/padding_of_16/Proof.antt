@@ -6,35 +6,20 @@ use borrow.Author.Needs.{needs}
 use Rattle.store.proofs.padding.padding_of_16.Statement.{statement}
 use Rattle.store.proofs.padding.padding_of_16.Tie as tie
 
-padding-of-8-requires : tie.Need-padding-of-8-requires
-padding-of-8-requires c κs = search needs
-
-add-word : tie.Need-add-word
-add-word c = search needs
-
-word-requires : tie.Need-word-requires
-word-requires c κs = search needs
-
 returns : tie.Need-returns
-returns c = beyond-bits (c .before .before .before .before .args .at) 8 8 (c .before .before .before .before .args .used) (now (c .before .before .before .before .args .t)) (omega arith) (c .before .padding-of-8 .result) (c .word .result) (c .before .padding-of-8 .ensures) (spells-none _ _ (c .word .ensures))
-
-add-padding-of-8 : tie.Need-add-padding-of-8
-add-padding-of-8 c = search needs
-
-padding-of-8-requires-2 : tie.Need-padding-of-8-requires-2
-padding-of-8-requires-2 c κs = search needs
+returns c = let args = c .before .before .before .before .args in beyond-bits (args .at) 8 8 (args .used) (now (args .t)) (omega arith) (c .before .padding-of-8 .result) (c .word .result) (c .before .padding-of-8 .ensures) (spells-none _ _ (c .word .ensures))
 
 returns-2 : tie.Need-returns-2
-returns-2 c = c .padding-of-82 .ensures ∙ sym (beyond-last (c .before .before .before .args .at) 8 8 (c .before .before .before .args .used) (now (c .before .before .before .args .t)) (c .before .if1 .left))
+returns-2 c = let args = c .before .before .before .args in c .padding-of-82 .ensures ∙ sym (beyond-last (args .at) 8 8 (args .used) (now (args .t)) (c .before .if1 .left))
 
 pub padding-of-16-spec : {M : Type 1} → statement M
 padding-of-16-spec =
     tie.close
     (tie.spec
-    padding-of-8-requires
-    add-word
-    word-requires
+    (λ c κs. search needs)
+    (λ c. search needs)
+    (λ c κs. search needs)
     returns
-    add-padding-of-8
-    padding-of-8-requires-2
+    (λ c. search needs)
+    (λ c κs. search needs)
     returns-2)

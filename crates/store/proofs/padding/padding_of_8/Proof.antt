@@ -9,17 +9,8 @@ use Rattle.store.proofs.padding.padding_of_8.Tie as tie
 returns : tie.Need-returns
 returns c = rw (c .if1 .taken) (sym (beyond-whole (c .before .before .args .at) 8 (now (c .before .before .args .t))))
 
-word-requires : tie.Need-word-requires
-word-requires c κs = search needs
-
-mul-result : tie.Need-mul-result
-mul-result c = search needs
-
-shr-result : tie.Need-shr-result
-shr-result c = search needs
-
 returns-2 : tie.Need-returns-2
-returns-2 c = word-beyond (c .before .before .before .args .at) (c .before .before .before .args .used) (now (c .before .before .before .args .t)) (bytes-intro (now (c .before .before .before .args .t)) (λ i. c .before .before .shared-slice-known .given i .fits)) (c .word .result) (c .word .ensures)
+returns-2 c = let back2 = c .before .before in let args = back2 .before .args in word-beyond (args .at) (args .used) (now (args .t)) (bytes-intro (now (args .t)) (λ i. back2 .shared-slice-known .given i .fits)) (c .word .result) (c .word .ensures)
 
 pub padding-of-8-spec : {M : Type 1} → statement M
-padding-of-8-spec = tie.close (tie.spec returns word-requires mul-result shr-result returns-2)
+padding-of-8-spec = tie.close (tie.spec returns (λ c κs. search needs) (λ c. search needs) (λ c. search needs) returns-2)

@@ -6,9 +6,6 @@ use Rattle.store.specs.Time.{nowAt}
 use Rattle.store.proofs.read.now_at.Statement.{statement}
 use Rattle.store.proofs.read.now_at.Tie as tie
 
-clock-requires : tie.Need-clock-requires
-clock-requires c κs = search needs
-
 returns : tie.Need-returns
 unfolding nowAt
 returns c = rw (← (c .before .clock .ensures)) (sym (max-eq-right (omega arith)))
@@ -18,4 +15,4 @@ unfolding nowAt
 returns-2 c = rw (← (c .before .clock .ensures)) (sym (max-eq-left (omega arith)))
 
 pub now-at-spec : {M : Type 1} → statement M
-now-at-spec = tie.close (tie.spec clock-requires returns returns-2)
+now-at-spec = tie.close (tie.spec (λ c κs. search needs) returns returns-2)

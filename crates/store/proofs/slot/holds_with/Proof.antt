@@ -7,42 +7,22 @@ use borrow.Author.Needs.{needs}
 use Rattle.store.proofs.slot.holds_with.Statement.{statement}
 use Rattle.store.proofs.slot.holds_with.Tie as tie
 
-sub-field : tie.Need-sub-field
-sub-field c = search needs
-
-part-field-start : tie.Need-part-field-start
-part-field-start c = search needs
-
-part-field-end : tie.Need-part-field-end
-part-field-end c = search needs
-
-word-requires : tie.Need-word-requires
-word-requires c κs = search needs
-
-word-requires-2 : tie.Need-word-requires-2
-word-requires-2 c κs = search needs
-
 returns : tie.Need-returns
 unfolding part
 returns c =
-    sym (other-fingerprint (now (c .before .before .before .before .before .before .before .args .t)) (now (c .before .before .before .before .before .before .before .args .k)) (now (c .before .before .before .before .before .before .before .args .f)) (c .before .before .before .before .before .before .before .pre .0)
-    (λ q. c .if1 .taken (fingerprint-words (part fieldAt fieldMost (now (c .before .before .before .before .before .before .before .args .t))) (c .before .before .word .result) (c .before .word2 .result) (c .before .before .word .ensures) (c .before .word2 .ensures) ∙ q ∙ sym (c .before .before .before .before .before .before .before .pre .1))))
-
-holds-requires : tie.Need-holds-requires
-holds-requires c κs = search needs
-
-returns-2 : tie.Need-returns-2
-returns-2 c = search needs
+    let back2 = c .before .before in let word = back2 .word in let back7 = back2 .before .before .before .before .before in let args = back7 .args in let pre = back7 .pre in
+    sym (other-fingerprint (now (args .t)) (now (args .k)) (now (args .f)) (pre .0)
+    (λ q. c .if1 .taken (fingerprint-words (part fieldAt fieldMost (now (args .t))) (word .result) (c .before .word2 .result) (word .ensures) (c .before .word2 .ensures) ∙ q ∙ sym (pre .1))))
 
 pub holds-with-spec : {M : Type 1} → statement M
 holds-with-spec =
     tie.close
     (tie.spec
-    sub-field
-    part-field-start
-    part-field-end
-    word-requires
-    word-requires-2
+    (λ c. search needs)
+    (λ c. search needs)
+    (λ c. search needs)
+    (λ c κs. search needs)
+    (λ c κs. search needs)
     returns
-    holds-requires
-    returns-2)
+    (λ c κs. search needs)
+    (λ c. search needs))

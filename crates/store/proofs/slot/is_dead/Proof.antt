@@ -8,18 +8,12 @@ use borrow.Author.Needs.{needs}
 use Rattle.store.proofs.slot.is_dead.Statement.{statement}
 use Rattle.store.proofs.slot.is_dead.Tie as tie
 
-shared-slice-read-if1 : tie.Need-shared-slice-read-if1
-shared-slice-read-if1 c = search needs
-
 returns : tie.Need-returns
 unfolding deadSlot orElse
 returns c = rw (state-empty (now (c .before .before .before .args .t)) (c .if1 .taken))
-
-is-live-requires : tie.Need-is-live-requires
-is-live-requires c κs = search needs
 
 returns-2 : tie.Need-returns-2
 returns-2 c = rw (dead-held (now (c .before .before .before .before .args .t)) (c .before .before .before .before .args .time) (c .before .if1 .left)) (ap not (c .is-live .ensures))
 
 pub is-dead-spec : {M : Type 1} → statement M
-is-dead-spec = tie.close (tie.spec shared-slice-read-if1 returns is-live-requires returns-2)
+is-dead-spec = tie.close (tie.spec (λ c. search needs) returns (λ c κs. search needs) returns-2)

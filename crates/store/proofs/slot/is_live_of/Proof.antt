@@ -3,12 +3,6 @@ use borrow.Author.Needs.{needs}
 use Rattle.store.proofs.slot.is_live_of.Statement.{statement}
 use Rattle.store.proofs.slot.is_live_of.Tie as tie
 
-is-live-requires : tie.Need-is-live-requires
-is-live-requires c κs = search needs
-
-of-key-requires : tie.Need-of-key-requires
-of-key-requires c κs = search needs
-
 returns : tie.Need-returns
 returns c = rw (live-of-key, ← (c .before .before .is-live .ensures), c .before .if1 .taken) (c .of-key .ensures)
 
@@ -16,4 +10,4 @@ returns-2 : tie.Need-returns-2
 returns-2 c = rw (live-of-key, ← (c .before .is-live .ensures), c .if1 .left)
 
 pub is-live-of-spec : {M : Type 1} → statement M
-is-live-of-spec = tie.close (tie.spec is-live-requires of-key-requires returns returns-2)
+is-live-of-spec = tie.close (tie.spec (λ c κs. search needs) (λ c κs. search needs) returns returns-2)

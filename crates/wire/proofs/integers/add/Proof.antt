@@ -9,31 +9,16 @@ sub-if2 : tie.Need-sub-if2
 sub-if2 c = magnitude-most (c .before .before .before .before .args .a) (c .before .before .before .before .pre .0)
 
 returns : tie.Need-returns
-returns c = add-outside (c .before .before .before .before .before .before .args .a) (c .before .before .before .before .before .before .args .b) (signs-same (c .before .before .before .before .before .before .args .a .negative) (c .before .before .before .before .before .before .args .b .negative) (c .before .before .before .if1 .taken)) (omega arith)
-
-add-bounded : tie.Need-add-bounded
-add-bounded c = search needs
-
-bounded-requires : tie.Need-bounded-requires
-bounded-requires c κs = search needs
+returns c = let back3 = c .before .before .before in let args = back3 .before .before .before .args in add-outside (args .a) (args .b) (signs-same (args .a .negative) (args .b .negative) (back3 .if1 .taken)) (omega arith)
 
 returns-2 : tie.Need-returns-2
-returns-2 c = rw (add-same (c .before .before .before .before .before .before .before .before .before .args .a) (c .before .before .before .before .before .before .before .before .before .args .b) (signs-same (c .before .before .before .before .before .before .before .before .before .args .a .negative) (c .before .before .before .before .before .before .before .before .before .args .b .negative) (c .before .before .before .before .before .before .if1 .taken))) (c .bounded .ensures)
-
-bounded-requires-2 : tie.Need-bounded-requires-2
-bounded-requires-2 c κs = search needs
+returns-2 c = let back6 = c .before .before .before .before .before .before in let args = back6 .before .before .before .args in rw (add-same (args .a) (args .b) (signs-same (args .a .negative) (args .b .negative) (back6 .if1 .taken))) (c .bounded .ensures)
 
 returns-3 : tie.Need-returns-3
-returns-3 c = rw (add-first (c .before .before .before .before .before .before .before .before .before .args .a) (c .before .before .before .before .before .before .before .before .before .args .b) (signs-other (c .before .before .before .before .before .before .before .before .before .args .a .negative) (c .before .before .before .before .before .before .before .before .before .args .b .negative) (c .before .before .before .before .before .before .if1 .left)) (c .before .before .before .if3 .taken)) (c .bounded2 .ensures)
-
-sub-bounded : tie.Need-sub-bounded
-sub-bounded c = search needs
-
-bounded-requires-3 : tie.Need-bounded-requires-3
-bounded-requires-3 c κs = search needs
+returns-3 c = let back3 = c .before .before .before in let back6 = back3 .before .before .before in let args = back6 .before .before .before .args in rw (add-first (args .a) (args .b) (signs-other (args .a .negative) (args .b .negative) (back6 .if1 .left)) (back3 .if3 .taken)) (c .bounded2 .ensures)
 
 returns-4 : tie.Need-returns-4
-returns-4 c = rw (add-second (c .before .before .before .before .before .before .before .before .before .args .a) (c .before .before .before .before .before .before .before .before .before .args .b) (signs-other (c .before .before .before .before .before .before .before .before .before .args .a .negative) (c .before .before .before .before .before .before .before .before .before .args .b .negative) (c .before .before .before .before .before .before .if1 .left)) (omega arith)) (c .bounded3 .ensures)
+returns-4 c = let back6 = c .before .before .before .before .before .before in let args = back6 .before .before .before .args in rw (add-second (args .a) (args .b) (signs-other (args .a .negative) (args .b .negative) (back6 .if1 .left)) (omega arith)) (c .bounded3 .ensures)
 
 pub add-spec : {M : Type 1} → statement M
 add-spec =
@@ -41,11 +26,11 @@ add-spec =
     (tie.spec
     sub-if2
     returns
-    add-bounded
-    bounded-requires
+    (λ c. search needs)
+    (λ c κs. search needs)
     returns-2
-    bounded-requires-2
+    (λ c κs. search needs)
     returns-3
-    sub-bounded
-    bounded-requires-3
+    (λ c. search needs)
+    (λ c κs. search needs)
     returns-4)

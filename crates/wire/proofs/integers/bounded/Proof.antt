@@ -17,9 +17,6 @@ returns-3 : tie.Need-returns-3
 unfolding integerOf
 returns-3 c = rw (c .before .if2 .taken) (answer-minus (c .before .before .before .args .magnitude) (c .before .before .if1 .left) (c .if3 .left))
 
-sub-if4 : tie.Need-sub-if4
-sub-if4 c = search needs
-
 returns-4 : tie.Need-returns-4
 unfolding integerOf
 returns-4 c = rw (c .before .if2 .left) (answer-above (c .before .before .before .args .magnitude) (c .if4 .taken))
@@ -29,4 +26,4 @@ unfolding integerOf
 returns-5 c = rw (c .before .if2 .left) (answer-plain (c .before .before .before .args .magnitude) (c .if4 .left))
 
 pub bounded-spec : {M : Type 1} → statement M
-bounded-spec = tie.close (tie.spec returns returns-2 returns-3 sub-if4 returns-4 returns-5)
+bounded-spec = tie.close (tie.spec returns returns-2 returns-3 (λ c. search needs) returns-4 returns-5)

@@ -8,44 +8,11 @@ use Rattle.wire.proofs.integers.read_integer.Tie as tie
 returns : tie.Need-returns
 returns c = integer-empty (c .before .before .args .s .now) (c .if1 .taken)
 
-shared-slice-read-if2 : tie.Need-shared-slice-read-if2
-shared-slice-read-if2 c = search needs
-
-sub-read-natural : tie.Need-sub-read-natural
-sub-read-natural c = search needs
-
-read-natural-requires : tie.Need-read-natural-requires
-read-natural-requires c κs = search needs
-
-enum-known-read : tie.Need-enum-known-read
-enum-known-read c = search needs
-
-enum-told : tie.Need-enum-told
-enum-told c = search needs
-
 returns-2 : tie.Need-returns-2
 returns-2 c = plain-value (c .before .before .before .before .before .before .before .before .args .s .now) (c .before .before .before .read-natural .ensures) (c .before .before .before .before .if2 .taken) (c .before .read .given .0 .0) (c .before .read .given .1)
 
 returns-3 : tie.Need-returns-3
 returns-3 c = plain-refused (c .before .before .before .before .before .before .before .args .s .now) (c .before .before .read-natural .ensures) (c .before .before .before .if2 .taken) (c .enum-told .given .1)
-
-sub-read-natural-2 : tie.Need-sub-read-natural-2
-sub-read-natural-2 c = search needs
-
-part-read-natural-start : tie.Need-part-read-natural-start
-part-read-natural-start c = search needs
-
-part-read-natural-end : tie.Need-part-read-natural-end
-part-read-natural-end c = search needs
-
-read-natural-requires-2 : tie.Need-read-natural-requires-2
-read-natural-requires-2 c κs = search needs
-
-enum-known-read-2 : tie.Need-enum-known-read-2
-enum-known-read-2 c = search needs
-
-enum-told-2 : tie.Need-enum-told-2
-enum-told-2 c = search needs
 
 returns-4 : tie.Need-returns-4
 returns-4 c = minus-zero (c .before .before .before .before .before .before .before .before .before .before .args .s .now) (c .before .before .before .before .read-natural2 .ensures) (omega arith) (c .before .before .before .before .before .before .if2 .left) (c .before .before .read2 .given .0 .0) (c .before .before .read2 .given .1) (c .if3 .taken)
@@ -61,19 +28,19 @@ read-integer-spec =
     tie.close
     (tie.spec
     returns
-    shared-slice-read-if2
-    sub-read-natural
-    read-natural-requires
-    enum-known-read
-    enum-told
+    (λ c. search needs)
+    (λ c. search needs)
+    (λ c κs. search needs)
+    (λ c. search needs)
+    (λ c. search needs)
     returns-2
     returns-3
-    sub-read-natural-2
-    part-read-natural-start
-    part-read-natural-end
-    read-natural-requires-2
-    enum-known-read-2
-    enum-told-2
+    (λ c. search needs)
+    (λ c. search needs)
+    (λ c. search needs)
+    (λ c κs. search needs)
+    (λ c. search needs)
+    (λ c. search needs)
     returns-4
     returns-5
     returns-6)

@@ -17,11 +17,8 @@ abbrev μ-loop : tie.MeasureT-loop
 returns : tie.Need-returns Inv-loop μ-loop
 returns c = read-empty (c .before .args .most) (c .before .args .s .now) (c .if1 .taken)
 
-shared-slice-read-if2 : tie.Need-shared-slice-read-if2 Inv-loop μ-loop
-shared-slice-read-if2 c = omega arith
-
 returns-2 : tie.Need-returns-2 Inv-loop μ-loop
-returns-2 c = read-zero (c .before .before .before .before .args .most) (c .before .before .before .before .args .s .now) (c .before .if2 .taken) (ltb-true 1 (length (c .before .before .before .before .args .s .now)) (c .if3 .taken))
+returns-2 c = let args = c .before .before .before .before .args in read-zero (args .most) (args .s .now) (c .before .if2 .taken) (ltb-true 1 (length (args .s .now)) (c .if3 .taken))
 
 loop-holds : tie.Need-loop-holds Inv-loop μ-loop
 loop-holds c =
@@ -33,8 +30,9 @@ shared-slice-read-c c = c .before .loop-test .taken
 
 returns-3 : tie.Need-returns-3 Inv-loop μ-loop
 returns-3 c =
-    reading-other (c .before .before .before .loop .inv) (c .before .before .loop-test .taken)
-    (⊎-elim (λ w. digit-below (getD (c .before .before .before .before .before .before .before .args .s .now) (c .before .before .before .loop .i) 0) (w .taken)) (λ w. digit-over (getD (c .before .before .before .before .before .before .before .args .s .now) (c .before .before .before .loop .i) 0) (omega (arith, ltb-true))) (c .if4 .came))
+    let back2 = c .before .before in let back3 = back2 .before in let loop = back3 .loop in let args = back3 .before .before .before .before .args in
+    reading-other (loop .inv) (back2 .loop-test .taken)
+    (⊎-elim (λ w. digit-below (getD (args .s .now) (loop .i) 0) (w .taken)) (λ w. digit-over (getD (args .s .now) (loop .i) 0) (omega (arith, ltb-true))) (c .if4 .came))
 
 cast-d : tie.Need-cast-d Inv-loop μ-loop
 cast-d c = omega (arith, c .before .before .shared-slice-known2 .given (c .before .before .before .before .loop .i))
@@ -50,16 +48,11 @@ mul-n c = omega (arith, ltb-false)
 add-n : tie.Need-add-n Inv-loop μ-loop
 add-n c = omega (arith, ltb-false)
 
-add-i : tie.Need-add-i Inv-loop μ-loop
-add-i c = omega arith
-
-loop-less : tie.Need-loop-less Inv-loop μ-loop
-loop-less c = omega arith
-
 loop-again : tie.Need-loop-again Inv-loop μ-loop
 loop-again c =
-    reading-digit (c .before .before .before .before .before .before .loop .inv) (c .before .before .before .before .before .loop-test .taken)
-    (digit-between (getD (c .before .before .before .before .before .before .before .before .before .before .args .s .now) (c .before .before .before .before .before .before .loop .i) 0) (omega (arith, ltb-false)) (omega (arith, ltb-false)))
+    let back5 = c .before .before .before .before .before in let back6 = back5 .before in let loop = back6 .loop in
+    reading-digit (loop .inv) (back5 .loop-test .taken)
+    (digit-between (getD (back6 .before .before .before .before .args .s .now) (loop .i) 0) (omega (arith, ltb-false)) (omega (arith, ltb-false)))
     (omega (arith, ltb-false))
 
 returns-5 : tie.Need-returns-5 Inv-loop μ-loop
@@ -72,7 +65,7 @@ read-natural-spec =
     Inv-loop
     μ-loop
     returns
-    shared-slice-read-if2
+    (λ c. omega arith)
     returns-2
     loop-holds
     shared-slice-read-c
@@ -81,7 +74,7 @@ read-natural-spec =
     returns-4
     mul-n
     add-n
-    add-i
-    loop-less
+    (λ c. omega arith)
+    (λ c. omega arith)
     loop-again
     returns-5)

@@ -32,9 +32,6 @@ sub-write-natural c = simp length-set (omega (arith, ap length (is-minus c)))
 part-write-natural-start : tie.Need-part-write-natural-start
 part-write-natural-start c = simp length-set (omega (arith, ap length (is-minus c)))
 
-part-write-natural-end : tie.Need-part-write-natural-end
-part-write-natural-end c = search needs
-
 write-natural-requires : tie.Need-write-natural-requires
 write-natural-requires c κs = omega (arith, ap length (is-minus (c .before)), length-tail 45 (c .before .before .before .before .before .args .out .now) (omega (arith, ap length (is-minus (c .before)))))
 
@@ -43,17 +40,15 @@ add-result c = omega (arith, c .before .before .write-natural .ensures .size, ap
 
 same-length : tie.Need-same-length
 same-length c =
-    same-len-mid 1 (length (set (c .before .before .before .before .before .before .before .before .args .out .now) 0 45) - 1) (set (c .before .before .before .before .before .before .before .before .args .out .now) 0 45) (c .before .before .write-natural .last .1 .0) (c .before .before .write-natural .kept .1 .0)
-    ∙ length-set (c .before .before .before .before .before .before .before .before .args .out .now) 0 45
+    let back2 = c .before .before in let write-natural = back2 .write-natural in let args = back2 .before .before .before .before .before .before .args in
+    same-len-mid 1 (length (set (args .out .now) 0 45) - 1) (set (args .out .now) 0 45) (write-natural .last .1 .0) (write-natural .kept .1 .0)
+    ∙ length-set (args .out .now) 0 45
 
 returns : tie.Need-returns
 returns c = rw (is-minus (c .before .before .before .before)) (laid-first 45 (omega (arith, ap length (is-minus (c .before .before .before .before)))) (c .before .before .write-natural .ensures))
 
 write-natural-requires-2 : tie.Need-write-natural-requires-2
 write-natural-requires-2 c κs = rw (is-plain (c .before)) at (c .before .before .before .pre)
-
-same-length-2 : tie.Need-same-length-2
-same-length-2 c = search needs
 
 returns-2 : tie.Need-returns-2
 returns-2 c = rw (is-plain (c .before .before .before .before)) (c .before .before .write-natural2 .ensures)
@@ -65,11 +60,11 @@ write-integer-spec =
     slice-write-out
     sub-write-natural
     part-write-natural-start
-    part-write-natural-end
+    (λ c. search needs)
     write-natural-requires
     add-result
     same-length
     returns
     write-natural-requires-2
-    same-length-2
+    (λ c. search needs)
     returns-2)

@@ -6,9 +6,6 @@ use Rattle.wire.proofs.Rows.{upper-small, upper-below, upper-above}
 use Rattle.wire.proofs.names.capital.Statement.{statement}
 use Rattle.wire.proofs.names.capital.Tie as tie
 
-sub-result : tie.Need-sub-result
-sub-result c = search needs
-
 returns : tie.Need-returns
 returns c = upper-small _ (c .before .if1 .taken) (leb-true _ _ (c .if2 .taken))
 
@@ -16,4 +13,4 @@ returns-2 : tie.Need-returns-2
 returns-2 c = ⊎-elim (λ w. upper-above _ (w .0 .taken) (leb-false _ _ (w .1 .left))) (λ w. upper-below _ (w .left)) (c .if1 .came)
 
 pub capital-spec : {M : Type 1} → statement M
-capital-spec = tie.close (tie.spec sub-result returns returns-2)
+capital-spec = tie.close (tie.spec (λ c. search needs) returns returns-2)

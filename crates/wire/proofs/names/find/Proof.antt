@@ -20,42 +20,18 @@ loop-holds : tie.Need-loop-holds Inv-loop μ-loop
 unfolding rowNamed
 loop-holds c = (omega arith, rw (sub-zero (length (c .before .before .args .table .now) / rowSize)))
 
-mul-at : tie.Need-mul-at Inv-loop μ-loop
-mul-at c = omega arith
-
-add-start : tie.Need-add-start Inv-loop μ-loop
-add-start c = omega arith
-
-shared-slice-read-end : tie.Need-shared-slice-read-end Inv-loop μ-loop
-shared-slice-read-end c = omega arith
-
 cast-end : tie.Need-cast-end Inv-loop μ-loop
 cast-end c = omega (arith, c .before .before .before .before .before .pre .short (c .before .before .loop .i))
 
 add-end : tie.Need-add-end Inv-loop μ-loop
 add-end c = omega (arith, c .before .before .before .before .before .pre .short (c .before .before .loop .i))
 
-sub-spells : tie.Need-sub-spells Inv-loop μ-loop
-sub-spells c = omega arith
-
-part-spells-start : tie.Need-part-spells-start Inv-loop μ-loop
-part-spells-start c = search needs
-
 part-spells-end : tie.Need-part-spells-end Inv-loop μ-loop
 part-spells-end c = omega (arith, c .before .before .before .before .before .pre .short (c .before .before .loop .i))
-
-spells-requires : tie.Need-spells-requires Inv-loop μ-loop
-spells-requires c κs = search needs
 
 returns : tie.Need-returns Inv-loop μ-loop
 unfolding rowFor
 returns c = ap rowFor (sym (row-hit _ _ _ _ (c .before .before .before .before .loop-test .taken) _ (c .before .spells .ensures) (c .if1 .taken)) ∙ c .before .before .before .before .before .loop .inv .1)
-
-add-i : tie.Need-add-i Inv-loop μ-loop
-add-i c = omega arith
-
-loop-less : tie.Need-loop-less Inv-loop μ-loop
-loop-less c = search needs
 
 loop-again : tie.Need-loop-again Inv-loop μ-loop
 loop-again c = (omega arith, sym (row-skip _ _ _ _ (c .before .before .before .before .loop-test .taken) _ (c .before .spells .ensures) (c .if1 .left)) ∙ c .before .before .before .before .before .loop .inv .1)
@@ -71,17 +47,17 @@ find-spec =
     Inv-loop
     μ-loop
     loop-holds
-    mul-at
-    add-start
-    shared-slice-read-end
+    (λ c. omega arith)
+    (λ c. omega arith)
+    (λ c. omega arith)
     cast-end
     add-end
-    sub-spells
-    part-spells-start
+    (λ c. omega arith)
+    (λ c. search needs)
     part-spells-end
-    spells-requires
+    (λ c κs. search needs)
     returns
-    add-i
-    loop-less
+    (λ c. omega arith)
+    (λ c. search needs)
     loop-again
     returns-2)

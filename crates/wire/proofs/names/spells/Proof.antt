@@ -22,28 +22,13 @@ returns c = sym (not-same _ _ (λ e. c .if1 .taken (sym (length-upper (c .before
 loop-holds : tie.Need-loop-holds Inv-loop μ-loop
 loop-holds c = compare-begins _ _ (length-upper (c .before .before .before .args .word .now) ∙ c .if1 .left)
 
-shared-slice-read-capital : tie.Need-shared-slice-read-capital Inv-loop μ-loop
-shared-slice-read-capital c = search needs
-
-capital-requires : tie.Need-capital-requires Inv-loop μ-loop
-capital-requires c κs = search needs
-
-shared-slice-read-if2 : tie.Need-shared-slice-read-if2 Inv-loop μ-loop
-shared-slice-read-if2 c = search needs
-
 returns-2 : tie.Need-returns-2 Inv-loop μ-loop
 returns-2 c =
     let i = c .before .before .before .before .before .loop .i in
     sym (not-same _ _ (λ e. c .if2 .taken (c .before .before .capital .ensures ∙ sym (upper-at (c .before .before .before .before .before .before .before .before .before .args .word .now) i) ∙ ap (λ (l : List ℕ). getD l i 0) e)))
 
-add-i : tie.Need-add-i Inv-loop μ-loop
-add-i c = search needs
-
-loop-less : tie.Need-loop-less Inv-loop μ-loop
-loop-less c = search needs
-
 loop-again : tie.Need-loop-again Inv-loop μ-loop
-loop-again c = compare-goes-on _ _ _ (c .before .before .before .before .before .loop .inv) (rw (length-upper (c .before .before .before .before .before .before .before .before .before .args .word .now)) (c .before .before .before .before .loop-test .taken)) (upper-at (c .before .before .before .before .before .before .before .before .before .args .word .now) (c .before .before .before .before .before .loop .i) ∙ sym (c .before .before .capital .ensures) ∙ c .if2 .left)
+loop-again c = let back2 = c .before .before in let back4 = back2 .before .before in let back5 = back4 .before in let loop = back5 .loop in let args = back5 .before .before .before .before .args in compare-goes-on _ _ _ (loop .inv) (rw (length-upper (args .word .now)) (back4 .loop-test .taken)) (upper-at (args .word .now) (loop .i) ∙ sym (back2 .capital .ensures) ∙ c .if2 .left)
 
 returns-3 : tie.Need-returns-3 Inv-loop μ-loop
 returns-3 c = sym (compare-ends _ _ _ (c .before .loop .inv) (rw (length-upper (c .before .before .before .before .before .args .word .now)) (c .loop-test .left)))
@@ -56,11 +41,11 @@ spells-spec =
     μ-loop
     returns
     loop-holds
-    shared-slice-read-capital
-    capital-requires
-    shared-slice-read-if2
+    (λ c. search needs)
+    (λ c κs. search needs)
+    (λ c. search needs)
     returns-2
-    add-i
-    loop-less
+    (λ c. search needs)
+    (λ c. search needs)
     loop-again
     returns-3)

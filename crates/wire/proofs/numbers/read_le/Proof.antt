@@ -14,26 +14,11 @@ abbrev μ-loop : tie.MeasureT-loop
 loop-holds : tie.Need-loop-holds Inv-loop μ-loop
 loop-holds c = read-begins _
 
-shared-slice-read-x : tie.Need-shared-slice-read-x Inv-loop μ-loop
-shared-slice-read-x c = omega arith
-
 cast-x : tie.Need-cast-x Inv-loop μ-loop
 cast-x c = omega (arith, c .shared-slice-known .given (c .before .before .loop .i))
 
-mul-x : tie.Need-mul-x Inv-loop μ-loop
-mul-x c = omega arith
-
-shl-x : tie.Need-shl-x Inv-loop μ-loop
-shl-x c = omega arith
-
 add-x : tie.Need-add-x Inv-loop μ-loop
 add-x c = record { fits = read-fits _ _ _ (c .before .before .loop .inv) (c .before .before .before .pre) (c .before .loop-test .taken) (c .shared-slice-known .given (c .before .before .loop .i) .fits) }
-
-add-i : tie.Need-add-i Inv-loop μ-loop
-add-i c = omega arith
-
-loop-less : tie.Need-loop-less Inv-loop μ-loop
-loop-less c = omega arith
 
 loop-again : tie.Need-loop-again Inv-loop μ-loop
 loop-again c = read-goes-on _ _ _ (c .before .before .loop .inv) (c .before .before .before .pre) (c .before .loop-test .taken) (c .shared-slice-known .given (c .before .before .loop .i) .fits)
@@ -48,12 +33,12 @@ read-le-spec =
     Inv-loop
     μ-loop
     loop-holds
-    shared-slice-read-x
+    (λ c. omega arith)
     cast-x
-    mul-x
-    shl-x
+    (λ c. omega arith)
+    (λ c. omega arith)
     add-x
-    add-i
-    loop-less
+    (λ c. omega arith)
+    (λ c. omega arith)
     loop-again
     returns)

@@ -17,18 +17,6 @@ abbrev μ-loop : tie.MeasureT-loop
 loop-holds : tie.Need-loop-holds Inv-loop μ-loop
 loop-holds c = (fill-begins _ _ (omega (arith, length-toLE (length (c .args .s .now)) (c .args .x))), write-begins _ _)
 
-cast-s : tie.Need-cast-s Inv-loop μ-loop
-cast-s c = omega arith
-
-slice-write-s : tie.Need-slice-write-s Inv-loop μ-loop
-slice-write-s c = omega arith
-
-add-i : tie.Need-add-i Inv-loop μ-loop
-add-i c = omega arith
-
-loop-less : tie.Need-loop-less Inv-loop μ-loop
-loop-less c = omega arith
-
 loop-again : tie.Need-loop-again Inv-loop μ-loop
 loop-again c = (
   fill-goes-on _ _ _ _ _ (c .before .loop .inv .0) (omega (arith, length-toLE (length (c .before .before .args .s .now)) (c .before .before .args .x))) (write-byte _ _ _ _ (c .before .loop .inv .1) (omega arith)),
@@ -48,10 +36,10 @@ write-le-spec =
     Inv-loop
     μ-loop
     loop-holds
-    cast-s
-    slice-write-s
-    add-i
-    loop-less
+    (λ c. omega arith)
+    (λ c. omega arith)
+    (λ c. omega arith)
+    (λ c. omega arith)
     loop-again
     same-length
     returns)

@@ -5,23 +5,11 @@ use Rattle.wire.proofs.Cursor.{ends-short, ends-other, ends-last}
 use Rattle.wire.proofs.places.ends_line.Statement.{statement}
 use Rattle.wire.proofs.places.ends_line.Tie as tie
 
-sub-if1 : tie.Need-sub-if1
-sub-if1 c = search needs
-
 returns : tie.Need-returns
 returns c = sym (ends-short _ _ (c .if1 .taken))
 
-shared-slice-read-if2 : tie.Need-shared-slice-read-if2
-shared-slice-read-if2 c = search needs
-
 returns-2 : tie.Need-returns-2
 returns-2 c = sym (ends-other _ _ (c .before .before .if1 .left) (c .if2 .taken))
-
-add-result : tie.Need-add-result
-add-result c = search needs
-
-shared-slice-read-result : tie.Need-shared-slice-read-result
-shared-slice-read-result c = search needs
 
 returns-3 : tie.Need-returns-3
 returns-3 c = ends-last _ _ (c .before .before .before .if1 .left) (c .before .if2 .left)
@@ -30,10 +18,10 @@ pub ends-line-spec : {M : Type 1} → statement M
 ends-line-spec =
     tie.close
     (tie.spec
-    sub-if1
+    (λ c. search needs)
     returns
-    shared-slice-read-if2
+    (λ c. search needs)
     returns-2
-    add-result
-    shared-slice-read-result
+    (λ c. search needs)
+    (λ c. search needs)
     returns-3)

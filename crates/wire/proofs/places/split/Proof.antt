@@ -14,15 +14,6 @@ Inv-loop s places₀ count first at₀ i₀ places at i = Progress s places coun
 abbrev μ-loop : tie.MeasureT-loop
 μ-loop s places₀ count first at₀ i₀ places at i = count - i
 
-read-count-requires : tie.Need-read-count-requires Inv-loop μ-loop
-read-count-requires c κs = search needs
-
-enum-known-head : tie.Need-enum-known-head Inv-loop μ-loop
-enum-known-head c = search needs
-
-enum-told : tie.Need-enum-told Inv-loop μ-loop
-enum-told c = search needs
-
 returns : tie.Need-returns Inv-loop μ-loop
 returns c = places-headless (sym (c .enum-told .given .1) ∙ c .before .before .read-count .ensures)
 
@@ -32,31 +23,14 @@ loop-holds c = (progress-begins (sym (c .before .head .given .1) ∙ c .before .
 read-word-requires : tie.Need-read-word-requires Inv-loop μ-loop
 read-word-requires c κs = c .before .loop .inv .0 .within
 
-enum-known-word : tie.Need-enum-known-word Inv-loop μ-loop
-enum-known-word c = search needs
-
-enum-told-2 : tie.Need-enum-told-2 Inv-loop μ-loop
-enum-told-2 c = search needs
-
 same-length : tie.Need-same-length Inv-loop μ-loop
 same-length c = c .before .before .before .before .loop .inv .1
 
 returns-2 : tie.Need-returns-2 Inv-loop μ-loop
 returns-2 c =
-    places-none (sym (c .before .before .before .before .before .before .head .given .1) ∙ c .before .before .before .before .before .before .before .before .read-count .ensures)
-    (progress-damaged (c .before .before .before .before .loop .inv .0) (c .before .before .before .loop-test .taken) (sym (c .enum-told2 .given .1) ∙ c .before .before .read-word .ensures))
-
-mul-t15 : tie.Need-mul-t15 Inv-loop μ-loop
-mul-t15 c = omega arith
-
-slice-set-from-places : tie.Need-slice-set-from-places Inv-loop μ-loop
-slice-set-from-places c = omega arith
-
-add-i : tie.Need-add-i Inv-loop μ-loop
-add-i c = omega arith
-
-loop-less : tie.Need-loop-less Inv-loop μ-loop
-loop-less c = omega arith
+    let back2 = c .before .before in let back3 = back2 .before in let back4 = back3 .before in let back6 = back4 .before .before in
+    places-none (sym (back6 .head .given .1) ∙ back6 .before .before .read-count .ensures)
+    (progress-damaged (back4 .loop .inv .0) (back3 .loop-test .taken) (sym (c .enum-told2 .given .1) ∙ back2 .read-word .ensures))
 
 loop-again : tie.Need-loop-again Inv-loop μ-loop
 loop-again c =
@@ -81,20 +55,20 @@ split-spec =
     (tie.spec
     Inv-loop
     μ-loop
-    read-count-requires
-    enum-known-head
-    enum-told
+    (λ c κs. search needs)
+    (λ c. search needs)
+    (λ c. search needs)
     returns
     loop-holds
     read-word-requires
-    enum-known-word
-    enum-told-2
+    (λ c. search needs)
+    (λ c. search needs)
     same-length
     returns-2
-    mul-t15
-    slice-set-from-places
-    add-i
-    loop-less
+    (λ c. omega arith)
+    (λ c. omega arith)
+    (λ c. omega arith)
+    (λ c. omega arith)
     loop-again
     same-length-2
     returns-3

@@ -9,25 +9,19 @@ use Rattle.wire.proofs.replies.put_bulk.Statement.{statement}
 use Rattle.wire.proofs.replies.put_bulk.Tie as tie
 
 put-count-requires : tie.Need-put-count-requires
-put-count-requires c κs = front-room (36 ∷ naturalText (length (c .before .before .before .args .w .now)) ++ crlf) (c .before .before .before .args .w .now ++ crlf) (bulk-room (c .before .before .before .args .w .now) (c .before .before .before .pre))
+put-count-requires c κs = let back3 = c .before .before .before in let args = back3 .args in front-room (36 ∷ naturalText (length (args .w .now)) ++ crlf) (args .w .now ++ crlf) (bulk-room (args .w .now) (back3 .pre))
 
 sub-put-line : tie.Need-sub-put-line
-sub-put-line c = tail-inside (c .before .before .before .before .before .before .args .w .now ++ crlf) (c .before .before .put-count .ensures) (bulk-room (c .before .before .before .before .before .before .args .w .now) (c .before .before .before .before .before .before .pre))
+sub-put-line c = let back2 = c .before .before in let back6 = back2 .before .before .before .before in let args = back6 .args in tail-inside (args .w .now ++ crlf) (back2 .put-count .ensures) (bulk-room (args .w .now) (back6 .pre))
 
 part-put-line-start : tie.Need-part-put-line-start
-part-put-line-start c = tail-inside (c .before .before .before .before .before .before .args .w .now ++ crlf) (c .before .before .put-count .ensures) (bulk-room (c .before .before .before .before .before .before .args .w .now) (c .before .before .before .before .before .before .pre))
-
-part-put-line-end : tie.Need-part-put-line-end
-part-put-line-end c = search needs
+part-put-line-start c = let back2 = c .before .before in let back6 = back2 .before .before .before .before in let args = back6 .args in tail-inside (args .w .now ++ crlf) (back2 .put-count .ensures) (bulk-room (args .w .now) (back6 .pre))
 
 put-line-requires : tie.Need-put-line-requires
-put-line-requires c κs = tail-room (c .before .before .before .before .before .before .before .args .w .now ++ crlf) (c .before .before .before .put-count .ensures) (bulk-room (c .before .before .before .before .before .before .before .args .w .now) (c .before .before .before .before .before .before .before .pre))
+put-line-requires c κs = let back3 = c .before .before .before in let back7 = back3 .before .before .before .before in let args = back7 .args in tail-room (args .w .now ++ crlf) (back3 .put-count .ensures) (bulk-room (args .w .now) (back7 .pre))
 
 add-result : tie.Need-add-result
-add-result c = omega (arith, laid-within (laid-tail (c .before .before .before .before .before .before .put-count .ensures) (c .before .before .put-line .ensures)) (bulk-room (c .before .before .before .before .before .before .before .before .before .before .args .w .now) (c .before .before .before .before .before .before .before .before .before .before .pre)))
-
-same-length : tie.Need-same-length
-same-length c = search needs
+add-result c = let back2 = c .before .before in let back6 = back2 .before .before .before .before in let back10 = back6 .before .before .before .before in omega (arith, laid-within (laid-tail (back6 .put-count .ensures) (back2 .put-line .ensures)) (bulk-room (back10 .args .w .now) (back10 .pre)))
 
 returns : tie.Need-returns
 returns c = rw (bulk-parts (c .before .before .before .before .before .before .before .before .before .before .args .w .now)) (laid-tail (c .before .before .before .before .before .before .put-count .ensures) (c .before .before .put-line .ensures))
@@ -39,8 +33,8 @@ put-bulk-spec =
     put-count-requires
     sub-put-line
     part-put-line-start
-    part-put-line-end
+    (λ c. search needs)
     put-line-requires
     add-result
-    same-length
+    (λ c. search needs)
     returns)

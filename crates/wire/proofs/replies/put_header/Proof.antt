@@ -8,12 +8,9 @@ put-count-requires : tie.Need-put-count-requires
 unfolding header text
 put-count-requires c κs = c .before .before .pre
 
-same-length : tie.Need-same-length
-same-length c = search needs
-
 returns : tie.Need-returns
 unfolding header text
 returns c = c .before .before .put-count .ensures
 
 pub put-header-spec : {M : Type 1} → statement M
-put-header-spec = tie.close (tie.spec put-count-requires same-length returns)
+put-header-spec = tie.close (tie.spec put-count-requires (λ c. search needs) returns)

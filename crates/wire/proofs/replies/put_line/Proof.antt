@@ -15,17 +15,8 @@ sub-put-end c = tail-inside crlf (laid-copied (c .before .before .copy .ensures)
 part-put-end-start : tie.Need-part-put-end-start
 part-put-end-start c = tail-inside crlf (laid-copied (c .before .before .copy .ensures)) (c .before .before .before .before .before .before .pre)
 
-part-put-end-end : tie.Need-part-put-end-end
-part-put-end-end c = search needs
-
 put-end-requires : tie.Need-put-end-requires
 put-end-requires c κs = tail-room crlf (laid-copied (c .before .before .before .copy .ensures)) (c .before .before .before .before .before .before .before .pre)
-
-add-result : tie.Need-add-result
-add-result c = search needs
-
-same-length : tie.Need-same-length
-same-length c = search needs
 
 returns : tie.Need-returns
 returns c = laid-tail (laid-copied (c .before .before .before .before .before .before .copy .ensures)) (c .before .before .put-end .ensures)
@@ -37,8 +28,8 @@ put-line-spec =
     copy-requires
     sub-put-end
     part-put-end-start
-    part-put-end-end
+    (λ c. search needs)
     put-end-requires
-    add-result
-    same-length
+    (λ c. search needs)
+    (λ c. search needs)
     returns)

@@ -9,12 +9,9 @@ put-count-requires : tie.Need-put-count-requires
 unfolding integer text integerText
 put-count-requires c κs = c .before .before .pre
 
-same-length : tie.Need-same-length
-same-length c = search needs
-
 returns : tie.Need-returns
 unfolding integer text integerText
 returns c = c .before .before .put-count .ensures
 
 pub put-number-spec : {M : Type 1} → statement M
-put-number-spec = tie.close (tie.spec put-count-requires same-length returns)
+put-number-spec = tie.close (tie.spec put-count-requires (λ c. search needs) returns)

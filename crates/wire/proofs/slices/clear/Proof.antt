@@ -15,15 +15,6 @@ abbrev μ-loop : tie.MeasureT-loop
 loop-holds : tie.Need-loop-holds Inv-loop μ-loop
 loop-holds c = fill-begins _ _ (omega (arith, length-replicate {A = ℕ} (length (c .args .s .now)) 0))
 
-slice-write-s : tie.Need-slice-write-s Inv-loop μ-loop
-slice-write-s c = omega arith
-
-add-i : tie.Need-add-i Inv-loop μ-loop
-add-i c = omega arith
-
-loop-less : tie.Need-loop-less Inv-loop μ-loop
-loop-less c = omega arith
-
 loop-again : tie.Need-loop-again Inv-loop μ-loop
 loop-again c = fill-goes-on _ _ _ _ _ (c .before .loop .inv) (omega (arith, length-replicate {A = ℕ} (length (c .before .before .args .s .now)) 0)) (sym (getD-replicate {A = ℕ} (length (c .before .before .args .s .now)) (c .before .loop .i) 0 0 (omega arith)))
 
@@ -40,9 +31,9 @@ clear-spec =
     Inv-loop
     μ-loop
     loop-holds
-    slice-write-s
-    add-i
-    loop-less
+    (λ c. omega arith)
+    (λ c. omega arith)
+    (λ c. omega arith)
     loop-again
     same-length
     returns)

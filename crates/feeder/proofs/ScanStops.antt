@@ -1,0 +1,247 @@
+-- Where reading stops: from a byte to skip on it stops where it stops from the next.
+use mathlib.Core.Path.{_≡_, refl, sym, ap, _∙_}
+use mathlib.Core.Bool.{Bool, true, false}
+use mathlib.Core.List.{List, _∷_, _++_}
+use mathlib.Core.Option.{Option, none, some}
+use Prim.Native.Nat.{ℕ, zero, suc, _+_, _-_, _≤_, _<_}
+use native.Mathlib.Nat.{add-zero, zero-add}
+use native.Mathlib.Numerals.{add-one}
+use native.Mathlib.Omega.{arith}
+use lib.Dec.{eqb, ltb}
+use lib.ListN.{length, take, drop, getD, length-append, drop-of-length-le, List·getD-eq-default}
+use lib.Seq.{drop-cons, getD-take, getD-drop}
+use borrow.Author.Count.{below-more}
+use borrow.Author.Tests.{eqb-true, ltb-true, ltb-false, ne-eqb}
+use Rattle.wire.specs.Lists.{orElse}
+use Rattle.feeder.specs.declared.record.Head.the-variants as heads
+use Rattle.feeder.specs.declared.scan.Stop.{Stop}
+use Rattle.feeder.specs.declared.scan.Stop.the-variants as stops
+use Rattle.feeder.specs.Record.{Head, headOf, firstMark}
+use Rattle.feeder.specs.Record.Head.{skip, whole, wait}
+use Rattle.feeder.specs.Stream.{dividedAt, divideAfter, divide}
+use Rattle.feeder.specs.Absorb.{Place, placedAt, firstRecord}
+use Rattle.feeder.proofs.RecordTests.{byte-after}
+use Rattle.feeder.specs.Promises.{headFor, blockSize, stopOf, laterBy, stopFrom, Unmarked, UnmarkedUpTo, NextPlace}
+
+-- ---- one byte at a time
+
+unfoldable stoppedAt : Head → Stop → Stop
+stoppedAt skip more = laterBy 1 more
+stoppedAt (whole n) more = stops.Record 0 n
+stoppedAt wait more = stops.Rest 0
+
+stop-cons : (b : ℕ) (s : List ℕ) → stopOf (b ∷ s) ≡ stoppedAt (headOf (b ∷ s)) (stopOf s)
+unfolding stopOf stoppedAt laterBy orElse firstRecord placedAt divide divideAfter dividedAt
+stop-cons b s = go (headOf (b ∷ s)) (firstRecord s)
+  where
+    go : (h : Head) (m : Option Place)
+        → orElse (placedAt h m) (stops.Rest (dividedAt h (b ∷ s) (λ k. divideAfter k s) .skipped)) (λ p. stops.Record (p .at) (p .size))
+        ≡ stoppedAt h (orElse m (stops.Rest (divideAfter 0 s .skipped)) (λ p. stops.Record (p .at) (p .size)))
+    go skip none = ap stops.Rest (omega arith)
+    go skip (some p) = ap (λ (n : ℕ). stops.Record n (p .size)) (omega arith)
+    go (whole n) none = refl
+    go (whole n) (some p) = refl
+    go wait none = refl
+    go wait (some p) = refl
+
+module _ (s : List ℕ) (k : ℕ) where
+  stop-step : k < length s → stopFrom k s ≡ laterBy k (stoppedAt (headOf (drop k s)) (stopOf (drop (suc k) s)))
+  unfolding stopFrom
+  stop-step l = rw (drop-cons s k 0 l) (ap (laterBy k) (stop-cons (getD s k 0) (drop (suc k) s)))
+
+  later-later : (m : Stop) → laterBy k (laterBy 1 m) ≡ laterBy (k + 1) m
+  unfolding laterBy
+  later-later (stops.Record at n) = ap (λ (i : ℕ). stops.Record i n) (omega arith)
+  later-later (stops.Rest at) = ap stops.Rest (omega arith)
+
+  stop-on : k < length s → headOf (drop k s) ≡ skip → stopFrom k s ≡ stopFrom (k + 1) s
+  unfolding stoppedAt stopFrom
+  stop-on l h = stop-step l ∙ rw (h, later-later, add-one)
+
+  -- at a record and at bytes that wait reading stops
+  pub stop-whole : (n : ℕ) → k < length s → heads.Whole n ≡ headFor (headOf (drop k s)) → stops.Record k n ≡ stopFrom k s
+  unfolding stoppedAt headFor laterBy
+  stop-whole n l e = sym (stop-step l ∙ go (headOf (drop k s)) e)
+    where
+      go : (h : Head) → heads.Whole n ≡ headFor h → laterBy k (stoppedAt h (stopOf (drop (suc k) s))) ≡ stops.Record k n
+      go skip e = cc
+      go (whole m) e =
+          let same : n ≡ m = cc in
+          rw (same, add-zero)
+      go wait e = cc
+
+  pub stop-wait : k < length s → heads.Wait ≡ headFor (headOf (drop k s)) → stops.Rest k ≡ stopFrom k s
+  unfolding stoppedAt headFor laterBy
+  stop-wait l e = sym (stop-step l ∙ go (headOf (drop k s)) e)
+    where
+      go : (h : Head) → heads.Wait ≡ headFor h → laterBy k (stoppedAt h (stopOf (drop (suc k) s))) ≡ stops.Rest k
+      go skip e = cc
+      go (whole m) e = cc
+      go wait e = rw add-zero
+
+  pub stop-skip : k < length s → heads.Skip ≡ headFor (headOf (drop k s)) → stopFrom k s ≡ stopFrom (k + 1) s
+  unfolding headFor
+  stop-skip l e = go (headOf (drop k s)) refl e
+    where
+      go : (h : Head) → headOf (drop k s) ≡ h → heads.Skip ≡ headFor h → stopFrom k s ≡ stopFrom (k + 1) s
+      go skip q e = stop-on l q
+      go (whole m) q e = cc
+      go wait q e = cc
+
+  -- past the last byte nothing is left, and nothing waits
+  pub stop-end : length s ≤ k → stops.Rest k ≡ stopFrom k s
+  unfolding stopFrom laterBy stopOf orElse firstRecord divide divideAfter
+  stop-end l = rw (drop-of-length-le s {i = k} l, add-zero)
+
+-- reading from the start on
+pub stop-begins : (s : List ℕ) → stopFrom 0 s ≡ stopOf s
+unfolding stopFrom laterBy
+stop-begins s = go (stopOf s)
+  where
+    go : (m : Stop) → laterBy 0 m ≡ m
+    go (stops.Record at n) = rw zero-add
+    go (stops.Rest at) = rw zero-add
+
+-- what a stop says
+data Stopped (s : List ℕ) : Stop → Type 0 where
+  at-record : {at n : ℕ} → firstRecord s ≡ some (record { at = at; size = n }) → Stopped s (stops.Record at n)
+  at-rest : {k : ℕ} → firstRecord s ≡ none → divide s .skipped ≡ k → Stopped s (stops.Rest k)
+
+stop-says : (s : List ℕ) (m : Stop) → m ≡ stopOf s → Stopped s m
+unfolding stopOf orElse
+stop-says s m e = rw e (go (firstRecord s) refl)
+  where
+    go : (f : Option Place) → firstRecord s ≡ f → Stopped s (orElse f (stops.Rest (divide s .skipped)) (λ p. stops.Record (p .at) (p .size)))
+    go none q = at-rest q refl
+    go (some p) q = at-record q
+
+pub stop-record : (s : List ℕ) (at n : ℕ) → stops.Record at n ≡ stopOf s → firstRecord s ≡ some (record { at = at; size = n })
+stop-record s at n e = go (stop-says s (stops.Record at n) e)
+  where
+    go : Stopped s (stops.Record at n) → firstRecord s ≡ some (record { at = at; size = n })
+    go (at-record q) = q
+
+pub stop-rest : (s : List ℕ) (at : ℕ) → stops.Rest at ≡ stopOf s → (firstRecord s ≡ none) × (divide s .skipped ≡ at)
+stop-rest s at e = go (stop-says s (stops.Rest at) e)
+  where
+    go : Stopped s (stops.Rest at) → (firstRecord s ≡ none) × (divide s .skipped ≡ at)
+    go (at-rest q k) = (q, k)
+
+-- ---- many bytes at a time
+
+unmarked-skips : (s : List ℕ) (k : ℕ) → (getD s k 0 ≡ firstMark → ⊥) → headOf (drop k s) ≡ skip
+unfolding headOf
+unmarked-skips s k h = rw (getD-drop k s 0 0, add-zero, ne-eqb (getD s k 0) firstMark h)
+
+pass-over : (s : List ℕ) (k n : ℕ) → k + n ≤ length s → ((i : ℕ) → k ≤ i → i < k + n → getD s i 0 ≡ firstMark → ⊥)
+    → stopFrom k s ≡ stopFrom (k + n) s
+pass-over s k zero l h = rw add-zero
+pass-over s k (suc n) l h =
+    stop-on s k (omega arith) (unmarked-skips s k (h k (omega arith) (omega arith)))
+    ∙ pass-over s (k + 1) n (omega arith) (λ i a b. h i (omega arith) (omega arith))
+    ∙ ap (λ (i : ℕ). stopFrom i s) (omega arith)
+
+-- bytes passed one by one
+pub pass-begins : (s : List ℕ) (from : ℕ) → from ≤ length s → UnmarkedUpTo s from from
+pass-begins s from l = record { ahead = omega arith; inside = l; unmarked = λ i a b h. omega arith }
+
+pub pass-goes-on : (s : List ℕ) (from i : ℕ) → UnmarkedUpTo s from i → i < length s → (getD s i 0 ≡ firstMark → ⊥)
+    → UnmarkedUpTo s from (i + 1)
+pass-goes-on s from i f l h =
+    record {
+      ahead = omega (arith, f .ahead);
+      inside = omega arith;
+      unmarked = λ j a b. below-more (λ k. from ≤ k → getD s k 0 ≡ firstMark → ⊥) i (λ k u v. f .unmarked k v u) (λ e. h) j b a;
+    }
+
+-- bytes passed in blocks
+pub pass-block : (s : List ℕ) (from i : ℕ) → UnmarkedUpTo s from i → blockSize ≤ length s - i
+    → Unmarked (take (i + blockSize - i) (drop i s)) → UnmarkedUpTo s from (i + blockSize)
+pass-block s from i f l h =
+    record { ahead = omega (arith, f .ahead); inside = omega (arith, f .inside); unmarked = λ j a b. go j a b (ltb j i) refl }
+  where
+    go : (j : ℕ) → from ≤ j → j < i + blockSize → (t : Bool) → ltb j i ≡ t → getD s j 0 ≡ firstMark → ⊥
+    go j a b true q e = f .unmarked j a (ltb-true j i q) e
+    go j a b false q e =
+        let low : i ≤ j = ltb-false j i q in
+        let near : j - i < i + blockSize - i = omega arith in
+        let back : i + (j - i) ≡ j = omega arith in
+        h (j - i) (getD-take (i + blockSize - i) (drop i s) (j - i) 0 near ∙ getD-drop i s (j - i) 0 ∙ ap (λ (n : ℕ). getD s n 0) back ∙ e)
+
+-- marks counted: where there is none yet, none stands before i
+pub record Counting (s : List ℕ) (marks i : ℕ) : Type 0 where
+  pub inside : i ≤ length s
+  pub few : marks ≤ i
+  pub unmarked : marks ≡ 0 → (k : ℕ) → k < i → getD s k 0 ≡ firstMark → ⊥
+
+pub count-begins : (s : List ℕ) → Counting s 0 0
+count-begins s = record { inside = omega arith; few = omega arith; unmarked = λ z k l e. omega arith }
+
+pub count-mark : (s : List ℕ) (marks i : ℕ) → Counting s marks i → i < length s → Counting s (marks + 1) (i + 1)
+count-mark s marks i f l = record { inside = omega arith; few = omega (arith, f .few); unmarked = λ z k b e. omega arith }
+
+pub count-other : (s : List ℕ) (marks i : ℕ) → Counting s marks i → i < length s → (getD s i 0 ≡ firstMark → ⊥) → Counting s marks (i + 1)
+count-other s marks i f l h =
+    record {
+      inside = omega arith;
+      few = omega (arith, f .few);
+      unmarked = λ z. below-more (λ k. getD s k 0 ≡ firstMark → ⊥) i (f .unmarked z) h;
+    }
+
+pub count-ends : (s : List ℕ) (marks i : ℕ) → Counting s marks i → length s ≤ i → eqb marks 0 ≡ true → Unmarked s
+count-ends s marks i f l z k e = go (ltb k i) refl
+  where
+    go : (t : Bool) → ltb k i ≡ t → ⊥
+    go true q = f .unmarked (eqb-true marks 0 z) k (ltb-true k i q) e
+    go false q =
+        let past : length s ≤ k = omega (arith, ltb-false k i q) in
+        let n : _≡_ {A = ℕ} 0 firstMark = sym (List·getD-eq-default s 0 past) ∙ e in
+        omega arith
+
+-- the next place in the waiting bytes is the one next to it
+pub next-waiting : (s : List ℕ) (at : ℕ) → at < length s → NextPlace s at (at + 1)
+next-waiting s at l = record { ahead = omega arith; inside = omega arith; stops-there = refl }
+
+-- the next place in the piece is its next mark
+pub next-marked : (w p : List ℕ) (at r : ℕ) → length w ≤ at + 1 → UnmarkedUpTo p (at + 1 - length w) r → NextPlace (w ++ p) at (length w + r)
+next-marked w p at r l f =
+    record { ahead = omega (arith, f .ahead); inside = rw length-append (omega (arith, f .inside)); stops-there = passes }
+  where
+    unmarked : (i : ℕ) → at + 1 ≤ i → i < at + 1 + (length w + r - (at + 1)) → getD (w ++ p) i 0 ≡ firstMark → ⊥
+    unmarked i a b h = f .unmarked (i - length w) (omega arith) (omega (arith, f .ahead)) (byte-after w p i (omega arith) ∙ h)
+
+    passes : stopFrom (at + 1) (w ++ p) ≡ stopFrom (length w + r) (w ++ p)
+    passes =
+        pass-over (w ++ p) (at + 1) (length w + r - (at + 1)) (rw length-append (omega (arith, f .ahead, f .inside))) unmarked
+        ∙ ap (λ (i : ℕ). stopFrom i (w ++ p)) (omega (arith, f .ahead))
+
+-- ---- reading has come to a place
+
+pub record Scanning (w p : List ℕ) (at : ℕ) : Type 0 where
+  pub inside : at ≤ length w + length p
+  pub rest : stopFrom at (w ++ p) ≡ stopOf (w ++ p)
+
+pub scan-begins : (w p : List ℕ) → Scanning w p 0
+scan-begins w p = record { inside = omega arith; rest = stop-begins (w ++ p) }
+
+pub scan-ends : (w p : List ℕ) (at : ℕ) → Scanning w p at → length w + length p ≤ at → stops.Rest (length w + length p) ≡ stopOf (w ++ p)
+scan-ends w p at f l =
+    let e : length w + length p ≡ at = omega (arith, f .inside) in
+    rw e (stop-end (w ++ p) at (rw length-append l) ∙ f .rest)
+
+module _ (w p : List ℕ) (at : ℕ) (f : Scanning w p at) (more : at < length w + length p) where
+  here : at < length (w ++ p)
+  here = rw length-append more
+
+  pub scan-whole : (n : ℕ) → heads.Whole n ≡ headFor (headOf (drop at (w ++ p))) → stops.Record at n ≡ stopOf (w ++ p)
+  scan-whole n e = stop-whole (w ++ p) at n here e ∙ f .rest
+
+  pub scan-waits : heads.Wait ≡ headFor (headOf (drop at (w ++ p))) → stops.Rest at ≡ stopOf (w ++ p)
+  scan-waits e = stop-wait (w ++ p) at here e ∙ f .rest
+
+  pub scan-goes-on : (r : ℕ) → heads.Skip ≡ headFor (headOf (drop at (w ++ p))) → NextPlace (w ++ p) at r → Scanning w p r
+  scan-goes-on r e n =
+      record {
+        inside = omega (arith, n .inside, length-append w p);
+        rest = sym (stop-skip (w ++ p) at here e ∙ n .stops-there) ∙ f .rest;
+      }

@@ -1,0 +1,24 @@
+use Rattle.wire.specs.Bytes.{part}
+use Rattle.store.specs.Promises.{nameHash}
+use borrow.Author.Needs.{needs}
+use Rattle.store.proofs.duplicates.name_hash.Statement.{statement}
+use Rattle.store.proofs.duplicates.name_hash.Tie as tie
+
+returns : tie.Need-returns
+unfolding nameHash part
+returns c = rw (c .spread .ensures, c .before .before .before .key-word .ensures, c .before .field-word .ensures)
+
+pub name-hash-spec : {M : Type 1} → statement M
+name-hash-spec =
+    tie.close
+    (tie.spec
+    (λ c. search needs)
+    (λ c. search needs)
+    (λ c. search needs)
+    (λ c κs. search needs)
+    (λ c. search needs)
+    (λ c. search needs)
+    (λ c. search needs)
+    (λ c κs. search needs)
+    (λ c κs. search needs)
+    returns)
