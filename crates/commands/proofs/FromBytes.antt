@@ -6,14 +6,13 @@ use mathlib.Core.Option.{Option, none, some, Option·getD}
 use Prim.Native.Nat.{ℕ, _≤_, _<_}
 use borrow.Author.Tests.{not-true, not-false, le-leb, lt-leb, ne-eqb}
 use lib.IntN.{ℤ, pos}
-use lib.ListN.{length, take}
-use lib.Seq.{length-take-le}
+use lib.ListN.{length}
 use Rattle.wire.specs.declared.names.RowFound.{RowFound}
 use Rattle.wire.specs.declared.names.RowFound.the-variants as rows
 use Rattle.wire.specs.Lists.{isSome, orElse}
 use Rattle.wire.specs.Integer.{readInteger, lowest64, highest64, within}
 use Rattle.wire.specs.Words.{Word, wordsOf, wordAt}
-use Rattle.wire.specs.Promises.{wordsIn, Places, rowFor, rowNamed}
+use Rattle.wire.specs.Promises.{wordsIn, rowFor, rowNamed}
 use Rattle.wire.proofs.Lists.{impossible}
 use Rattle.wire.proofs.Rows.{row-nothing, row-at}
 use Rattle.wire.proofs.Cursor.{length-words}
@@ -37,12 +36,6 @@ use Rattle.commands.specs.ParsePromises.{Divided, parseRest, meant}
 use Rattle.commands.proofs.Checks.{check-applies, check-passed, parse-accepted}
 use Rattle.commands.proofs.RowNumbers.{command-row}
 use Rattle.commands.proofs.Parsing.{scannedOf, givenIn, saidBy}
-
--- the places of a command's words, cut to their count
-pub divided-of : {s : List ℕ} {places : List (List ℕ)} {count : ℕ} → Places s places count → Divided s (take count places)
-divided-of {s} {places} {count} p =
-    let n : length (take count places) ≡ count = length-take-le count places (p .room) in
-    record { words = rw n (p .words); within = p .within }
 
 -- ---- checks 13 and 14
 

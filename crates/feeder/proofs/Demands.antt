@@ -16,17 +16,17 @@ use Rattle.wire.specs.Reply.{respOf}
 use Rattle.wire.proofs.Integer.{read-text, text-read}
 use Rattle.wire.proofs.Words.{words-respOf, respOf-words}
 use Rattle.store.specs.Layout.{headerSize, slotSize}
-use Rattle.store.specs.Store.{Entry, Slot, Store, decode, encode, wellFormed, slotCount}
+use Rattle.store.specs.Store.{Entry, Slot, Store, withClock, decode, encode, wellFormed, slotCount}
 use Rattle.store.specs.Time.{nowAt, live}
 use Rattle.store.specs.Valid.{Valid}
 use Rattle.store.proofs.Encode.{decode-encode, encode-decode, encode-well, decode-valid}
-use Rattle.commands.specs.Refusal.{errorLine, bufferLeast}
-use Rattle.commands.specs.Command.{Command, Pair}
+use Rattle.commands.specs.Refusal.{errorLine, bufferLeast, earlyMost, lateMost}
+use Rattle.commands.specs.Command.{Command, Pair, keyOf, fieldsOf}
 use Rattle.commands.specs.Command.Command.{setMany}
 use Rattle.commands.specs.Parse.{parse}
 use Rattle.commands.specs.Parse.Parsed.{accepted}
 use Rattle.commands.specs.Effect.{effect}
-use Rattle.commands.specs.Execute.{sweep, room, added, exec, execBytes}
+use Rattle.commands.specs.Execute.{sweep, swept, room, added, exec, execBytes}
 use Rattle.commands.specs.Claims.{Proper, names, lastOf, Written, Step, execAll}
 use Rattle.commands.specs.Examples.{given, expected, markedExamples}
 use Rattle.commands.proofs.Examples as commandExamples
@@ -60,16 +60,16 @@ refused-line = refused-reply
 
 -- A command refused by 10 to 18 leaves the store byte for byte, its clock too.
 pub early-refusal-leaves : (clock : ℕ) (command b : List ℕ) (n : ℕ) → wellFormed b ≡ true → exec clock command (decode b) .refusal ≡ some n
-    → n ≤ 18 → execBytes clock command b .store ≡ b
+    → n ≤ earlyMost → execBytes clock command b .store ≡ b
 early-refusal-leaves = refusals.early-bytes
 
 -- Any other refusal is one of 20 to 24; it sets the clock and removes the named dead entries, and does nothing else.
-pub late-refusal-leaves : (clock : ℕ) (command : List ℕ) (s : Store) (n : ℕ) → exec clock command s .refusal ≡ some n → 19 ≤ n
+pub late-refusal-leaves : (clock : ℕ) (command : List ℕ) (s : Store) (n : ℕ) → exec clock command s .refusal ≡ some n → earlyMost < n
     → (c : Command)
     × (parse (nowAt clock s) clock command ≡ accepted c)
-    × (exec clock command s .store ≡ record { clock = nowAt clock s; slots = sweep (nowAt clock s) c (s .slots) })
+    × (exec clock command s .store ≡ swept (nowAt clock s) (keyOf c) (fieldsOf c) (withClock (nowAt clock s) s))
     × (20 ≤ n)
-    × (n ≤ 24)
+    × (n ≤ lateMost)
 late-refusal-leaves = late-refusal
 
 -- A refused command keeps every entry that is live at its now, in its slot; the slot's bytes are as they were.
@@ -107,21 +107,21 @@ full-only-if = full-accepted
 
 -- Of such a command it is said exactly if none of 20 to 23 applies and fewer slots are empty or dead than the command would add fields.
 pub full-exactly-if : (clock : ℕ) (command : List ℕ) (s : Store) (c : Command) → parse (nowAt clock s) clock command ≡ accepted c
-    → let swept = sweep (nowAt clock s) c (s .slots) in
-    let e = effect (nowAt clock s) c swept in
-    (exec clock command s .refusal ≡ some 24) ↔ (Proper e × (room (nowAt clock s) swept < added (e .changes) swept))
+    → let left = sweep (nowAt clock s) (keyOf c) (fieldsOf c) (s .slots) in
+    let e = effect (nowAt clock s) c left in
+    (exec clock command s .refusal ≡ some 24) ↔ (Proper e × (room (nowAt clock s) left < added (e .changes) left))
 full-exactly-if = full-exactly
 
 -- Such a command is done exactly if none of 20 to 23 applies and at least as many slots are empty or dead as it would add fields.
 pub done-exactly-if : (clock : ℕ) (command : List ℕ) (s : Store) (c : Command) → parse (nowAt clock s) clock command ≡ accepted c
-    → let swept = sweep (nowAt clock s) c (s .slots) in
-    let e = effect (nowAt clock s) c swept in
-    (exec clock command s .refusal ≡ none) ↔ (Proper e × (added (e .changes) swept ≤ room (nowAt clock s) swept))
+    → let left = sweep (nowAt clock s) (keyOf c) (fieldsOf c) (s .slots) in
+    let e = effect (nowAt clock s) c left in
+    (exec clock command s .refusal ≡ none) ↔ (Proper e × (added (e .changes) left ≤ room (nowAt clock s) left))
 done-exactly-if = done-exactly
 
 -- The slots that are empty or dead after the named dead entries are gone are as many as before.
-pub room-as-before : (now : ℕ) (c : Command) (ss : List Slot) → room now (sweep now c ss) ≡ room now ss
-room-as-before = room-sweep
+pub room-as-before : (now : ℕ) (c : Command) (ss : List Slot) → room now (sweep now (keyOf c) (fieldsOf c) ss) ≡ room now ss
+room-as-before now c = room-sweep now (keyOf c) (fieldsOf c)
 
 -- An EXHMSET that is not refused leaves every field that it names with the value of the field's last pair: all or none.
 pub all-or-none : (clock : ℕ) (command : List ℕ) (s : Store) (k : Word) (ps : List Pair) → Valid s
