@@ -6,12 +6,12 @@ use mathlib.Core.Option.{none, some}
 use Prim.Native.Nat.{ℕ, _-_, _/_, _≤_}
 use native.Mathlib.Omega.{arith}
 use native.Mathlib.Nat.{zero-div}
-use lib.IntN.{ℤ, pos, negsuc}
 use lib.ListN.{length}
 use Rattle.wire.specs.Lists.{orElse}
 use Rattle.wire.specs.Reply.{nil, integer, number, bulk, header, array}
 use Rattle.wire.specs.declared.integers.Signed.{Signed}
 use Rattle.wire.specs.Promises.{signedFor, integerOf, Laid}
+use Rattle.wire.proofs.Signs.{sign-said}
 use Rattle.store.specs.declared.Expiry.{Expiry}
 use Rattle.store.specs.declared.Expiry.the-variants.{Never, At}
 use Rattle.store.specs.declared.Found.{Found}
@@ -31,12 +31,6 @@ use Rattle.commands.specs.Promises.{Looked, timeLeftOf, noVersionOf, ans
 use Rattle.commands.proofs.Replies.{answer-short}
 
 -- ---- signs
-
--- An integer is what its sign and magnitude say.
-pub sign-said : (z : ℤ) → integerOf (signedFor z) ≡ z
-unfolding integerOf signedFor
-sign-said (pos n) = refl
-sign-said (negsuc n) = refl
 
 -- An entry without expiry has no time left.
 pub left-never : (now unit : ℕ) {x : Expiry} → x ≡ Never → record { negative = true; magnitude = 1 } ≡ timeLeftOf now unit x

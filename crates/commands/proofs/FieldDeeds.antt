@@ -1,11 +1,11 @@
 -- What is done with one field that was looked for: each way in which its code goes, and the effect that it has.
-use mathlib.Core.Path.{_≡_, refl, sym, ap, subst, _∙_}
+use mathlib.Core.Path.{_≡_, refl, sym, ap, _∙_}
 use mathlib.Core.Bool.{Bool, true, false, not, _&&_, and-false}
 use mathlib.Core.List.{List, []}
 use mathlib.Core.Option.{Option, none, some}
 use Prim.Native.Nat.{ℕ, _≤_, _<_}
 use native.Mathlib.Omega.{arith}
-use lib.IntN.{ℤ, pos, negsuc, _+ℤ_}
+use lib.IntN.{ℤ, pos, _+ℤ_}
 use lib.Signed.{leZ}
 use lib.ListN.{length, take, getD}
 use borrow.Author.Tests.{not-true, not-false}
@@ -18,6 +18,7 @@ use Rattle.wire.specs.declared.integers.Integer.{Integer}
 use Rattle.wire.specs.declared.integers.Integer.the-variants as integers
 use Rattle.wire.specs.Promises.{signedFor, integerFor, integerOf, Laid}
 use Rattle.wire.proofs.Integer.{read-within, length-integerText}
+use Rattle.wire.proofs.Signs.{sign-said}
 use Rattle.wire.proofs.Reply.{length-integer64}
 use Rattle.wire.proofs.Laying.{take-laid, laid-length, laid-within}
 use Rattle.wire.proofs.Lists.{impossible, and-left, and-both, both-ways}
@@ -28,7 +29,7 @@ use Rattle.store.specs.declared.Found.{Found}
 use Rattle.store.specs.declared.Found.the-variants as founds
 use Rattle.store.specs.Store.{Entry, entry, Slot, decode, wellFormed, instantOf, holds}
 use Rattle.store.specs.Time.{lowestSlot, slotFor, entryOf}
-use Rattle.store.specs.Valid.{Fits, FitsSlot}
+use Rattle.store.specs.Valid.{FitsSlot}
 use Rattle.store.specs.Promises.{Held, Holds, Placeable, foundFor, entryAt, stamped, withSlot}
 use Rattle.store.proofs.Slots.{lowest-some, lowest-nowhere, holds-none, holds-own, holds-only}
 use Rattle.store.proofs.Encode.{decode-valid}
@@ -47,7 +48,7 @@ use Rattle.commands.specs.Effect.{writing, isStale, nextVersion, setterV
 use Rattle.commands.specs.ParsePromises.{isRefusal}
 use Rattle.commands.specs.Promises.{HeldAt, FoundIn, Sought, Storable, Wrote, Changes, answerMost, entryFor, lookFor, slotAfter, heldVersion, heldExpiry, versioned, expiring, boundedSum, incremented, fieldsAdded, writeSettled}
 use Rattle.commands.proofs.Replies.{error-short, few-short}
-use Rattle.commands.proofs.Answers.{held-fits, sign-said, looked-held, looked-entry, looked-missing}
+use Rattle.commands.proofs.Answers.{held-fits, looked-held, looked-entry, looked-missing}
 use Rattle.commands.proofs.Writes.{next-expiry}
 use Rattle.commands.proofs.Acts.{after-look, may-place}
 use Rattle.commands.proofs.VersionPlans.{stale-is, version-is, expiry-is, setter-held}

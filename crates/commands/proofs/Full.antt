@@ -1,14 +1,13 @@
 -- The store is full exactly where the fields that a command would add are more than the slots that are empty or dead.
-use mathlib.Core.Path.{_≡_, refl, _∙_}
+use mathlib.Core.Path.{_≡_, _∙_}
 use mathlib.Core.Logic.{_↔_, _⊎_, inl, inr}
-use mathlib.Core.Bool.{Bool, true, false}
+use mathlib.Core.Bool.{true, false}
 use mathlib.Core.List.{List, [], _∷_}
 use mathlib.Core.Option.{none, some}
 use Prim.Native.Nat.{ℕ, _≤_, _<_}
 use lib.Dec.{ltb}
 use native.Mathlib.Omega.{arith}
 use borrow.Author.Tests.{ltb-true, ltb-false, lt-ltb, le-ltb}
-use Rattle.wire.specs.Lists.{any}
 use Rattle.store.specs.Store.{Slot, Store}
 use Rattle.store.specs.Time.{nowAt}
 use Rattle.commands.specs.Refusal.{Check, _when_, lowest}
@@ -16,7 +15,7 @@ use Rattle.commands.specs.Command.{Command}
 use Rattle.commands.specs.Parse.{parse}
 use Rattle.commands.specs.Parse.Parsed.{accepted}
 use Rattle.commands.specs.Effect.{Effect}
-use Rattle.commands.specs.Execute.{lateChecks, passes, added, room, exec}
+use Rattle.commands.specs.Execute.{lateChecks, added, room, exec}
 use Rattle.commands.specs.Claims.{Proper}
 use Rattle.commands.proofs.Checks.{check-applies, check-passed, lowest-some, lowest-none}
 use Rattle.commands.proofs.Went.{sweptBy, effectOn, lateRefusal, accepted-refusal}

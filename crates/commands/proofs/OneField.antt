@@ -17,7 +17,6 @@ use Rattle.wire.proofs.Lists.{or-left, or-right}
 use Rattle.store.specs.Layout.{keyMost, fieldMost, valueMost, timeLimit}
 use Rattle.store.specs.declared.Found.{Found}
 use Rattle.store.specs.Store.{Entry, Store, decode}
-use Rattle.store.specs.Valid.{Short}
 use Rattle.store.specs.Promises.{Holds}
 use Rattle.commands.specs.declared.Versioning.{Versioning}
 use Rattle.commands.specs.declared.Lifetime.{Lifetime}
@@ -34,7 +33,7 @@ use Rattle.commands.specs.Command.{Deed, keyOf, fieldsOf, valuesOf, deed
 use Rattle.commands.specs.Command.Deed.{assign, increment, expire}
 use Rattle.commands.specs.Command.Command.{onField}
 use Rattle.commands.specs.Parse.{tooLong, beyond, deedLifetime, onDeed}
-use Rattle.commands.specs.Effect.{Effect, answer, barred, setEffect, incrementEffect, expireEffect, persistEffect, renumberEffect, deedEffect, effect}
+use Rattle.commands.specs.Effect.{Effect, barred, setEffect, incrementEffect, expireEffect, persistEffect, renumberEffect, deedEffect, effect}
 use Rattle.commands.specs.Execute.{settle, runOn, swept}
 use Rattle.commands.specs.ParsePromises.{deedOf, isRefusal}
 use Rattle.commands.specs.Promises.{Looked, Sought, Storable, WithinLimits, Does, Settles, Changes, answerMost, answerAbout, answersAbout, amountFits, entryFor, settledReply, tellable}

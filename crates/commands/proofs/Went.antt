@@ -1,12 +1,12 @@
 -- The three ways in which one record goes. Every law about `exec` looks at these, and at nothing else of the frame.
-use mathlib.Core.Path.{_≡_, refl, ap}
+use mathlib.Core.Path.{_≡_, refl}
 use mathlib.Core.List.{List}
 use mathlib.Core.Option.{Option, none, some}
 use Prim.Native.Nat.{ℕ}
 use Rattle.wire.specs.Lists.{orElse}
 use Rattle.store.specs.Store.{Slot, Store}
 use Rattle.store.specs.Time.{nowAt}
-use Rattle.commands.specs.Refusal.{lowest, errorLine}
+use Rattle.commands.specs.Refusal.{lowest}
 use Rattle.commands.specs.Command.{Command, keyOf, fieldsOf}
 use Rattle.commands.specs.Parse.{Parsed, parse}
 use Rattle.commands.specs.Parse.Parsed.{refused, accepted}

@@ -11,6 +11,7 @@ use Rattle.wire.specs.Words.{Word}
 use Rattle.wire.specs.Reply.{respOf}
 use Rattle.store.specs.declared.Expiry.{Expiry}
 use Rattle.store.specs.declared.Expiry.the-variants.{Never, At}
+use Rattle.store.specs.Store as stored
 use Rattle.store.specs.Store.{Slot, Store}
 use Rattle.commands.specs.Execute.{Outcome, exec}
 
@@ -35,7 +36,7 @@ abbrev pub request : ℕ → String → String → Request
 request c t r = record { clock = c; command = t; reply = r }
 
 abbrev pub entry : String → String → String → ℕ → Expiry → Slot
-entry k f v n x = some (record { key = text k; field = text f; value = text v; version = n; expiry = x })
+entry k f v n x = some (stored.entry (text k) (text f) (text v) n x)
 
 -- requests in order on a store of two empty slots, and what its two slots then hold
 pub record Row : Type 0 where

@@ -14,7 +14,7 @@ use wire::places::split;
 use wire::places::word;
 ghost use mathlib.Core.Path.{_≡_};
 ghost use mathlib.Core.Bool.{true};
-ghost use Prim.Native.Nat.{_≤_, _<_};
+ghost use Prim.Native.Nat.{_≤_};
 ghost use lib.ListN.{length, drop};
 ghost use Rattle.wire.specs.Words.{wordAt};
 ghost use Rattle.wire.specs.Promises.{wordsIn, Inside};
@@ -106,5 +106,5 @@ pub fn execute(clock: u64, command: &[u8], store: &mut [u8], reply: &mut [u8]) -
     let mut room = [[0; 2]; WORDS_MOST];
     let count = split(command, &mut room);
     let replied = run_words(clock, command, &room[..count], store, reply);
-    Executed { replied: replied }
+    Executed { replied }
 }

@@ -352,11 +352,10 @@ fn settle_deed(
         ⌜ (Sought (now bytes) (now key) (now field) (sight .found)) × (WithinLimits c) × (amountFits deed ≡ true) ⌝ }
     ensures { λ r.
         let b = now (bytes .entry) in
-        let after = now (bytes .exit) in
         let k = now (key .entry) in
         let f = now (field .entry) in
         let e = effect (sight .time) (onField k f (deedOf (now (value .entry)) deed)) (decode b .slots) in
-        ⌜ Settles (answersAbout (sight .time) after k f) (settle (sight .time) e (decode b)) b after r ⌝ }
+        ⌜ Settles (answersAbout (sight .time) (now (bytes .exit)) k f) (settle (sight .time) e (decode b)) b (now (bytes .exit)) r ⌝ }
 {
     let found = sight.found;
     match deed {
@@ -368,15 +367,15 @@ fn settle_deed(
                 });
             }
             let stamping = Stamping {
-                versioning: versioning,
-                lifetime: lifetime,
+                versioning,
+                lifetime,
             };
             assign(bytes, key, field, value, sight, stamping)
         },
         FieldDeed::Increment(sum, versioning, lifetime) => {
             let stamping = Stamping {
-                versioning: versioning,
-                lifetime: lifetime,
+                versioning,
+                lifetime,
             };
             increment(bytes, key, field, sum, sight, stamping)
         },
@@ -427,10 +426,7 @@ pub fn on_field(
         ⌜ Does (runOn time c (decode (now (bytes .entry)))) (now (bytes .exit)) (now (out .entry)) (now (out .exit)) r ⌝ }
 {
     let found = look(bytes, key, field, time);
-    let sight = Sight {
-        found: found,
-        time: time,
-    };
+    let sight = Sight { found, time };
     let settled = settle_deed(deed, bytes, key, field, value, sight);
     put_settled(settled, bytes, key, field, sight, out)
 }
