@@ -17,7 +17,7 @@ use Rattle.store.specs.Store.{Entry, Slot, Store, encodeSlot, decode, encode, w
 use Rattle.store.specs.Time.{nowAt, live}
 use Rattle.store.proofs.Encode.{decode-valid, encode-decode, length-decode}
 use Rattle.store.proofs.Places.{encode-at}
-use Rattle.commands.specs.Refusal.{_when_, lowest, bufferLeast}
+use Rattle.commands.specs.Refusal.{_when_, lowest, bufferLeast, earlyMost}
 use Rattle.commands.specs.Execute.{exec, execBytes}
 use Rattle.commands.proofs.Checks.{lowest-none}
 use Rattle.commands.proofs.Refused.{early-refusal, refused-keeps-live}
@@ -82,7 +82,7 @@ buffer-length f piece b buffer = go (lowest (checks f b buffer)) refl
 -- ---- a refused command, in the store's bytes
 
 -- 10 to 18 leave the store byte for byte
-pub early-bytes : (clock : ℕ) (command b : List ℕ) (n : ℕ) → wellFormed b ≡ true → exec clock command (decode b) .refusal ≡ some n → n ≤ 18
+pub early-bytes : (clock : ℕ) (command b : List ℕ) (n : ℕ) → wellFormed b ≡ true → exec clock command (decode b) .refusal ≡ some n → n ≤ earlyMost
     → execBytes clock command b .store ≡ b
 unfolding execBytes
 early-bytes clock command b n well r l = ap encode (early-refusal clock command (decode b) n r l) ∙ encode-decode b well
