@@ -7,11 +7,10 @@ use libc::STDIN_FILENO;
 use libc::STDOUT_FILENO;
 use std::num::wrapping_add_u64;
 use std::num::wrapping_add_usize;
-use wire::numbers::read_le;
-use wire::slices::copy;
-use wire::slices::equal;
+use wire::bytes::copy;
+use wire::bytes::equal;
+use wire::bytes::read_le;
 ghost use Prim.Native.Nat.{_≤_, _<_};
-ghost use lib.ListN.{length};
 
 const INPUT: usize = 400000;
 

@@ -20,7 +20,7 @@ use Rattle.store.proofs.Slots.{Lowest, lowest-some, lowest-nowhere, holds-none,
 use Rattle.store.proofs.Put.{Place, slot-place, getD-set, put-nowhere}
 use Rattle.store.proofs.Without.{emptied, length-without, getD-without}
 use Rattle.store.proofs.Encode.{length-decode, decode-valid}
-use Rattle.store.proofs.Searches.{found-at, found-nothing}
+use Rattle.store.proofs.Finding.{found-at, found-nothing}
 use Rattle.commands.specs.Execute.{namedDead, sweep, swept}
 use Rattle.commands.specs.Promises.{Looked, lookFor, slotAfter, withPut}
 

@@ -9,7 +9,7 @@ use Rattle.wire.specs.Lists.{any, orElse}
 use Rattle.wire.specs.Bytes.{same}
 use Rattle.wire.specs.Words.{Word}
 use Rattle.wire.proofs.Lists.{impossible, or-neither, both-ways}
-use Rattle.wire.proofs.Bytes.{same-refl, same-true}
+use Rattle.wire.proofs.ByteLaws.{same-refl, same-true}
 use Rattle.store.specs.Store.{Entry, Slot, Store, holds}
 use Rattle.store.specs.Time.{nowAt, before, live, liveSlot, slotFor, put}
 use Rattle.store.specs.Valid.{Apart}

@@ -8,10 +8,10 @@ use native.Mathlib.Omega.{arith}
 use native.Mathlib.Nat.{zero-div}
 use lib.ListN.{length}
 use Rattle.wire.specs.Lists.{orElse}
-use Rattle.wire.specs.Reply.{nil, integer, number, bulk, header, array}
+use Rattle.wire.specs.Replies.{nil, integer, number, bulk, header, array}
 use Rattle.wire.specs.declared.integers.Signed.{Signed}
 use Rattle.wire.specs.Promises.{signedFor, integerOf, Laid}
-use Rattle.wire.proofs.Signs.{sign-said}
+use Rattle.wire.proofs.IntegerSigns.{sign-said}
 use Rattle.store.specs.declared.Expiry.{Expiry}
 use Rattle.store.specs.declared.Expiry.the-variants.{Never, At}
 use Rattle.store.specs.declared.Found.{Found}
@@ -22,7 +22,7 @@ use Rattle.store.specs.Promises.{Held, entryAt}
 use Rattle.store.specs.Valid.{Fits, FitsSlot}
 use Rattle.store.proofs.Encode.{decode-valid}
 use Rattle.store.proofs.Slots.{holds-none, entry-at-lowest, lowest-entry-none}
-use Rattle.store.proofs.Searches.{named-held, found-at, found-nothing}
+use Rattle.store.proofs.Finding.{named-held, found-at, found-nothing}
 use Rattle.store.proofs.Changes.{held-entry}
 use Rattle.commands.specs.declared.Question.{Question}
 use Rattle.commands.specs.declared.Question.the-variants.{Value, Length, Exists, Versioned, Version, Seconds, Milliseconds}

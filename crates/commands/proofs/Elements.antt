@@ -6,7 +6,7 @@ use native.Mathlib.Omega.{arith}
 use borrow.Rule.Slice.PartMut.{putMid}
 use lib.ListN.{length, take, drop, length-append, length-take, length-drop}
 use Rattle.wire.specs.Promises.{Laid}
-use Rattle.wire.proofs.Laying.{laid-tail, laid-within, laid-length, tail-room}
+use Rattle.wire.proofs.ReplyLaying.{laid-tail, laid-within, laid-length, tail-room}
 
 -- of what is left, y comes next
 pub record Next (rest y more : List ℕ) : Type 0 where

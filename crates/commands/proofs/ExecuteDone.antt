@@ -15,7 +15,7 @@ use Rattle.wire.specs.Bytes.{spells}
 use Rattle.wire.specs.Words.{Word, wordsOf, wordAt}
 use Rattle.wire.specs.Promises.{Laid, wordsIn, Places}
 use Rattle.wire.proofs.Lists.{impossible, and-left, and-right}
-use Rattle.wire.proofs.Cursor.{length-words}
+use Rattle.wire.proofs.WordPlaces.{length-words}
 use Rattle.store.specs.Layout.{timeLimit}
 use Rattle.store.specs.Store.{Store, withClock, decode, encode, wellFormed}
 use Rattle.store.specs.Time.{nowAt}

@@ -12,7 +12,7 @@ use Rattle.wire.specs.declared.integers.Signed.{Signed}
 use Rattle.wire.specs.declared.integers.Integer.{Integer}
 use Rattle.wire.specs.declared.integers.Integer.the-variants as integers
 use Rattle.wire.specs.Lists.{all, isSome, orElse}
-use Rattle.wire.specs.Integer.{readInteger, lowest64, highest64}
+use Rattle.wire.specs.Integers.{readInteger, lowest64, highest64}
 use Rattle.wire.specs.Words.{Word, wordAt}
 use Rattle.wire.specs.Promises.{integerFor, integerOf}
 use Rattle.wire.proofs.Lists.{impossible}

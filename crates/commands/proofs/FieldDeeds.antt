@@ -11,16 +11,16 @@ use lib.ListN.{length, take, getD}
 use borrow.Author.Tests.{not-true, not-false}
 use Rattle.wire.specs.Lists.{any, isSome, onlyIf, orElse}
 use Rattle.wire.specs.Bytes.{Bytes}
-use Rattle.wire.specs.Integer.{readInteger, lowest64, highest64, within, integerText}
-use Rattle.wire.specs.Reply.{integer, number}
+use Rattle.wire.specs.Integers.{readInteger, lowest64, highest64, within, integerText}
+use Rattle.wire.specs.Replies.{integer, number}
 use Rattle.wire.specs.declared.integers.Signed.{Signed}
 use Rattle.wire.specs.declared.integers.Integer.{Integer}
 use Rattle.wire.specs.declared.integers.Integer.the-variants as integers
 use Rattle.wire.specs.Promises.{signedFor, integerFor, integerOf, Laid}
-use Rattle.wire.proofs.Integer.{read-within, length-integerText}
-use Rattle.wire.proofs.Signs.{sign-said}
-use Rattle.wire.proofs.Reply.{length-integer64}
-use Rattle.wire.proofs.Laying.{take-laid, laid-length, laid-within}
+use Rattle.wire.proofs.IntegerLaws.{read-within, length-integerText}
+use Rattle.wire.proofs.IntegerSigns.{sign-said}
+use Rattle.wire.proofs.ReplyLaws.{length-integer64}
+use Rattle.wire.proofs.ReplyLaying.{take-laid, laid-length, laid-within}
 use Rattle.wire.proofs.Lists.{impossible, and-left, and-both, both-ways}
 use Rattle.store.specs.Layout.{versionMost, timeLimit}
 use Rattle.store.specs.declared.Expiry.{Expiry}

@@ -9,12 +9,12 @@ use lib.ListN.{length, take, drop, length-map, length-drop, drop-of-length-le}
 use lib.Seq.{drop-cons, take-all, getD-drop}
 use Rattle.wire.specs.Lists.{keep, orElse}
 use Rattle.wire.specs.Words.{Word, wordAt}
-use Rattle.wire.specs.Reply.{header, array}
+use Rattle.wire.specs.Replies.{header, array}
 use Rattle.wire.specs.Promises.{wordIn, wordsIn, Inside, Laid}
 use Rattle.wire.proofs.Lists.{length-keep}
-use Rattle.wire.proofs.Laying.{laid-length}
-use Rattle.wire.proofs.Reply.{length-header}
-use Rattle.wire.proofs.Cursor.{length-words}
+use Rattle.wire.proofs.ReplyLaying.{laid-length}
+use Rattle.wire.proofs.ReplyLaws.{length-header}
+use Rattle.wire.proofs.WordPlaces.{length-words}
 use Rattle.store.specs.Layout.{slotsMost}
 use Rattle.store.specs.Store.{Slot, Store, decode, wellFormed}
 use Rattle.store.specs.Time.{liveOfKey}

@@ -9,10 +9,10 @@ use native.Mathlib.Omega.{arith}
 use Rattle.wire.specs.Lists.{any, keep, orElse}
 use Rattle.wire.specs.Bytes.{text}
 use Rattle.wire.specs.Words.{Word}
-use Rattle.wire.specs.Reply.{header, line, number, bulk, array}
-use Rattle.wire.proofs.Bytes.{bytes-append}
+use Rattle.wire.specs.Replies.{header, line, number, bulk, array}
+use Rattle.wire.proofs.ByteLaws.{bytes-append}
 use Rattle.wire.proofs.Lists.{length-keep}
-use Rattle.wire.proofs.Reply.{bytes-header, length-header}
+use Rattle.wire.proofs.ReplyLaws.{bytes-header, length-header}
 use Rattle.store.specs.Layout.{slotsMost}
 use Rattle.store.specs.Store.{Entry, Slot, Store, holds}
 use Rattle.store.specs.Time.{nowAt, entryOf, ofKey, liveOfKey}

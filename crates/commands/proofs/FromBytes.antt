@@ -10,13 +10,13 @@ use lib.ListN.{length}
 use Rattle.wire.specs.declared.names.RowFound.{RowFound}
 use Rattle.wire.specs.declared.names.RowFound.the-variants as rows
 use Rattle.wire.specs.Lists.{isSome, orElse}
-use Rattle.wire.specs.Integer.{readInteger, lowest64, highest64, within}
+use Rattle.wire.specs.Integers.{readInteger, lowest64, highest64, within}
 use Rattle.wire.specs.Words.{Word, wordsOf, wordAt}
 use Rattle.wire.specs.Promises.{wordsIn, rowFor, rowNamed}
 use Rattle.wire.proofs.Lists.{impossible}
-use Rattle.wire.proofs.Rows.{row-nothing, row-at}
-use Rattle.wire.proofs.Cursor.{length-words}
-use Rattle.wire.proofs.Integer.{read-within}
+use Rattle.wire.proofs.NameRows.{row-nothing, row-at}
+use Rattle.wire.proofs.WordPlaces.{length-words}
+use Rattle.wire.proofs.IntegerLaws.{read-within}
 use Rattle.store.specs.Layout.{timeLimit}
 use Rattle.commands.specs.declared.Parsed.{Parsed}
 use Rattle.commands.specs.declared.Parsed.the-variants as parses

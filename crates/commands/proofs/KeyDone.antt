@@ -8,7 +8,7 @@ use borrow.Author.Tests.{le-ltb}
 use lib.ListN.{length, drop}
 use Rattle.wire.specs.Lists.{any, keep, orElse}
 use Rattle.wire.specs.Words.{Word, wordAt}
-use Rattle.wire.specs.Reply.{number, array}
+use Rattle.wire.specs.Replies.{number, array}
 use Rattle.wire.specs.Promises.{wordsIn, Laid}
 use Rattle.wire.proofs.Lists.{length-keep}
 use Rattle.store.specs.Layout.{slotsMost}

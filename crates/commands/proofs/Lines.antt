@@ -11,7 +11,7 @@ use Rattle.wire.specs.Bytes.{same, text}
 use Rattle.wire.specs.Words.{crlf}
 use Rattle.wire.specs.Promises.{Laid}
 use Rattle.wire.proofs.Lists.{and-left, and-right, every-at, both-ways}
-use Rattle.wire.proofs.Bytes.{same-true}
+use Rattle.wire.proofs.ByteLaws.{same-true}
 use Rattle.commands.specs.Refusal.{table, lateMost, errorLine}
 use Rattle.commands.specs.ParsePromises.{isRefusal}
 use Rattle.commands.proofs.Computing.{computing}

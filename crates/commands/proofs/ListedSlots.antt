@@ -13,9 +13,9 @@ use lib.Seq.{drop-drop, getD-drop, ext-getD}
 use Rattle.wire.specs.Lists.{keep, orElse}
 use Rattle.wire.specs.Bytes.{same}
 use Rattle.wire.specs.Words.{Word}
-use Rattle.wire.specs.Reply.{bulk}
+use Rattle.wire.specs.Replies.{bulk}
 use Rattle.wire.proofs.Lists.{both-ways}
-use Rattle.wire.proofs.Laying.{front-room}
+use Rattle.wire.proofs.ReplyLaying.{front-room}
 use Rattle.store.specs.declared.Found.{Found}
 use Rattle.store.specs.declared.Found.the-variants as founds
 use Rattle.store.specs.Store.{Entry, Slot, decode, wellFormed, holds}
@@ -27,7 +27,7 @@ use Rattle.store.proofs.Slots.{Lowest, lowest-some, lowest-nowhere, holds-none,
 use Rattle.store.proofs.Put.{getD-set}
 use Rattle.store.proofs.Without.{emptied, length-without, getD-without}
 use Rattle.store.proofs.Encode.{decode-valid, length-decode}
-use Rattle.store.proofs.Searches.{found-at, found-nothing, found-held}
+use Rattle.store.proofs.Finding.{found-at, found-nothing, found-held}
 use Rattle.store.proofs.Changes.{held-entry}
 use Rattle.commands.specs.declared.Listing.{Listing}
 use Rattle.commands.specs.declared.Listing.the-variants.{Fields, Values, Both}

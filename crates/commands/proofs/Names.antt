@@ -7,7 +7,7 @@ use Rattle.wire.specs.Lists.{any, orElse}
 use Rattle.wire.specs.Bytes.{same}
 use Rattle.wire.specs.Words.{Word}
 use Rattle.wire.proofs.Lists.{or-late}
-use Rattle.wire.proofs.Bytes.{same-refl, same-true, same-sym}
+use Rattle.wire.proofs.ByteLaws.{same-refl, same-true, same-sym}
 use Rattle.store.specs.Store.{Entry, Slot, holds}
 use Rattle.store.specs.Time.{entryOf, put}
 use Rattle.commands.specs.declared.Versioning.the-variants.{Next}

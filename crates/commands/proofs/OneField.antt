@@ -9,8 +9,8 @@ use lib.Dec.{ltb}
 use lib.ListN.{length}
 use borrow.Author.Tests.{ltb-false}
 use Rattle.wire.specs.Lists.{any}
-use Rattle.wire.specs.Integer.{lowest64, highest64, within}
-use Rattle.wire.specs.Reply.{integer}
+use Rattle.wire.specs.Integers.{lowest64, highest64, within}
+use Rattle.wire.specs.Replies.{integer}
 use Rattle.wire.specs.declared.integers.Signed.{Signed}
 use Rattle.wire.specs.Promises.{integerOf, Laid}
 use Rattle.wire.proofs.Lists.{or-left, or-right}

@@ -12,12 +12,12 @@ use Rattle.wire.specs.declared.integers.Signed.{Signed}
 use Rattle.wire.specs.declared.integers.Integer.{Integer}
 use Rattle.wire.specs.declared.integers.Integer.the-variants as integers
 use Rattle.wire.specs.Lists.{isSome, orElse}
-use Rattle.wire.specs.Integer.{readInteger, readNatural, lowest64, highest64}
+use Rattle.wire.specs.Integers.{readInteger, readNatural, lowest64, highest64}
 use Rattle.wire.specs.Words.{Word, wordAt}
 use Rattle.wire.specs.Promises.{naturalFor, integerFor}
 use Rattle.wire.proofs.Lists.{impossible}
-use Rattle.wire.proofs.Integer.{natural-read, readNatural-most}
-use Rattle.wire.proofs.Signs.{read-value, read-refused}
+use Rattle.wire.proofs.IntegerLaws.{natural-read, readNatural-most}
+use Rattle.wire.proofs.IntegerSigns.{read-value, read-refused}
 use Rattle.store.specs.Layout.{timeLimit, versionMost}
 use Rattle.commands.specs.declared.operands.Timed.the-variants as timeds
 use Rattle.commands.specs.declared.operands.Versioned.the-variants as versioneds

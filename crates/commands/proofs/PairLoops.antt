@@ -20,7 +20,7 @@ use Rattle.store.specs.Time.{lowestSlot, put}
 use Rattle.store.specs.declared.Expiry.the-variants.{Never}
 use Rattle.store.specs.Promises.{Holds, foundFor}
 use Rattle.store.specs.Valid.{Short}
-use Rattle.store.proofs.Searches.{any-lowest}
+use Rattle.store.proofs.Finding.{any-lowest}
 use Rattle.commands.specs.declared.pairs.Survey.the-variants as surveys
 use Rattle.commands.specs.Command.{Pair, keyOf, fieldsOf, valuesOf}
 use Rattle.commands.specs.Command.Command.{setMany}

@@ -12,7 +12,7 @@ use Rattle.wire.specs.Lists.{any, keep, orElse}
 use Rattle.wire.specs.Bytes.{same}
 use Rattle.wire.specs.Words.{Word, wordsMost}
 use Rattle.wire.proofs.Lists.{or-late, both-ways}
-use Rattle.wire.proofs.Bytes.{same-refl, same-true, same-sym}
+use Rattle.wire.proofs.ByteLaws.{same-refl, same-true, same-sym}
 use Rattle.store.specs.Layout.{versionMost}
 use Rattle.store.specs.Store.{Entry, Slot, holds}
 use Rattle.store.specs.Time.{before, live, liveSlot, emptySlot, deadSlot, lowestSlot, slotFor, entryOf, put}

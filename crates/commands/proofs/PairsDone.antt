@@ -9,7 +9,7 @@ use borrow.Author.Tests.{lt-ltb, le-ltb}
 use lib.ListN.{length}
 use Rattle.wire.specs.Lists.{any, orElse}
 use Rattle.wire.specs.Words.{Word, wordsMost}
-use Rattle.wire.specs.Reply.{line}
+use Rattle.wire.specs.Replies.{line}
 use Rattle.wire.specs.Promises.{Laid}
 use Rattle.store.specs.Store.{Entry, Slot, Store, decode}
 use Rattle.store.specs.Time.{live, entryOf}

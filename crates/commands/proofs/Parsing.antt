@@ -13,11 +13,11 @@ use Rattle.wire.specs.declared.integers.Signed.{Signed}
 use Rattle.wire.specs.declared.integers.Integer.{Integer}
 use Rattle.wire.specs.declared.integers.Integer.the-variants as integers
 use Rattle.wire.specs.Lists.{all, isSome, orElse}
-use Rattle.wire.specs.Integer.{readInteger, lowest64, highest64}
+use Rattle.wire.specs.Integers.{readInteger, lowest64, highest64}
 use Rattle.wire.specs.Words.{Word, wordAt}
 use Rattle.wire.specs.Promises.{signedFor, integerFor, integerOf}
 use Rattle.wire.proofs.Lists.{impossible}
-use Rattle.wire.proofs.Signs.{sign-said}
+use Rattle.wire.proofs.IntegerSigns.{sign-said}
 use Rattle.commands.specs.declared.Condition.the-variants as conditions
 use Rattle.commands.specs.declared.Lifetime.{Lifetime}
 use Rattle.commands.specs.declared.Versioning.{Versioning}

@@ -13,7 +13,7 @@ use Rattle.wire.specs.Lists.{any, keep, orElse}
 use Rattle.wire.specs.Bytes.{same}
 use Rattle.wire.specs.Words.{Word}
 use Rattle.wire.proofs.Lists.{or-late, both-ways, any-none, any-some}
-use Rattle.wire.proofs.Bytes.{same-refl}
+use Rattle.wire.proofs.ByteLaws.{same-refl}
 use Rattle.store.specs.Store.{Entry, Slot, holds, clash}
 use Rattle.store.specs.Time.{live, liveSlot, roomSlot, slotFor, put}
 use Rattle.store.specs.Valid.{Apart}

@@ -12,11 +12,11 @@ use native.Mathlib.Omega.{arith}
 use borrow.Author.Tests.{leb-true, not-false}
 use Rattle.wire.specs.Lists.{all, orElse}
 use Rattle.wire.specs.Bytes.{text}
-use Rattle.wire.specs.Integer.{lowest64, highest64, within}
+use Rattle.wire.specs.Integers.{lowest64, highest64, within}
 use Rattle.wire.specs.Words.{Word}
-use Rattle.wire.specs.Reply.{nil, line, integer, number, bulk, array}
+use Rattle.wire.specs.Replies.{nil, line, integer, number, bulk, array}
 use Rattle.wire.proofs.Lists.{and-left, and-right}
-use Rattle.wire.proofs.Reply.{bytes-nil, bytes-integer, bytes-bulk, bytes-array, length-number, length-bulk, length-array, length-nil, length-integer, length-integer64}
+use Rattle.wire.proofs.ReplyLaws.{bytes-nil, bytes-integer, bytes-bulk, bytes-array, length-number, length-bulk, length-array, length-nil, length-integer, length-integer64}
 use Rattle.store.specs.Layout.{timeLimit}
 use Rattle.store.specs.declared.Expiry.{Expiry}
 use Rattle.store.specs.declared.Expiry.the-variants.{Never, At}

@@ -18,8 +18,8 @@ use Rattle.wire.specs.Bytes.{part, padded, same, text, upper, spells}
 use Rattle.wire.specs.Words.{Word}
 use Rattle.wire.specs.Promises.{nameSize, dataSize, rowSize, nameIn, rowFrom, rowNamed, rowFor, datumIn, Table}
 use Rattle.wire.proofs.Lists.{and-left, and-right, all-at}
-use Rattle.wire.proofs.Rows.{row-at}
-use Rattle.wire.proofs.Bytes.{same-true, length-padded, padded-at}
+use Rattle.wire.proofs.NameRows.{row-at}
+use Rattle.wire.proofs.ByteLaws.{same-true, length-padded, padded-at}
 use Rattle.commands.specs.Options.{OptionRow, OptionKind, _means_, options, optionCount, groupCount, group, optionNamed}
 use Rattle.commands.specs.Options.OptionKind.{noExp}
 use Rattle.commands.specs.Parse.{CommandRow, row, commands, commandCount, commandNamed}

@@ -12,14 +12,14 @@ use lib.ListN.{length, getD, drop, set, replicate, length-set, getD-replicate, d
 use lib.Seq.{drop-cons, getD-set-same, getD-set-other}
 use Rattle.wire.specs.declared.names.RowFound.{RowFound}
 use Rattle.wire.specs.declared.names.RowFound.the-variants as rows
-use Rattle.wire.specs.declared.places.Next.{Next}
-use Rattle.wire.specs.declared.places.Next.the-variants as nexts
+use Rattle.wire.specs.declared.words.Next.{Next}
+use Rattle.wire.specs.declared.words.Next.the-variants as nexts
 use Rattle.wire.specs.Lists.{any, isSome, onlyIf, orElse}
 use Rattle.wire.specs.Words.{Word, wordAt}
 use Rattle.wire.specs.Promises.{rowFor, rowNamed, nextOf}
 use Rattle.wire.proofs.Lists.{or-left, or-right, or-neither, or-late, both-ways, impossible}
-use Rattle.wire.proofs.Rows.{row-nothing, row-at}
-use Rattle.wire.proofs.Cursor.{next-end, next-at}
+use Rattle.wire.proofs.NameRows.{row-nothing, row-at}
+use Rattle.wire.proofs.WordPlaces.{next-end, next-at}
 use Rattle.commands.specs.declared.options.ScannedOptions as code
 use Rattle.commands.specs.Options.{OptionKind, Range, Given, _with_, options, group, groupCount, operandRange, optionNamed, scan, conflicting, givenOf}
 use Rattle.commands.specs.Tables.{kindIn, sizeOf, optionData, groupAt, saidAt, sizeAt, optionTable, optionOf}

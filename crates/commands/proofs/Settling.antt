@@ -9,8 +9,8 @@ use lib.ListN.{getD}
 use native.Mathlib.Omega.{arith}
 use borrow.Author.Tests.{lt-ltb, le-ltb}
 use Rattle.wire.specs.Lists.{any, all, orElse}
-use Rattle.wire.specs.Integer.{lowest64, highest64, within}
-use Rattle.wire.specs.Reply.{integer}
+use Rattle.wire.specs.Integers.{lowest64, highest64, within}
+use Rattle.wire.specs.Replies.{integer}
 use Rattle.wire.specs.declared.integers.Signed.{Signed}
 use Rattle.wire.specs.Promises.{integerOf, Laid}
 use Rattle.wire.proofs.Lists.{any-at, both-ways}
@@ -20,7 +20,7 @@ use Rattle.store.specs.Store.{Entry, Slot, Store, withSlots, decode, wellFormed
 use Rattle.store.specs.Time.{before, live, liveSlot, roomSlot, slotFor, put}
 use Rattle.store.specs.Promises.{Holds, withSlot}
 use Rattle.store.proofs.Put.{Place, slot-place}
-use Rattle.store.proofs.Searches.{found-at, found-nothing}
+use Rattle.store.proofs.Finding.{found-at, found-nothing}
 use Rattle.commands.specs.declared.Question.{Question}
 use Rattle.commands.specs.declared.field.WriteOutcome.{WriteOutcome}
 use Rattle.commands.specs.declared.field.WriteOutcome.the-variants as writes

@@ -12,7 +12,7 @@ use borrow.Author.Tests.{ltb-false, ltb-true}
 use Rattle.wire.specs.Lists.{any, isSome}
 use Rattle.wire.specs.Bytes.{Bytes}
 use Rattle.wire.specs.Words.{Word, wordsMost, wordsOf, wordAt}
-use Rattle.wire.proofs.Words.{words-bytes, words-count}
+use Rattle.wire.proofs.WordLaws.{words-bytes, words-count}
 use Rattle.wire.proofs.Lists.{or-left, or-right, any-at}
 use Rattle.store.specs.Layout.{keyMost, fieldMost, valueMost, timeLimit}
 use Rattle.commands.specs.Command.{Deed, Command, keyOf, fieldsOf, valuesOf, deedValues}

@@ -9,7 +9,7 @@ use borrow.Author.Tests.{not-false}
 use Rattle.wire.specs.Lists.{any, keep, orElse}
 use Rattle.wire.specs.Bytes.{same}
 use Rattle.wire.specs.Words.{Word}
-use Rattle.wire.proofs.Bytes.{same-refl}
+use Rattle.wire.proofs.ByteLaws.{same-refl}
 use Rattle.store.specs.Store.{Entry, Slot}
 use Rattle.store.specs.Time.{live, liveSlot, roomSlot, entryOf, without}
 use Rattle.store.specs.Valid.{AllFit, Apart}

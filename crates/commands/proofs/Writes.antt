@@ -9,10 +9,10 @@ use lib.ListN.{length}
 use native.Mathlib.Omega.{arith}
 use borrow.Author.Tests.{ltb-false, not-false}
 use Rattle.wire.specs.Lists.{any, orElse}
-use Rattle.wire.specs.Integer.{lowest64, highest64, within, integerText}
+use Rattle.wire.specs.Integers.{lowest64, highest64, within, integerText}
 use Rattle.wire.specs.Words.{Word}
-use Rattle.wire.specs.Reply.{integer, number}
-use Rattle.wire.proofs.Integer.{bytes-integerText, length-integerText}
+use Rattle.wire.specs.Replies.{integer, number}
+use Rattle.wire.proofs.IntegerLaws.{bytes-integerText, length-integerText}
 use Rattle.wire.proofs.Lists.{and-left, or-left, or-right}
 use Rattle.store.specs.Layout.{keyMost, fieldMost, valueMost, versionMost, timeLimit}
 use Rattle.store.specs.declared.Expiry.{Expiry}

@@ -9,9 +9,9 @@ use lib.IntN.{ℤ, pos, negsuc, _+ℤ_}
 use lib.ListN.{length}
 use Rattle.wire.specs.Lists.{any, keep, isSome, orElse}
 use Rattle.wire.specs.Bytes.{same}
-use Rattle.wire.specs.Integer.{readInteger, lowest64, highest64, within, integerText}
+use Rattle.wire.specs.Integers.{readInteger, lowest64, highest64, within, integerText}
 use Rattle.wire.specs.Words.{Word}
-use Rattle.wire.specs.Reply.{line, nil, integer, number, bulk, array}
+use Rattle.wire.specs.Replies.{line, nil, integer, number, bulk, array}
 use Rattle.store.specs.declared.Expiry.{Expiry}
 use Rattle.store.specs.declared.Expiry.the-variants.{Never, At}
 use Rattle.store.specs.Store.{Entry, entry, withVersion, withExpiry, Slot, holds}

@@ -8,7 +8,7 @@ use Prim.Native.String.{String}
 use lib.Dec.{eqb}
 use Rattle.wire.specs.Bytes.{text}
 use Rattle.wire.specs.Words.{Word}
-use Rattle.wire.specs.Reply.{respOf}
+use Rattle.wire.specs.Replies.{respOf}
 use Rattle.store.specs.declared.Expiry.{Expiry}
 use Rattle.store.specs.declared.Expiry.the-variants.{Never, At}
 use Rattle.store.specs.Store as stored

@@ -8,7 +8,7 @@ use lib.Dec.{eqb}
 use lib.IntN.{ℤ, pos, natAbs}
 use Rattle.wire.specs.Lists.{any, isSome, orElse}
 use Rattle.wire.specs.Bytes.{spells}
-use Rattle.wire.specs.Integer.{readInteger, lowest64, highest64}
+use Rattle.wire.specs.Integers.{readInteger, lowest64, highest64}
 use Rattle.wire.specs.Words.{Word}
 use Rattle.store.specs.Layout.{timeLimit, versionMost}
 use Rattle.commands.specs.declared.Versioning.{Versioning}

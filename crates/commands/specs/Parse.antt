@@ -8,7 +8,7 @@ use lib.Dec.{leb, ltb, eqb}
 use lib.ListN.{length, drop}
 use Rattle.wire.specs.Lists.{all, any, isSome, orElse}
 use Rattle.wire.specs.Bytes.{spells}
-use Rattle.wire.specs.Integer.{lowest64, highest64}
+use Rattle.wire.specs.Integers.{lowest64, highest64}
 use Rattle.wire.specs.Words.{Word, wordAt, wordsOf}
 use Rattle.store.specs.Layout.{keyMost, fieldMost, valueMost, timeLimit}
 use Rattle.commands.specs.declared.Versioning.{Versioning}

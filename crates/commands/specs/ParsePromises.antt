@@ -7,7 +7,7 @@ use Prim.Native.Nat.{ℕ, _+_, _*_, _≤_, _<_}
 use lib.Dec.{ltb, eqb}
 use lib.ListN.{length, drop, getD}
 use Rattle.wire.specs.Lists.{any, isSome, orElse}
-use Rattle.wire.specs.Integer.{readInteger, lowest64, highest64}
+use Rattle.wire.specs.Integers.{readInteger, lowest64, highest64}
 use Rattle.wire.specs.Words.{Word, wordAt, wordsOf}
 use Rattle.wire.specs.declared.integers.Signed.{Signed}
 use Rattle.wire.specs.declared.integers.Integer.{Integer}

@@ -9,10 +9,10 @@ use lib.IntN.{ℤ, negsuc, _+ℤ_}
 use lib.ListN.{length}
 use Rattle.wire.specs.Lists.{any, keep, orElse, onlyIf}
 use Rattle.wire.specs.Bytes.{same}
-use Rattle.wire.specs.Integer.{lowest64, highest64, within}
+use Rattle.wire.specs.Integers.{lowest64, highest64, within}
 use Rattle.wire.specs.Words.{Word, wordsMost}
 use Rattle.wire.specs.declared.integers.Signed.{Signed}
-use Rattle.wire.specs.Reply.{integer, laidOver}
+use Rattle.wire.specs.Replies.{integer, laidOver}
 use Rattle.wire.specs.Promises.{signedFor, integerOf, Inside, Laid}
 use Rattle.store.specs.declared.Expiry.{Expiry}
 use Rattle.store.specs.declared.Expiry.the-variants.{Never}

@@ -5,7 +5,7 @@ use mathlib.Core.Option.{Option, none, some}
 use Prim.Native.Nat.{ℕ}
 use Prim.Native.String.{String}
 use lib.Dec.{eqb}
-use Rattle.wire.specs.Reply.{line}
+use Rattle.wire.specs.Replies.{line}
 
 -- a row of the table: the number of a refusal and its reply
 pub record RefusalRow : Type 0 where

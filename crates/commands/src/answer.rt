@@ -16,7 +16,7 @@ ghost use mathlib.Core.List.{[], _∷_};
 ghost use mathlib.Core.Option.{none, some};
 ghost use Prim.Native.Nat.{_≤_};
 ghost use lib.ListN.{length};
-ghost use Rattle.wire.specs.Reply.{bulk, number, array};
+ghost use Rattle.wire.specs.Replies.{bulk, number, array};
 ghost use Rattle.wire.specs.Promises.{Laid};
 ghost use Rattle.store.specs.Store.{decode, wellFormed};
 ghost use Rattle.store.specs.Promises.{Held, entryAt};

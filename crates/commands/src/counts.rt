@@ -12,7 +12,7 @@ use crate::table::command_datum;
 use store::layout::FIELD_MOST;
 use store::layout::KEY_MOST;
 use store::layout::VALUE_MOST;
-use wire::places::word;
+use wire::words::word;
 ghost use mathlib.Core.Path.{_≡_};
 ghost use mathlib.Core.List.{List};
 ghost use Prim.Native.Nat.{ℕ, _<_};

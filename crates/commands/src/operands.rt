@@ -22,7 +22,7 @@ use wire::integers::Natural;
 use wire::integers::Signed;
 use wire::integers::read_integer;
 use wire::integers::read_natural;
-use wire::places::word;
+use wire::words::word;
 ghost use mathlib.Core.Path.{_≡_};
 ghost use Prim.Native.Nat.{_≤_, _<_};
 ghost use Rattle.wire.specs.Words.{wordAt};

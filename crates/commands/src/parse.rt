@@ -37,7 +37,7 @@ use store::layout::VERSION_MOST;
 use wire::integers::Natural;
 use wire::integers::read_natural;
 use wire::names::RowFound;
-use wire::places::word;
+use wire::words::word;
 ghost use mathlib.Core.Path.{_≡_};
 ghost use Prim.Native.Nat.{ℕ, _<_};
 ghost use Rattle.wire.specs.Promises.{wordsIn, Inside};

@@ -67,7 +67,8 @@ pub const ONE_FIELD: usize = 3;
 // The commands.
 const COMMAND_COUNT: usize = 23;
 
-const COMMANDS: [u8; ROW_SIZE * COMMAND_COUNT] = *b"\x06EXHSET\0\0\0\0\0\0\0\0\0\x00\x00\x04\x01\x04\
+const COMMANDS: [u8; ROW_SIZE * COMMAND_COUNT] =
+    *b"\x06EXHSET\0\0\0\0\0\0\0\0\0\x00\x00\x04\x01\x04\
     \x07EXHMSET\0\0\0\0\0\0\0\0\x01\x00\x04\x02\x02\
     \x09EXHINCRBY\0\0\0\0\0\0\x02\x00\x04\x01\x03\
     \x09EXHEXPIRE\0\0\0\0\0\0\x03\x00\x04\x01\x03\
@@ -125,7 +126,8 @@ pub const MATCHED: usize = 0;
 // The options.
 const OPTION_COUNT: usize = 12;
 
-const OPTIONS: [u8; ROW_SIZE * OPTION_COUNT] = *b"\x02EX\0\0\0\0\0\0\0\0\0\0\0\0\0\x00\x00\x02\x00\x00\
+const OPTIONS: [u8; ROW_SIZE * OPTION_COUNT] =
+    *b"\x02EX\0\0\0\0\0\0\0\0\0\0\0\0\0\x00\x00\x02\x00\x00\
     \x04EXAT\0\0\0\0\0\0\0\0\0\0\0\x00\x01\x02\x00\x00\
     \x02PX\0\0\0\0\0\0\0\0\0\0\0\0\0\x00\x02\x02\x00\x00\
     \x04PXAT\0\0\0\0\0\0\0\0\0\0\0\x00\x03\x02\x00\x00\

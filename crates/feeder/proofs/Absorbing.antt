@@ -10,10 +10,10 @@ use lib.Seq.{take-all, length-take-le, drop-append-le, drop-append-add, drop-dro
 use borrow.Rule.Slice.PartMut.{putMid}
 use Rattle.wire.specs.Lists.{orElse}
 use Rattle.wire.specs.Bytes.{allZero, fromLE, part, padded}
-use Rattle.wire.specs.Reply.{laidOver}
+use Rattle.wire.specs.Replies.{laidOver}
 use Rattle.wire.specs.Promises.{Laid}
-use Rattle.wire.proofs.Bytes.{zero-is, zero-drop, zero-replicate}
-use Rattle.wire.proofs.Laying.{laid-whole, laid-copied, laid-tail}
+use Rattle.wire.proofs.ByteLaws.{zero-is, zero-drop, zero-replicate}
+use Rattle.wire.proofs.ReplyLaying.{laid-whole, laid-copied, laid-tail}
 use Rattle.feeder.specs.declared.Feeder.{Feeder}
 use Rattle.feeder.specs.declared.absorb.Completed.{Completed}
 use Rattle.feeder.specs.declared.absorb.Completed.the-variants as completions

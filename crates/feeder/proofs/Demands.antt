@@ -10,11 +10,11 @@ use Prim.Native.Nat.{ℕ, _+_, _*_, _≤_, _<_}
 use lib.IntN.{ℤ}
 use lib.ListN.{length, getD}
 use Rattle.wire.specs.Bytes.{Bytes, part}
-use Rattle.wire.specs.Integer.{within, readInteger, integerText}
+use Rattle.wire.specs.Integers.{within, readInteger, integerText}
 use Rattle.wire.specs.Words.{Word, wordsOf}
-use Rattle.wire.specs.Reply.{respOf}
-use Rattle.wire.proofs.Integer.{read-text, text-read}
-use Rattle.wire.proofs.Words.{words-respOf, respOf-words}
+use Rattle.wire.specs.Replies.{respOf}
+use Rattle.wire.proofs.IntegerLaws.{read-text, text-read}
+use Rattle.wire.proofs.WordLaws.{words-respOf, respOf-words}
 use Rattle.store.specs.Layout.{headerSize, slotSize}
 use Rattle.store.specs.Store.{Entry, Slot, Store, withClock, decode, encode, wellFormed, slotCount}
 use Rattle.store.specs.Time.{nowAt, live}

@@ -13,8 +13,8 @@ use lib.Seq.{take-all}
 use borrow.Author.Tests.{ltb-true, ltb-false}
 use Rattle.wire.specs.Lists.{orElse}
 use Rattle.wire.specs.Bytes.{Bytes}
-use Rattle.wire.proofs.Bytes.{bytes-append, bytes-take, bytes-drop, bytes-part, bytes-tail}
-use Rattle.wire.proofs.Laying.{take-laid}
+use Rattle.wire.proofs.ByteLaws.{bytes-append, bytes-take, bytes-drop, bytes-part, bytes-tail}
+use Rattle.wire.proofs.ReplyLaying.{take-laid}
 use Rattle.store.specs.Store.{wellFormed}
 use Rattle.commands.specs.Refusal.{lowest, bufferLeast}
 use Rattle.commands.specs.Execute.{execBytes}

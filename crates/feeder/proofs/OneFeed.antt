@@ -9,7 +9,7 @@ use lib.ListN.{length, take, drop}
 use borrow.Author.Tests.{lt-ltb, le-ltb}
 use Rattle.wire.specs.Lists.{orElse}
 use Rattle.wire.specs.Bytes.{part}
-use Rattle.wire.specs.Reply.{laidOver}
+use Rattle.wire.specs.Replies.{laidOver}
 use Rattle.store.specs.Store.{wellFormed}
 use Rattle.commands.specs.Refusal.{lowest, bufferLeast}
 use Rattle.commands.specs.declared.Executed.{Executed}

@@ -11,7 +11,7 @@ use lib.ListN.{length, getD}
 use borrow.Author.Tests.{ltb-false, not-false}
 use Rattle.wire.specs.Lists.{orElse}
 use Rattle.wire.specs.Bytes.{Bytes, part}
-use Rattle.wire.proofs.Laying.{length-laid}
+use Rattle.wire.proofs.ReplyLaying.{length-laid}
 use Rattle.store.specs.Layout.{headerSize, slotSize}
 use Rattle.store.specs.Store.{Entry, Slot, Store, encodeSlot, decode, encode, wellFormed, slotCount}
 use Rattle.store.specs.Time.{nowAt, live}

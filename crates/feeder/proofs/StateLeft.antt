@@ -11,9 +11,9 @@ use lib.Seq.{take-all, length-take-le}
 use borrow.Author.Tests.{eqb-true, leb-true, eq-eqb, le-leb, lt-leb}
 use Rattle.wire.specs.Lists.{every}
 use Rattle.wire.specs.Bytes.{Bytes, allZero, padded, same}
-use Rattle.wire.proofs.Bytes.{bytes-padded, length-padded, take-padded, drop-padded, same-refl, same-true, zero-replicate}
+use Rattle.wire.proofs.ByteLaws.{bytes-padded, length-padded, take-padded, drop-padded, same-refl, same-true, zero-replicate}
 use Rattle.wire.proofs.Lists.{every-at}
-use Rattle.wire.proofs.Passing.{not-same}
+use Rattle.wire.proofs.ByteLoops.{not-same}
 use Rattle.feeder.specs.declared.Feeder.{Feeder}
 use Rattle.feeder.specs.declared.record.Head as codes
 use Rattle.feeder.specs.declared.record.Head.the-variants as heads

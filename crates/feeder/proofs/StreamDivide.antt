@@ -7,7 +7,7 @@ use native.Mathlib.Nat.{zero-add, suc-add, not-suc-le-zero}
 use native.Mathlib.Omega.{arith}
 use lib.ListN.{length, drop}
 use Rattle.wire.specs.Bytes.{Bytes}
-use Rattle.wire.proofs.Bytes.{bytes-drop}
+use Rattle.wire.proofs.ByteLaws.{bytes-drop}
 use Rattle.commands.specs.Execute.{execBytes}
 use Rattle.feeder.specs.Record.{Record, Head, headOf, recordOf, commandAt}
 use Rattle.feeder.specs.Record.Head.{skip, whole, wait}

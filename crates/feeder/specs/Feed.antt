@@ -6,7 +6,7 @@ use Prim.Native.Nat.{ℕ}
 use lib.Dec.{ltb}
 use lib.ListN.{length}
 use Rattle.wire.specs.Lists.{orElse}
-use Rattle.wire.specs.Reply.{laidOver}
+use Rattle.wire.specs.Replies.{laidOver}
 use Rattle.store.specs.Store.{wellFormed}
 use Rattle.commands.specs.Refusal.{bufferLeast, Check, _when_, lowest}
 use Rattle.commands.specs.Execute.{Done, execBytes}

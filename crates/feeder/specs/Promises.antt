@@ -6,7 +6,7 @@ use Prim.Native.Nat.{ℕ, _+_, _≤_, _<_}
 use lib.ListN.{length, take, drop, getD}
 use Rattle.wire.specs.Lists.{orElse}
 use Rattle.wire.specs.Bytes.{part}
-use Rattle.wire.specs.Reply.{laidOver}
+use Rattle.wire.specs.Replies.{laidOver}
 use Rattle.feeder.specs.declared.Feeder.{Feeder}
 use Rattle.feeder.specs.declared.absorb.Completed.{Completed}
 use Rattle.feeder.specs.declared.absorb.Completed.the-variants as completions

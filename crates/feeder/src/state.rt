@@ -2,7 +2,7 @@
 use crate::Feeder;
 use crate::record::Head;
 use crate::record::head_at;
-use wire::slices::all_zero;
+use wire::bytes::all_zero;
 ghost use mathlib.Core.Path.{_≡_};
 ghost use lib.ListN.{length};
 ghost use Rattle.wire.specs.Bytes.{same};

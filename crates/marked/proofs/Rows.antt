@@ -4,9 +4,9 @@ use mathlib.Core.List.{List}
 use Prim.Native.Nat.{ℕ, _+_, _-_, _≤_}
 use native.Mathlib.Omega.{arith}
 use lib.ListN.{length, take, drop, length-append, length-take, length-drop}
-use Rattle.wire.specs.Reply.{bulk, laidOver}
+use Rattle.wire.specs.Replies.{bulk, laidOver}
 use Rattle.wire.specs.Promises.{Laid}
-use Rattle.wire.proofs.Reply.{length-bulk}
+use Rattle.wire.proofs.ReplyLaws.{length-bulk}
 
 -- A word of a line is a bulk string of at most 8 bytes more.
 short : (w : List ℕ) → length w ≤ 160 → length (bulk w) ≤ length w + 8

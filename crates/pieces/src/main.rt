@@ -9,7 +9,6 @@ use std::num::wrapping_add_u64;
 use store::layout::HEADER_SIZE;
 use store::layout::SLOT_SIZE;
 ghost use Prim.Native.Nat.{_≤_, _<_};
-ghost use lib.ListN.{length};
 
 const STREAM: usize = 100000;
 

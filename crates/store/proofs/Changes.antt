@@ -11,7 +11,7 @@ use lib.Seq.{take-at, drop-at, take-add, drop-drop, length-take-le}
 use borrow.Rule.Slice.PartMut.{midOf, putMid}
 use Rattle.wire.specs.Lists.{orElse}
 use Rattle.wire.specs.Bytes.{toLE, part}
-use Rattle.wire.proofs.Bytes.{length-toLE}
+use Rattle.wire.proofs.ByteLaws.{length-toLE}
 use Rattle.store.specs.declared.Expiry.{Expiry}
 use Rattle.store.specs.Layout.{headerSize, slotSize, clockSize, reservedSize, timeLimit, versionMost}
 use Rattle.store.specs.Store.{Entry, Slot, Store, slotCount, decode, encodeEntry, encodeSlot, encode, clash, instantOf, wellFormed, withClock}
@@ -20,7 +20,7 @@ use Rattle.store.specs.Promises.{Held, Holds, Placeable, entryAt, withSl
 use Rattle.store.specs.Valid.{Fits, FitsSlot, AllFit, Valid}
 use Rattle.store.proofs.Put.{getD-set, apart-set}
 use Rattle.store.proofs.SlotBytes.{length-encodeSlot}
-use Rattle.store.proofs.At.{header-inside}
+use Rattle.store.proofs.ReadAt.{header-inside}
 use Rattle.store.proofs.Encode.{well-formed, length-decode, decode-valid, encode-decode, decode-encode, encode-well}
 use Rattle.store.proofs.Places.{encode-at}
 use Rattle.store.proofs.Slots.{none-clash, apart-at}

@@ -10,7 +10,7 @@ use borrow.Author.Tests.{leb-true, ltb-true, eqb-true, le-leb, lt-ltb, eq-eqb}
 use Rattle.wire.specs.Lists.{every, all}
 use Rattle.wire.specs.Bytes.{Bytes, fromLE, toLE, part, allZero}
 use Rattle.wire.proofs.Lists.{and-both, and-left, and-right, every-at}
-use Rattle.wire.proofs.Bytes.{bytes-append, bytes-take, bytes-drop, bytes-toLE, bytes-zeros, fromLE-toLE, length-toLE, zero-replicate}
+use Rattle.wire.proofs.ByteLaws.{bytes-append, bytes-take, bytes-drop, bytes-toLE, bytes-zeros, fromLE-toLE, length-toLE, zero-replicate}
 use Rattle.store.specs.Layout.{headerSize, slotSize, slotsMost, clockSize, reservedSize, timeLimit}
 use Rattle.store.specs.Store.{Slot, Store, decodeSlot, slotsIn, slotCount, slotBytes, clockOf, decode, encodeSlot, encode, slotWell, distinct, sizeTests, headerTests, wellFormed}
 use Rattle.store.specs.Valid.{AllFit, Valid}

@@ -19,8 +19,8 @@ pub mod SlotChecks
 pub mod StoreChecks
 pub mod BloomFilter
 -- ---- reading and searching
-pub mod At
-pub mod Searches
+pub mod ReadAt
+pub mod Finding
 -- ---- changing
 pub mod Writing
 pub mod Changes

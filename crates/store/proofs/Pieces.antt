@@ -7,7 +7,7 @@ use native.Mathlib.Omega.{arith}
 use lib.ListN.{length, take, drop, replicate, length-append, length-take, length-drop, take-append-drop, drop-of-length-le}
 use lib.Seq.{take-append-seam, drop-append-seam, drop-drop, take-take}
 use Rattle.wire.specs.Bytes.{Bytes, fromLE, toLE, part, allZero}
-use Rattle.wire.proofs.Bytes.{bytes-part, fromLE-below, toLE-fromLE, zero-is}
+use Rattle.wire.proofs.ByteLaws.{bytes-part, fromLE-below, toLE-fromLE, zero-is}
 
 -- the sum of lengths
 unfoldable pub total : List ℕ → ℕ

@@ -11,7 +11,7 @@ use borrow.Author.Tests.{leb-true, le-leb, lt-ltb}
 use Rattle.wire.specs.Lists.{every, all}
 use Rattle.wire.specs.Bytes.{Bytes, fromLE, toLE, part, padded, allZero}
 use Rattle.wire.proofs.Lists.{and-both}
-use Rattle.wire.proofs.Bytes.{bytes-flatten, bytes-padded, bytes-toLE, bytes-zeros, drop-padded, fromLE-toLE, length-padded, length-toLE, take-padded, zero-replicate}
+use Rattle.wire.proofs.ByteLaws.{bytes-flatten, bytes-padded, bytes-toLE, bytes-zeros, drop-padded, fromLE-toLE, length-padded, length-toLE, take-padded, zero-replicate}
 use Rattle.store.specs.declared.Expiry.{Expiry}
 use Rattle.store.specs.declared.Expiry.the-variants.{Never, At}
 use Rattle.store.specs.Layout.{slotSize, stateAt, keyLengthAt, fieldLengthAt, valueLengthAt, emptyState, expiringState, versionAt, versionSize, expiryAt, expirySize, keyAt, keyMost, fieldAt, fieldMost, valueAt, valueMost, timeLimit}

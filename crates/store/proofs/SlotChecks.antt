@@ -12,8 +12,8 @@ use borrow.Author.Tests.{eq-eqb, ne-eqb, le-leb, leb-true}
 use Rattle.wire.specs.Lists.{every, all}
 use Rattle.wire.specs.Bytes.{Bytes, fromLE, part, allZero}
 use Rattle.wire.proofs.Lists.{every-at}
-use Rattle.wire.proofs.Bytes.{bytes-part, zero-split, fromLE-none}
-use Rattle.wire.proofs.Passing.{or-zero, fromLE-drop}
+use Rattle.wire.proofs.ByteLaws.{bytes-part, zero-split, fromLE-none}
+use Rattle.wire.proofs.ByteLoops.{or-zero, fromLE-drop}
 use Rattle.store.specs.Layout.{stateAt, keyLengthAt, fieldLengthAt, valueLengthAt, emptyState, expiringState, expiryAt, expirySize, keyAt, keyMost, fieldAt, fieldMost, valueAt, valueMost, timeLimit}
 use Rattle.store.specs.Store.{zeroBeyond, heldWell, slotWell, lengthTests, expiryTests, placeTests}
 use Rattle.store.proofs.Pieces.{take-part}

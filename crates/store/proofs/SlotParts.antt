@@ -12,8 +12,8 @@ use lib.Seq.{take-all}
 use borrow.Author.Tests.{eq-eqb, ne-eqb, eqb-true, eqb-false}
 use Rattle.wire.specs.Lists.{orElse}
 use Rattle.wire.specs.Bytes.{part, padded, same, fromLE}
-use Rattle.wire.proofs.Bytes.{fromLE-padded}
-use Rattle.wire.proofs.Passing.{not-same}
+use Rattle.wire.proofs.ByteLaws.{fromLE-padded}
+use Rattle.wire.proofs.ByteLoops.{not-same}
 use Rattle.store.specs.declared.Expiry.the-variants.{Never, At}
 use Rattle.store.specs.Layout.{stateAt, fieldLengthAt, emptyState, expiringState, expiryAt, expirySize, fieldAt, fieldMost}
 use Rattle.store.specs.Store.{Slot, decodeExpiry, decodeEntry, decodeSlot, slotWell, holds}

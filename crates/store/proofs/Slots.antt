@@ -11,7 +11,7 @@ use lib.ListN.{length, getD}
 use Rattle.wire.specs.Lists.{orElse}
 use Rattle.wire.specs.Bytes.{same}
 use Rattle.wire.proofs.Lists.{and-left, and-right, both-ways, impossible}
-use Rattle.wire.proofs.Bytes.{same-true, same-refl, same-sym}
+use Rattle.wire.proofs.ByteLaws.{same-true, same-refl, same-sym}
 use Rattle.store.specs.Store.{Entry, Slot, holds, clash}
 use Rattle.store.specs.Time.{lowestSlot, entryOf}
 use Rattle.store.specs.Valid.{Fits, FitsSlot, AllFit, Apart}

@@ -14,7 +14,7 @@ use borrow.Author.Tests.{eq-eqb, ne-eqb, le-leb, lt-leb, leb-true, leb-false, eq
 use Rattle.wire.specs.Lists.{every, all, any}
 use Rattle.wire.specs.Bytes.{Bytes, part}
 use Rattle.wire.proofs.Lists.{all-at, every-at}
-use Rattle.wire.proofs.Bytes.{bytes-part}
+use Rattle.wire.proofs.ByteLaws.{bytes-part}
 use Rattle.store.specs.Layout.{headerSize, slotSize, slotsMost}
 use Rattle.store.specs.Store.{decodeSlot, slotsIn, slotsWithin, slotCount, slotBytes, decode, slotWell, holds, distinct, wellFormed, sizeTests, headerTests}
 use Rattle.store.specs.Promises.{SlotBytes, slotAt, countFor, slotsOf, SlotsWell}

@@ -12,7 +12,7 @@ use borrow.Author.Tests.{leb-true, eqb-true, eqb-false}
 use Rattle.wire.specs.Lists.{every}
 use Rattle.wire.specs.Bytes.{Bytes, fromLE, toLE, part, padded, allZero}
 use Rattle.wire.proofs.Lists.{every-at}
-use Rattle.wire.proofs.Bytes.{bytes-part, padded-is}
+use Rattle.wire.proofs.ByteLaws.{bytes-part, padded-is}
 use Rattle.store.specs.declared.Expiry.the-variants.{Never, At}
 use Rattle.store.specs.Layout.{slotSize, stateAt, keyLengthAt, fieldLengthAt, valueLengthAt, emptyState, expiringState, versionAt, versionSize, expiryAt, expirySize, keyAt, keyMost, fieldAt, fieldMost, valueAt, valueMost, timeLimit}
 use Rattle.store.specs.Store.{Slot, decodeExpiry, decodeEntry, decodeSlot, stateOf, instantOf, encodeEntry, encodeSlot, zeroBeyond, lengthTests, expiryTests, placeTests, heldWell, slotWell}

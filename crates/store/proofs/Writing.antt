@@ -7,9 +7,9 @@ use lib.ListN.{length, take, drop, set, replicate, length-append, length-set, le
 use lib.Seq.{take-all, take-append-seam, drop-drop, length-take-le}
 use borrow.Rule.Slice.PartMut.{midOf, putMid, same-len-mid}
 use Rattle.wire.specs.Bytes.{toLE, part, padded}
-use Rattle.wire.specs.Reply.{laidOver}
-use Rattle.wire.proofs.Bytes.{length-padded}
-use Rattle.wire.proofs.Laying.{take-laid, length-laid}
+use Rattle.wire.specs.Replies.{laidOver}
+use Rattle.wire.proofs.ByteLaws.{length-padded}
+use Rattle.wire.proofs.ReplyLaying.{take-laid, length-laid}
 use Rattle.store.specs.declared.Expiry.{Expiry}
 use Rattle.store.specs.Layout.{slotSize, keyLengthAt, fieldLengthAt, valueLengthAt, versionSize, expirySize, keyAt, keyMost, fieldAt, fieldMost, valueAt, valueMost}
 use Rattle.store.specs.Store.{Entry, encodeEntry, stateOf, instantOf}

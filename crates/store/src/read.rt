@@ -4,7 +4,7 @@ use crate::layout::CLOCK_SIZE;
 use crate::layout::HEADER_SIZE;
 use crate::layout::SLOT_SIZE;
 use crate::slot;
-use wire::numbers::read_le;
+use wire::bytes::read_le;
 ghost use mathlib.Core.Path.{_≡_};
 ghost use mathlib.Core.Bool.{true};
 ghost use mathlib.Core.Option.{none};

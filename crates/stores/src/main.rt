@@ -23,7 +23,7 @@ fn judge_at(input: &[u8], at: usize) -> usize
         return input.len();
     }
     let start = at + SIZE;
-    let size = wire::numbers::read_le(&input[at..start]) as usize;
+    let size = wire::bytes::read_le(&input[at..start]) as usize;
     if input.len() - start < size {
         return input.len();
     }

@@ -1,9 +1,9 @@
 -- To compute with the definitions of wire: whoever unfolds `computing` unfolds them all.
 use mathlib.Core.List.{flatten, flatMap}
 use Rattle.wire.specs.Bytes.{fromLE, toLE, part, padded, allZero, same, text, upper, spells}
-use Rattle.wire.specs.Integer.{isDigit, valueFrom, value, isNatural, isNegated, readPlain, within, readInteger, readNatural, digits, naturalText, integerText}
+use Rattle.wire.specs.Integers.{isDigit, valueFrom, value, isNatural, isNegated, readPlain, within, readInteger, readNatural, digits, naturalText, integerText}
 use Rattle.wire.specs.Lists.{every, all, any, keep, isEmpty, onlyIf, isSome, orElse}
-use Rattle.wire.specs.Reply.{line, nil, integer, bulk, header, array, respOf, laidOver}
+use Rattle.wire.specs.Replies.{line, nil, integer, bulk, header, array, respOf, laidOver}
 use Rattle.wire.specs.Words.{beforeCR, fromCR, readCount, readWord, readWords, wordsOf}
 
 unfoldable pub computing : Unit {0}

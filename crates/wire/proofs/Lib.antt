@@ -5,18 +5,18 @@ pub mod Computing
 -- ---- lists, tests and answers that may be missing
 pub mod Lists
 pub mod Options
-pub mod Passing
+pub mod ByteLoops
 -- ---- bytes, digits and integers: numbers low byte first, decimal text read and written, sign and magnitude
-pub mod Bytes
-pub mod Digits
-pub mod Integer
-pub mod Reading
-pub mod Signs
+pub mod ByteLaws
+pub mod IntegerDigits
+pub mod IntegerLaws
+pub mod IntegerReading
+pub mod IntegerSigns
 -- ---- the words of a command: the array read and written, and the places of its words
-pub mod Words
-pub mod Cursor
+pub mod WordLaws
+pub mod WordPlaces
 -- ---- replies: their bytes, and laying them in a buffer
-pub mod Reply
-pub mod Laying
+pub mod ReplyLaws
+pub mod ReplyLaying
 -- ---- tables of names
-pub mod Rows
+pub mod NameRows

@@ -1,7 +1,7 @@
 -- What bytes spell: numbers, plain integers, the words of a command, the forms of a reply.
 pub mod Lists
 pub mod Bytes
-pub mod Integer
+pub mod Integers
 pub mod Words
-pub mod Reply
+pub mod Replies
 pub mod Promises

@@ -14,15 +14,15 @@ use Rattle.wire.specs.declared.integers.Integer.the-variants as integers
 use Rattle.wire.specs.declared.integers.Signed.{Signed}
 use Rattle.wire.specs.declared.names.RowFound.{RowFound}
 use Rattle.wire.specs.declared.names.RowFound.the-variants as rows
-use Rattle.wire.specs.declared.places.Next.{Next}
-use Rattle.wire.specs.declared.places.Next.the-variants as nexts
-use Rattle.wire.specs.declared.places.Counted.{Counted}
-use Rattle.wire.specs.declared.places.Counted.the-variants as counts
-use Rattle.wire.specs.declared.places.Placed.{Placed}
-use Rattle.wire.specs.declared.places.Placed.the-variants as placed
+use Rattle.wire.specs.declared.words.Next.{Next}
+use Rattle.wire.specs.declared.words.Next.the-variants as nexts
+use Rattle.wire.specs.declared.words.Counted.{Counted}
+use Rattle.wire.specs.declared.words.Counted.the-variants as counts
+use Rattle.wire.specs.declared.words.Placed.{Placed}
+use Rattle.wire.specs.declared.words.Placed.the-variants as placed
 use Rattle.wire.specs.Bytes.{part, same, upper}
 use Rattle.wire.specs.Words.{Word, Read, wordsMost, wordsOf}
-use Rattle.wire.specs.Reply.{laidOver}
+use Rattle.wire.specs.Replies.{laidOver}
 
 -- ---- integers
 

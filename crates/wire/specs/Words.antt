@@ -8,7 +8,7 @@ use lib.Dec.{leb, eqb}
 use lib.ListN.{length, take, drop, getD}
 use Rattle.wire.specs.Lists.{isEmpty, onlyIf, orElse}
 use Rattle.wire.specs.Bytes.{part, same}
-use Rattle.wire.specs.Integer.{readNatural}
+use Rattle.wire.specs.Integers.{readNatural}
 
 abbrev pub Word : Type 0
 Word = List ℕ

@@ -6,7 +6,7 @@ ghost use lib.ListN.{length};
 ghost use lib.IntN.{_+ℤ_};
 ghost use lib.Signed.{leZ};
 ghost use Rattle.wire.specs.Lists.{onlyIf};
-ghost use Rattle.wire.specs.Integer.{readNatural, readInteger, lowest64, highest64, within, naturalText, integerText};
+ghost use Rattle.wire.specs.Integers.{readNatural, readInteger, lowest64, highest64, within, naturalText, integerText};
 ghost use Rattle.wire.specs.Promises.{naturalFor, integerFor, integerOf, Laid};
 
 // The largest magnitude of a negative number of signed 64 bits.

@@ -1,7 +1,6 @@
 // Numbers and words: what bytes spell.
+pub mod bytes;
 pub mod integers;
 pub mod names;
-pub mod numbers;
-pub mod places;
 pub mod replies;
-pub mod slices;
+pub mod words;

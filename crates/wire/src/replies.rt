@@ -1,14 +1,14 @@
 // The forms of a reply, each laid at the start of a lent buffer: it answers how many bytes that is, and leaves those beyond as they were.
+use crate::bytes::copy;
 use crate::integers::Signed;
 use crate::integers::write_integer;
 use crate::integers::write_natural;
-use crate::slices::copy;
 ghost use mathlib.Core.List.{_∷_, _++_};
 ghost use Prim.Native.Nat.{_≤_};
 ghost use lib.ListN.{length};
-ghost use Rattle.wire.specs.Integer.{naturalText};
+ghost use Rattle.wire.specs.Integers.{naturalText};
 ghost use Rattle.wire.specs.Words.{crlf};
-ghost use Rattle.wire.specs.Reply.{nil, integer, number, bulk, header};
+ghost use Rattle.wire.specs.Replies.{nil, integer, number, bulk, header};
 ghost use Rattle.wire.specs.Promises.{integerOf, Laid};
 
 // CR LF.

@@ -1,7 +1,7 @@
 -- The header of at most 64 words has five bytes at most.
 use native.Mathlib.Omega.{arith}
 use borrow.Author.Needs.{needs}
-use Rattle.wire.proofs.Reply.{length-header}
+use Rattle.wire.proofs.ReplyLaws.{length-header}
 use Rattle.demo.proofs.put_command.Statement.{statement}
 use Rattle.demo.proofs.put_command.Tie as tie
 

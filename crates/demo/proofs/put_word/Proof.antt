@@ -1,7 +1,7 @@
 -- A word of two digits of length takes at most seven bytes more.
 use native.Mathlib.Omega.{arith}
 use denote.Ref.{now}
-use Rattle.wire.proofs.Reply.{length-bulk}
+use Rattle.wire.proofs.ReplyLaws.{length-bulk}
 use borrow.Author.Needs.{needs}
 use Rattle.demo.proofs.put_word.Statement.{statement}
 use Rattle.demo.proofs.put_word.Tie as tie

@@ -3,7 +3,7 @@ use Prim.Native.Nat.{_+_, _-_, _*_, _≤_}
 use native.Mathlib.Omega.{arith}
 use lib.ListN.{length}
 use borrow.Author.Needs.{needs}
-use Rattle.wire.proofs.Reply.{length-header}
+use Rattle.wire.proofs.ReplyLaws.{length-header}
 use Rattle.marked.proofs.put_words.Statement.{statement}
 use Rattle.marked.proofs.put_words.Tie as tie
 

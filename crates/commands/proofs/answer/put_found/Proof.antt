@@ -63,13 +63,15 @@ returns-5 c =
 
 returns-6 : tie.Need-returns-6
 returns-6 c =
-    let start = c .before .before .before .before .before .before .before .before .before .before in
-    laid-reply (seconds-reply (start .args .time) (entryAt (decode (now (start .args .bytes)) .slots) (start .args .i)) (c .before .before .before .before .before .before .enum-told6 .given .1) (c .before .before .before .before .before .expiry .ensures) (c .before .before .before .before .time-left .ensures)) (c .before .before .put-integer .ensures)
+    let back2 = c .before .before in let back4 = back2 .before .before in let back5 = back4 .before in let back6 = back5 .before in
+    let start = back6 .before .before .before .before in
+    laid-reply (seconds-reply (start .args .time) (entryAt (decode (now (start .args .bytes)) .slots) (start .args .i)) (back6 .enum-told6 .given .1) (back5 .expiry .ensures) (back4 .time-left .ensures)) (back2 .put-integer .ensures)
 
 returns-7 : tie.Need-returns-7
 returns-7 c =
-    let start = c .before .before .before .before .before .before .before .before .before .before in
-    laid-reply (milliseconds-reply (start .args .time) (entryAt (decode (now (start .args .bytes)) .slots) (start .args .i)) (c .before .before .before .before .before .before .enum-told7 .given .1) (c .before .before .before .before .before .expiry2 .ensures) (c .before .before .before .before .time-left2 .ensures)) (c .before .before .put-integer2 .ensures)
+    let back2 = c .before .before in let back4 = back2 .before .before in let back5 = back4 .before in let back6 = back5 .before in
+    let start = back6 .before .before .before .before in
+    laid-reply (milliseconds-reply (start .args .time) (entryAt (decode (now (start .args .bytes)) .slots) (start .args .i)) (back6 .enum-told7 .given .1) (back5 .expiry2 .ensures) (back4 .time-left2 .ensures)) (back2 .put-integer2 .ensures)
 
 pub put-found-spec : {M : Type 1} → statement M
 put-found-spec =

@@ -2,8 +2,8 @@ use mathlib.Core.Path.{refl}
 use mathlib.Core.List.{_++_}
 use native.Mathlib.Omega.{arith}
 use denote.Ref.{now}
-use Rattle.wire.specs.Reply.{header, bulk, number}
-use Rattle.wire.proofs.Laying.{laid-tail, laid-within, tail-inside, tail-room, front-room}
+use Rattle.wire.specs.Replies.{header, bulk, number}
+use Rattle.wire.proofs.ReplyLaying.{laid-tail, laid-within, tail-inside, tail-room, front-room}
 use Rattle.store.specs.Store.{decode}
 use Rattle.store.specs.Promises.{entryAt}
 use Rattle.commands.proofs.Answers.{laid-reply, pair-reply, pair-room}
@@ -34,31 +34,36 @@ put-bulk-requires c κs =
 
 add-second : tie.Need-add-second
 add-second c =
-    let start = c .before .before .before .before .before .before .before .before .before .before .before in
-    omega (arith, laid-within (laid-tail (c .before .before .before .before .before .before .before .put-header .ensures) (c .before .before .put-bulk .ensures)) (front-room (header 2 ++ bulk (now (c .before .before .before .before .value .result))) (number (entryAt (decode (now (start .args .bytes)) .slots) (start .args .i) .version)) (pair-room (start .pre .0) (start .pre .1) (c .before .before .before .before .value .ensures) refl)))
+    let back2 = c .before .before in let back4 = back2 .before .before in let value2 = back4 .value in let back7 = back4 .before .before .before in
+    let start = back7 .before .before .before .before in
+    omega (arith, laid-within (laid-tail (back7 .put-header .ensures) (back2 .put-bulk .ensures)) (front-room (header 2 ++ bulk (now (value2 .result))) (number (entryAt (decode (now (start .args .bytes)) .slots) (start .args .i) .version)) (pair-room (start .pre .0) (start .pre .1) (value2 .ensures) refl)))
 
 sub-put-number : tie.Need-sub-put-number
 sub-put-number c =
-    let start = c .before .before .before .before .before .before .before .before .before .before .before .before in
-    tail-inside (number (c .version .result)) (laid-tail (c .before .before .before .before .before .before .before .before .put-header .ensures) (c .before .before .before .put-bulk .ensures)) (pair-room (start .pre .0) (start .pre .1) (c .before .before .before .before .before .value .ensures) (c .version .ensures))
+    let back3 = c .before .before .before in let back5 = back3 .before .before in let back8 = back5 .before .before .before in
+    let start = back8 .before .before .before .before in
+    tail-inside (number (c .version .result)) (laid-tail (back8 .put-header .ensures) (back3 .put-bulk .ensures)) (pair-room (start .pre .0) (start .pre .1) (back5 .value .ensures) (c .version .ensures))
 
 part-put-number-start : tie.Need-part-put-number-start
 part-put-number-start c =
-    let start = c .before .before .before .before .before .before .before .before .before .before .before .before in
-    tail-inside (number (c .version .result)) (laid-tail (c .before .before .before .before .before .before .before .before .put-header .ensures) (c .before .before .before .put-bulk .ensures)) (pair-room (start .pre .0) (start .pre .1) (c .before .before .before .before .before .value .ensures) (c .version .ensures))
+    let back3 = c .before .before .before in let back5 = back3 .before .before in let back8 = back5 .before .before .before in
+    let start = back8 .before .before .before .before in
+    tail-inside (number (c .version .result)) (laid-tail (back8 .put-header .ensures) (back3 .put-bulk .ensures)) (pair-room (start .pre .0) (start .pre .1) (back5 .value .ensures) (c .version .ensures))
 
 put-number-requires : tie.Need-put-number-requires
 put-number-requires c κs =
-    let start = c .before .before .before .before .before .before .before .before .before .before .before .before .before in
-    tail-room (number (c .before .version .result)) (laid-tail (c .before .before .before .before .before .before .before .before .before .put-header .ensures) (c .before .before .before .before .put-bulk .ensures)) (pair-room (start .pre .0) (start .pre .1) (c .before .before .before .before .before .before .value .ensures) (c .before .version .ensures))
+    let back4 = c .before .before .before .before in let back6 = back4 .before .before in let back9 = back6 .before .before .before in
+    let start = back9 .before .before .before .before in
+    tail-room (number (c .before .version .result)) (laid-tail (back9 .put-header .ensures) (back4 .put-bulk .ensures)) (pair-room (start .pre .0) (start .pre .1) (back6 .value .ensures) (c .before .version .ensures))
 
 add-result : tie.Need-add-result
 add-result c =
-    let start = c .before .before .before .before .before .before .before .before .before .before .before .before .before .before .before .before in
-    omega (arith, laid-within (laid-tail (laid-tail (c .before .before .before .before .before .before .before .before .before .before .before .before .put-header .ensures) (c .before .before .before .before .before .before .before .put-bulk .ensures)) (c .before .before .put-number .ensures)) (pair-room (start .pre .0) (start .pre .1) (c .before .before .before .before .before .before .before .before .before .value .ensures) (c .before .before .before .before .version .ensures)))
+    let back2 = c .before .before in let back4 = back2 .before .before in let back7 = back4 .before .before .before in let back9 = back7 .before .before in let back12 = back9 .before .before .before in
+    let start = back12 .before .before .before .before in
+    omega (arith, laid-within (laid-tail (laid-tail (back12 .put-header .ensures) (back7 .put-bulk .ensures)) (back2 .put-number .ensures)) (pair-room (start .pre .0) (start .pre .1) (back9 .value .ensures) (back4 .version .ensures)))
 
 returns : tie.Need-returns
-returns c = laid-reply (pair-reply (c .before .before .before .before .before .before .before .before .before .value .ensures) (c .before .before .before .before .version .ensures)) (laid-tail (laid-tail (c .before .before .before .before .before .before .before .before .before .before .before .before .put-header .ensures) (c .before .before .before .before .before .before .before .put-bulk .ensures)) (c .before .before .put-number .ensures))
+returns c = let back2 = c .before .before in let back4 = back2 .before .before in let back7 = back4 .before .before .before in let back9 = back7 .before .before in laid-reply (pair-reply (back9 .value .ensures) (back4 .version .ensures)) (laid-tail (laid-tail (back9 .before .before .before .put-header .ensures) (back7 .put-bulk .ensures)) (back2 .put-number .ensures))
 
 pub put-versioned-spec : {M : Type 1} → statement M
 put-versioned-spec =

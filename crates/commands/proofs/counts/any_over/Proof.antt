@@ -6,7 +6,7 @@ use lib.ListN.{length, drop}
 use native.Mathlib.Omega.{arith}
 use Rattle.wire.specs.Lists.{any}
 use Rattle.wire.specs.Promises.{wordsIn}
-use Rattle.wire.proofs.Cursor.{length-words}
+use Rattle.wire.proofs.WordPlaces.{length-words}
 use Rattle.store.specs.Layout.{fieldMost}
 use Rattle.commands.specs.ParsePromises.{anyOver}
 use Rattle.commands.proofs.Tallies.{over-found, over-on, over-ends}

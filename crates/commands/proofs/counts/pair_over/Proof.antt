@@ -8,7 +8,7 @@ use native.Mathlib.Omega.{arith}
 use Rattle.wire.specs.Lists.{any}
 use Rattle.wire.specs.Words.{wordsMost}
 use Rattle.wire.specs.Promises.{wordsIn}
-use Rattle.wire.proofs.Cursor.{length-words}
+use Rattle.wire.proofs.WordPlaces.{length-words}
 use Rattle.store.specs.Layout.{fieldMost, valueMost}
 use Rattle.commands.specs.Parse.{pairsOf}
 use Rattle.commands.specs.ParsePromises.{pairOver}

@@ -10,13 +10,15 @@ use Rattle.commands.proofs.execute.run_on_key.Tie as tie
 
 on-key-requires : tie.Need-on-key-requires
 on-key-requires c κs =
-    let start = c .before .before .before .before .before .before .before .before .before .before .before in
-    (record { inside = from-inside (now (start .args .command)) (now (start .args .places)) 2 (start .pre .0); few = omega (arith, from-length (now (start .args .places)) 2, start .pre .0 .most); well = c .before .before .before .before .before .before .set-clock .ensures .well; room = start .pre .2 .room }, words-within (now (start .args .command)) (now (start .args .places)) (c .before .before .before .word .ensures) (start .args .deed) (start .pre .3))
+    let back3 = c .before .before .before in let back6 = back3 .before .before .before in
+    let start = back6 .before .before .before .before .before in
+    (record { inside = from-inside (now (start .args .command)) (now (start .args .places)) 2 (start .pre .0); few = omega (arith, from-length (now (start .args .places)) 2, start .pre .0 .most); well = back6 .set-clock .ensures .well; room = start .pre .2 .room }, words-within (now (start .args .command)) (now (start .args .places)) (back3 .word .ensures) (start .args .deed) (start .pre .3))
 
 returns : tie.Need-returns
 returns c =
-    let start = c .before .before .before .before .before .before .before .before .before .before .before .before .before .before .before .before in
-    clock-does (start .args .time) _ (decode (now (start .args .bytes))) (c .before .before .before .before .before .before .before .before .before .before .before .set-clock .ensures) (does-words (now (start .args .command)) (now (start .args .places)) (c .before .before .before .before .before .before .before .before .word .ensures) (start .args .deed) (start .args .time) _ (c .before .before .before .before .on-key .ensures))
+    let back4 = c .before .before .before .before in let back8 = back4 .before .before .before .before in let back11 = back8 .before .before .before in
+    let start = back11 .before .before .before .before .before in
+    clock-does (start .args .time) _ (decode (now (start .args .bytes))) (back11 .set-clock .ensures) (does-words (now (start .args .command)) (now (start .args .places)) (back8 .word .ensures) (start .args .deed) (start .args .time) _ (back4 .on-key .ensures))
 
 pub run-on-key-spec : {M : Type 1} → statement M
 run-on-key-spec =

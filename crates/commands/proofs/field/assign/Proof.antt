@@ -14,8 +14,9 @@ returns c =
 
 returns-2 : tie.Need-returns-2
 returns-2 c =
-    let start = c .before .before .before .before .before .before .before .before .before .before .before .before .before .before in
-    assign-done (start .args .sight .time) (now (start .args .key)) (now (start .args .field)) (now (start .args .value)) (start .args .stamping) (now (start .args .bytes)) (start .args .sight .found) (c .before .before .before .before .before .before .before .before .held-version .ensures) (c .before .before .before .before .before .before .before .is-stale .ensures) (c .before .before .before .before .before .before .if1 .left) (c .before .before .before .before .write .ensures) (c .before .fields-added .ensures) (c .write-settled .ensures)
+    let back4 = c .before .before .before .before in let back6 = back4 .before .before in let back7 = back6 .before in let back8 = back7 .before in
+    let start = back8 .before .before .before .before .before .before in
+    assign-done (start .args .sight .time) (now (start .args .key)) (now (start .args .field)) (now (start .args .value)) (start .args .stamping) (now (start .args .bytes)) (start .args .sight .found) (back8 .held-version .ensures) (back7 .is-stale .ensures) (back6 .if1 .left) (back4 .write .ensures) (c .before .fields-added .ensures) (c .write-settled .ensures)
 
 pub assign-spec : {M : Type 1} → statement M
 assign-spec =

@@ -16,13 +16,15 @@ returns-2 c =
 
 returns-3 : tie.Need-returns-3
 returns-3 c =
-    let start = c .before .before .before .before .before .before .before .before in
-    sum-above (integerOf (start .args .start)) (start .args .sum) (c .before .before .before .before .before .before .before .add .ensures) (c .before .before .before .before .before .total .given .1) (c .before .before .before .at-most .ensures) (c .before .before .if1 .left) (c .before .at-most2 .ensures) (c .if2 .taken)
+    let back2 = c .before .before in let back3 = back2 .before in let back5 = back3 .before .before in let back7 = back5 .before .before in
+    let start = back7 .before in
+    sum-above (integerOf (start .args .start)) (start .args .sum) (back7 .add .ensures) (back5 .total .given .1) (back3 .at-most .ensures) (back2 .if1 .left) (c .before .at-most2 .ensures) (c .if2 .taken)
 
 returns-4 : tie.Need-returns-4
 returns-4 c =
-    let start = c .before .before .before .before .before .before .before .before in
-    sum-inside (integerOf (start .args .start)) (start .args .sum) (c .before .before .before .before .before .before .before .add .ensures) (c .before .before .before .before .before .total .given .1) (c .before .before .before .at-most .ensures) (c .before .before .if1 .left) (c .before .at-most2 .ensures) (c .if2 .left)
+    let back2 = c .before .before in let back3 = back2 .before in let back5 = back3 .before .before in let back7 = back5 .before .before in
+    let start = back7 .before in
+    sum-inside (integerOf (start .args .start)) (start .args .sum) (back7 .add .ensures) (back5 .total .given .1) (back3 .at-most .ensures) (back2 .if1 .left) (c .before .at-most2 .ensures) (c .if2 .left)
 
 pub bounded-sum-spec : {M : Type 1} → statement M
 bounded-sum-spec =

@@ -21,13 +21,15 @@ setter-version-requires c κs = held-version-most (c .before .before .before .be
 
 stamp-requires : tie.Need-stamp-requires
 stamp-requires c κs =
-    let start = c .before .before .before .before .before .before .before .before .before .before in
-    (start .pre .0 .held _ (c .before .before .before .before .before .before .before .found .given .1), at-most (start .pre .1))
+    let back7 = c .before .before .before .before .before .before .before in
+    let start = back7 .before .before .before in
+    (start .pre .0 .held _ (back7 .found .given .1), at-most (start .pre .1))
 
 returns-3 : tie.Need-returns-3
 returns-3 c =
-    let start = c .before .before .before .before .before .before .before .before .before .before .before .before .before in
-    expire-done (start .pre .0) (c .before .before .before .before .before .before .before .before .before .before .found .given .1) (start .args .instant) (start .args .versioning) (c .before .before .before .before .before .before .before .version .ensures) (c .before .before .before .before .before .before .is-stale .ensures) (c .before .before .before .before .before .if1 .left) (c .before .before .before .before .setter-version .ensures) (c .before .before .stamp .ensures)
+    let back2 = c .before .before in let back4 = back2 .before .before in let back5 = back4 .before in let back6 = back5 .before in let back7 = back6 .before in let back10 = back7 .before .before .before in
+    let start = back10 .before .before .before in
+    expire-done (start .pre .0) (back10 .found .given .1) (start .args .instant) (start .args .versioning) (back7 .version .ensures) (back6 .is-stale .ensures) (back5 .if1 .left) (back4 .setter-version .ensures) (back2 .stamp .ensures)
 
 pub expire-spec : {M : Type 1} → statement M
 expire-spec =

@@ -19,8 +19,9 @@ stamp-requires c κs =
 
 returns-2 : tie.Need-returns-2
 returns-2 c =
-    let start = c .before .before .before .before .before .before .before .before .before .before in
-    renumber-done (start .pre) (c .before .before .before .before .before .before .before .found .given .1) (start .args .version) (c .before .before .before .expiry .ensures) (c .before .before .stamp .ensures)
+    let back2 = c .before .before in let back3 = back2 .before in let back7 = back3 .before .before .before .before in
+    let start = back7 .before .before .before in
+    renumber-done (start .pre) (back7 .found .given .1) (start .args .version) (back3 .expiry .ensures) (back2 .stamp .ensures)
 
 pub renumber-spec : {M : Type 1} → statement M
 renumber-spec =

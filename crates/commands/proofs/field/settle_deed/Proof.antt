@@ -34,8 +34,9 @@ renumber-requires c κs = sought-found (c .before .before .before .before .befor
 
 returns-2 : tie.Need-returns-2
 returns-2 c =
-    let start = c .before .before .before .before .before .before .before .before .before .before .before .before .before in
-    settled-assign (start .args .sight .time) (now (start .args .value)) (start .pre .0) (start .args .deed) (c .before .before .before .before .before .before .before .deed .given .1) (c .before .before .before .before .before .is-barred .ensures) (c .before .before .before .before .if1 .left) (c .before .before .assign .ensures)
+    let back2 = c .before .before in let back4 = back2 .before .before in let back5 = back4 .before in let back7 = back5 .before .before in
+    let start = back7 .before .before .before .before .before .before in
+    settled-assign (start .args .sight .time) (now (start .args .value)) (start .pre .0) (start .args .deed) (back7 .deed .given .1) (back5 .is-barred .ensures) (back4 .if1 .left) (back2 .assign .ensures)
 
 returns-3 : tie.Need-returns-3
 returns-3 c =

@@ -27,8 +27,9 @@ write-requires c κs =
 
 returns : tie.Need-returns
 returns c =
-    let start = c .before .before .before .before .before .before .before .before .before .before .before .before in
-    sum-settles (start .args .sight .time) (now (start .args .key)) (now (start .args .field)) (start .args .stamping) (entryFor (decode (now (start .args .bytes)) .slots) (start .args .sight .found)) (start .args .z) (start .pre .2) (laid-taken (c .before .before .before .before .before .before .before .write-integer .ensures)) (c .before .before .before .write .ensures) (c .write-settled .ensures)
+    let back3 = c .before .before .before in let back7 = back3 .before .before .before .before in
+    let start = back7 .before .before .before .before .before in
+    sum-settles (start .args .sight .time) (now (start .args .key)) (now (start .args .field)) (start .args .stamping) (entryFor (decode (now (start .args .bytes)) .slots) (start .args .sight .found)) (start .args .z) (start .pre .2) (laid-taken (back7 .write-integer .ensures)) (back3 .write .ensures) (c .write-settled .ensures)
 
 pub write-sum-spec : {M : Type 1} → statement M
 write-sum-spec =

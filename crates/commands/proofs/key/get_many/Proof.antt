@@ -1,7 +1,7 @@
 use mathlib.Core.Path.{sym}
 use native.Mathlib.Omega.{arith}
 use denote.Ref.{now}
-use Rattle.wire.proofs.Laying.{laid-tail, laid-within}
+use Rattle.wire.proofs.ReplyLaying.{laid-tail, laid-within}
 use Rattle.commands.specs.Promises.{answerMost}
 use Rattle.commands.proofs.Answers.{laid-reply}
 use Rattle.commands.proofs.Elements.{tail-spare}
@@ -28,19 +28,21 @@ part-put-answers-start c =
 
 put-answers-requires : tie.Need-put-answers-requires
 put-answers-requires c κs =
-    let start = c .before .before .before .before .before .before .before .before .before .before .before .before .before .before in
-    let sweep-fields = c .before .before .before .before .before .before .before .before .sweep-fields in
+    let back4 = c .before .before .before .before in let back8 = back4 .before .before .before .before in
+    let start = back8 .before .before .before .before .before .before in
+    let sweep-fields = back8 .sweep-fields in
     let a = start .args in
-    (start .pre .inside, sweep-fields .ensures .well, tail-spare answerMost _ (c .before .before .before .before .put-header .ensures) (answers-spare (a .time) _ (now (a .key)) (a .question) (now (a .command)) (now (a .fields)) (sweep-fields .ensures .well) (start .pre .few) (start .pre .room)))
+    (start .pre .inside, sweep-fields .ensures .well, tail-spare answerMost _ (back4 .put-header .ensures) (answers-spare (a .time) _ (now (a .key)) (a .question) (now (a .command)) (now (a .fields)) (sweep-fields .ensures .well) (start .pre .few) (start .pre .room)))
 
 add-result : tie.Need-add-result
 add-result c =
-    let start = c .before .before .before .before .before .before .before .before .before .before .before .before .before .before .before .before .before in
+    let back2 = c .before .before in let back7 = back2 .before .before .before .before .before in let back11 = back7 .before .before .before .before in
+    let start = back11 .before .before .before .before .before .before in
     let a = start .args in
-    omega (arith, laid-within (laid-tail (c .before .before .before .before .before .before .before .put-header .ensures) (c .before .before .put-answers .ensures)) (answers-room (a .time) _ (now (a .key)) (a .question) (now (a .command)) (now (a .fields)) (c .before .before .before .before .before .before .before .before .before .before .before .sweep-fields .ensures .well) (start .pre .few) (start .pre .room)))
+    omega (arith, laid-within (laid-tail (back7 .put-header .ensures) (back2 .put-answers .ensures)) (answers-room (a .time) _ (now (a .key)) (a .question) (now (a .command)) (now (a .fields)) (back11 .sweep-fields .ensures .well) (start .pre .few) (start .pre .room)))
 
 returns : tie.Need-returns
-returns c = does-many _ _ _ _ _ (c .before .before .before .before .before .before .before .before .before .before .before .sweep-fields .ensures) (laid-reply (sym (answers-begin _ _ _)) (laid-tail (c .before .before .before .before .before .before .before .put-header .ensures) (c .before .before .put-answers .ensures)))
+returns c = let back2 = c .before .before in let back7 = back2 .before .before .before .before .before in does-many _ _ _ _ _ (back7 .before .before .before .before .sweep-fields .ensures) (laid-reply (sym (answers-begin _ _ _)) (laid-tail (back7 .put-header .ensures) (back2 .put-answers .ensures)))
 
 pub get-many-spec : {M : Type 1} → statement M
 get-many-spec =

@@ -36,11 +36,11 @@ returns-3 c = does-deed _ _ (c .before .before .before .before .before .before .
 
 returns-4 : tie.Need-returns-4
 unfolding commandFor
-returns-4 c = does-deed _ _ (c .before .before .before .before .before .before .enum-told3 .given .1) _ _ (does-held _ _ _ (c .before .before .before .before .before .before .before .before .before .before .before .before .pre .0 .well) (c .before .before .before .before .count-held .ensures) (c .before .before .put-number .ensures))
+returns-4 c = let back2 = c .before .before in let back4 = back2 .before .before in let back6 = back4 .before .before in does-deed _ _ (back6 .enum-told3 .given .1) _ _ (does-held _ _ _ (back6 .before .before .before .before .before .before .pre .0 .well) (back4 .count-held .ensures) (back2 .put-number .ensures))
 
 returns-5 : tie.Need-returns-5
 unfolding commandFor
-returns-5 c = does-deed _ _ (c .before .before .before .before .before .before .enum-told4 .given .1) _ _ (does-live _ _ _ (c .before .before .before .before .before .before .before .before .before .before .before .before .pre .0 .well) (c .before .before .before .before .count-live .ensures) (c .before .before .put-number2 .ensures))
+returns-5 c = let back2 = c .before .before in let back4 = back2 .before .before in let back6 = back4 .before .before in does-deed _ _ (back6 .enum-told4 .given .1) _ _ (does-live _ _ _ (back6 .before .before .before .before .before .before .pre .0 .well) (back4 .count-live .ensures) (back2 .put-number2 .ensures))
 
 returns-6 : tie.Need-returns-6
 unfolding commandFor

@@ -5,7 +5,7 @@ use Prim.Native.Nat.{_-_}
 use native.Mathlib.Omega.{arith}
 use lib.ListN.{length}
 use Rattle.wire.specs.Promises.{wordsIn}
-use Rattle.wire.proofs.Laying.{laid-none}
+use Rattle.wire.proofs.ReplyLaying.{laid-none}
 use Rattle.commands.specs.Promises.{answerMost, answerAbout, answersOf}
 use Rattle.commands.proofs.Elements.{Going, going-begins, going-on, going-within, going-ends, going-length, going-start, going-spare}
 use Rattle.commands.proofs.FieldLoops.{wordsFrom, answersFrom, answers-next, answers-over}

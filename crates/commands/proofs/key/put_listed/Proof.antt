@@ -4,7 +4,7 @@ use mathlib.Core.List.{flatten}
 use Prim.Native.Nat.{_-_}
 use native.Mathlib.Omega.{arith}
 use lib.ListN.{length}
-use Rattle.wire.proofs.Laying.{laid-none}
+use Rattle.wire.proofs.ReplyLaying.{laid-none}
 use Rattle.store.specs.Store.{decode}
 use Rattle.commands.specs.Promises.{listedOf}
 use Rattle.commands.proofs.Elements.{Going, going-begins, going-on, going-within, going-ends, going-length, going-start, going-room}
@@ -38,29 +38,34 @@ part-put-entry-start c = going-start (c .before .before .before .before .before 
 
 put-entry-requires : tie.Need-put-entry-requires Inv-loop μ-loop
 put-entry-requires c κs =
-    let n = live-next (c .before .before .before .before .before .before .before .before .before .before .before .pre .0) (c .before .before .found .given .1) (c .before .before .before .before .next-live .ensures) in
-    (live-held n, going-room (c .before .before .before .before .before .before .loop .inv .0) (shown-next n _))
+    let back2 = c .before .before in let back4 = back2 .before .before in let back6 = back4 .before .before in
+    let n = live-next (back6 .before .before .before .before .before .pre .0) (back2 .found .given .1) (back4 .next-live .ensures) in
+    (live-held n, going-room (back6 .loop .inv .0) (shown-next n _))
 
 add-at : tie.Need-add-at Inv-loop μ-loop
 add-at c =
-    let n = live-next (c .before .before .before .before .before .before .before .before .before .before .before .before .before .before .pre .0) (c .before .before .before .before .before .found .given .1) (c .before .before .before .before .before .before .before .next-live .ensures) in
-    omega (arith, going-within (c .before .before .before .before .before .before .before .before .before .loop .inv .0) (shown-next n _) (c .before .before .put-entry .ensures))
+    let back2 = c .before .before in let back5 = back2 .before .before .before in let back7 = back5 .before .before in let back9 = back7 .before .before in
+    let n = live-next (back9 .before .before .before .before .before .pre .0) (back5 .found .given .1) (back7 .next-live .ensures) in
+    omega (arith, going-within (back9 .loop .inv .0) (shown-next n _) (back2 .put-entry .ensures))
 
 add-from : tie.Need-add-from Inv-loop μ-loop
 add-from c =
-    let n = live-next (c .before .before .before .before .before .before .before .before .before .before .before .before .before .before .pre .0) (c .before .before .before .before .before .found .given .1) (c .before .before .before .before .before .before .before .next-live .ensures) in
+    let back5 = c .before .before .before .before .before in let back7 = back5 .before .before in
+    let n = live-next (back7 .before .before .before .before .before .before .before .pre .0) (back5 .found .given .1) (back7 .next-live .ensures) in
     omega (arith, live-few n)
 
 loop-less : tie.Need-loop-less Inv-loop μ-loop
 loop-less c =
-    let n = live-next (c .before .before .before .before .before .before .before .before .before .before .before .before .before .before .pre .0) (c .before .before .before .before .before .found .given .1) (c .before .before .before .before .before .before .before .next-live .ensures) in
+    let back5 = c .before .before .before .before .before in let back7 = back5 .before .before in
+    let n = live-next (back7 .before .before .before .before .before .before .before .pre .0) (back5 .found .given .1) (back7 .next-live .ensures) in
     omega (arith, live-later n)
 
 loop-again : tie.Need-loop-again Inv-loop μ-loop
 loop-again c =
-    let loop = c .before .before .before .before .before .before .before .before .before .loop in
-    let n = live-next (c .before .before .before .before .before .before .before .before .before .before .before .before .before .before .pre .0) (c .before .before .before .before .before .found .given .1) (c .before .before .before .before .before .before .before .next-live .ensures) in
-    (going-on (loop .inv .0) (shown-next n _) (c .before .before .put-entry .ensures), loop .inv .1)
+    let back2 = c .before .before in let back5 = back2 .before .before .before in let back7 = back5 .before .before in let back9 = back7 .before .before in
+    let loop = back9 .loop in
+    let n = live-next (back9 .before .before .before .before .before .pre .0) (back5 .found .given .1) (back7 .next-live .ensures) in
+    (going-on (loop .inv .0) (shown-next n _) (back2 .put-entry .ensures), loop .inv .1)
 
 same-length-2 : tie.Need-same-length-2 Inv-loop μ-loop
 same-length-2 c = going-length (c .before .loop .inv .0)

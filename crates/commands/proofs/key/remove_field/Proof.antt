@@ -12,7 +12,7 @@ remove-requires : tie.Need-remove-requires
 remove-requires c κs = found-slot _ (c .before .before .before .before .before .before .before .before .before .pre) _ _ _ (sym (c .before .before .found .given .1) ∙ c .before .before .before .before .named .ensures)
 
 returns-2 : tie.Need-returns-2
-returns-2 c = removes-one _ _ _ (c .before .before .before .before .before .before .before .before .before .before .before .before .pre) (c .before .before .before .before .before .before .before .named .ensures) (c .before .before .before .before .before .found .given .1) (c .before .before .remove .ensures)
+returns-2 c = let back2 = c .before .before in let back5 = back2 .before .before .before in let back7 = back5 .before .before in removes-one _ _ _ (back7 .before .before .before .before .before .pre) (back7 .named .ensures) (back5 .found .given .1) (back2 .remove .ensures)
 
 pub remove-field-spec : {M : Type 1} → statement M
 remove-field-spec =

@@ -21,7 +21,7 @@ unfolding wordsFrom
 loop-holds c = (deleting-begins (c .before .before .before .pre .1), refl)
 
 add-n : tie.Need-add-n Inv-loop μ-loop
-add-n c = omega (arith, deleting-few (deleting-on (c .before .before .before .before .before .before .loop .inv .0) (next-word _ _ _ (c .before .before .before .before .before .loop-test .taken) (c .before .before .before .word .ensures)) (c .before .before .remove-field .ensures)) (c .before .before .before .before .before .before .before .before .before .before .pre .1))
+add-n c = let back2 = c .before .before in let back3 = back2 .before in let back5 = back3 .before .before in let back6 = back5 .before in omega (arith, deleting-few (deleting-on (back6 .loop .inv .0) (next-word _ _ _ (back5 .loop-test .taken) (back3 .word .ensures)) (back2 .remove-field .ensures)) (back6 .before .before .before .before .pre .1))
 
 loop-again : tie.Need-loop-again Inv-loop μ-loop
 loop-again c = (deleting-on (c .before .before .before .before .before .before .loop .inv .0) (next-word _ _ _ (c .before .before .before .before .before .loop-test .taken) (c .before .before .before .word .ensures)) (c .before .before .remove-field .ensures), search needs)

@@ -28,8 +28,9 @@ place-pair-requires c κs = writing-next (c .before .before .before .before .loo
 
 loop-again : tie.Need-loop-again Inv-loop μ-loop
 loop-again c =
-    let loop-test = c .before .before .before .before .before .before .loop-test in
-    (writing-on (c .before .before .before .before .before .before .before .loop .inv .0) (next-pair _ _ _ (loop-test .taken) (c .before .before .before .before .before .word .ensures) (c .before .before .before .before .word2 .ensures)) (c .before .before .place-pair .ensures), omega (arith, loop-test .taken, c .before .before .before .before .before .before .before .before .before .before .before .pre .0 .most), search needs)
+    let back2 = c .before .before in let back4 = back2 .before .before in let back5 = back4 .before in let back6 = back5 .before in let back7 = back6 .before in
+    let loop-test = back6 .loop-test in
+    (writing-on (back7 .loop .inv .0) (next-pair _ _ _ (loop-test .taken) (back5 .word .ensures) (back4 .word2 .ensures)) (back2 .place-pair .ensures), omega (arith, loop-test .taken, back7 .before .before .before .before .pre .0 .most), search needs)
 
 returns : tie.Need-returns Inv-loop μ-loop
 returns c = writing-ends (c .before .loop .inv .0) (no-pair _ _ _ (c .loop-test .left))

@@ -4,9 +4,9 @@ use denote.Ref.{now}
 use lib.ListN.{length}
 use Rattle.wire.specs.Bytes.{text}
 use Rattle.wire.specs.Words.{wordsMost}
-use Rattle.wire.specs.Reply.{line}
+use Rattle.wire.specs.Replies.{line}
 use Rattle.wire.specs.Promises.{wordsIn}
-use Rattle.wire.proofs.Cursor.{length-words}
+use Rattle.wire.proofs.WordPlaces.{length-words}
 use Rattle.commands.specs.Execute.{room}
 use Rattle.commands.proofs.FieldDeeds.{known-late, may-refuse}
 use Rattle.commands.proofs.PairsDone.{many-over, many-full, many-placing, many-done}
@@ -19,10 +19,11 @@ put-error-requires c κs = may-refuse 23 (known-late .3) (omega (arith, c .befor
 
 returns : tie.Need-returns
 returns c =
-    let start = c .before .before .before .before .before .before .before .before .before .before .before .before .before .before .before .before in
+    let back2 = c .before .before in let back4 = back2 .before .before in let back6 = back4 .before .before in let back10 = back6 .before .before .before .before in
+    let start = back10 .before .before .before .before .before .before in
     let ws = wordsIn (now (start .args .command)) (now (start .args .pairs)) in
     let few : length ws ≤ wordsMost = rw length-words (start .pre .0 .inside .most) in
-    many-over _ _ ws _ (c .before .before .before .before .before .before .before .before .before .before .sweep-pairs .ensures) few (c .before .before .before .before .before .before .survey-pairs .ensures) (c .before .before .before .before .enum-told .given .1) (c .before .before .put-error .ensures)
+    many-over _ _ ws _ (back10 .sweep-pairs .ensures) few (back6 .survey-pairs .ensures) (back4 .enum-told .given .1) (back2 .put-error .ensures)
 
 put-error-requires-2 : tie.Need-put-error-requires-2
 put-error-requires-2 c κs = may-refuse 24 (known-late .4) (omega (arith, c .before .before .before .before .before .before .before .before .before .before .before .before .before .before .before .before .before .pre .0 .room))
@@ -30,25 +31,28 @@ put-error-requires-2 c κs = may-refuse 24 (known-late .4) (omega (arith, c .bef
 returns-2 : tie.Need-returns-2
 unfolding room
 returns-2 c =
-    let start = c .before .before .before .before .before .before .before .before .before .before .before .before .before .before .before .before .before .before .before .before in
+    let back2 = c .before .before in let back4 = back2 .before .before in let back5 = back4 .before in let back8 = back5 .before .before .before in let back10 = back8 .before .before in let back14 = back10 .before .before .before .before in
+    let start = back14 .before .before .before .before .before .before in
     let ws = wordsIn (now (start .args .command)) (now (start .args .pairs)) in
     let few : length ws ≤ wordsMost = rw length-words (start .pre .0 .inside .most) in
-    many-full _ _ ws _ (c .before .before .before .before .before .before .before .before .before .before .before .before .before .before .sweep-pairs .ensures) few (c .before .before .before .before .before .before .before .before .before .before .survey-pairs .ensures) (c .before .before .before .before .before .before .before .before .survey .given .1) (c .before .before .before .before .before .room .ensures) (c .before .before .before .before .if1 .taken) (c .before .before .put-error2 .ensures)
+    many-full _ _ ws _ (back14 .sweep-pairs .ensures) few (back10 .survey-pairs .ensures) (back8 .survey .given .1) (back5 .room .ensures) (back4 .if1 .taken) (back2 .put-error2 .ensures)
 
 place-pairs-requires : tie.Need-place-pairs-requires
 place-pairs-requires c κs =
-    let start = c .before .before .before .before .before .before .before .before .before .before .before .before .before .before .before .before .before in
+    let back5 = c .before .before .before .before .before in let back7 = back5 .before .before in let back11 = back7 .before .before .before .before in
+    let start = back11 .before .before .before .before .before .before in
     let ws = wordsIn (now (start .args .command)) (now (start .args .pairs)) in
     let few : length ws ≤ wordsMost = rw length-words (start .pre .0 .inside .most) in
-    (start .pre .0 .inside, many-placing _ _ ws _ (c .before .before .before .before .before .before .before .before .before .before .before .sweep-pairs .ensures) few (c .before .before .before .before .before .before .before .survey-pairs .ensures) (c .before .before .before .before .before .survey .given .1) (start .pre .1))
+    (start .pre .0 .inside, many-placing _ _ ws _ (back11 .sweep-pairs .ensures) few (back7 .survey-pairs .ensures) (back5 .survey .given .1) (start .pre .1))
 
 returns-3 : tie.Need-returns-3
 unfolding room line text
 returns-3 c =
-    let start = c .before .before .before .before .before .before .before .before .before .before .before .before .before .before .before .before .before .before .before .before .before .before .before .before .before in
+    let back2 = c .before .before in let back7 = back2 .before .before .before .before .before in let back9 = back7 .before .before in let back10 = back9 .before in let back13 = back10 .before .before .before in let back15 = back13 .before .before in let back19 = back15 .before .before .before .before in
+    let start = back19 .before .before .before .before .before .before in
     let ws = wordsIn (now (start .args .command)) (now (start .args .pairs)) in
     let few : length ws ≤ wordsMost = rw length-words (start .pre .0 .inside .most) in
-    many-done _ _ ws _ (c .before .before .before .before .before .before .before .before .before .before .before .before .before .before .before .before .before .before .before .sweep-pairs .ensures) few (c .before .before .before .before .before .before .before .before .before .before .before .before .before .before .before .survey-pairs .ensures) (c .before .before .before .before .before .before .before .before .before .before .before .before .before .survey .given .1) (c .before .before .before .before .before .before .before .before .before .before .room .ensures) (c .before .before .before .before .before .before .before .before .before .if1 .left) (c .before .before .before .before .before .before .before .place-pairs .ensures) (c .before .before .put-line .ensures)
+    many-done _ _ ws _ (back19 .sweep-pairs .ensures) few (back15 .survey-pairs .ensures) (back13 .survey .given .1) (back10 .room .ensures) (back9 .if1 .left) (back7 .place-pairs .ensures) (back2 .put-line .ensures)
 
 pub set-many-spec : {M : Type 1} → statement M
 set-many-spec =

@@ -41,32 +41,35 @@ add-if1-2 c =
 
 returns : tie.Need-returns Inv-loop μ-loop
 returns c =
-    let word = c .before .before .before .before .word in
-    let next = next-named _ _ _ (c .before .before .before .before .before .loop-test .taken) (word .ensures) in
-    let held = version-sought (record { well = c .before .before .before .before .before .before .before .before .before .before .pre .1; looked = c .before .before .before .named .ensures }) (c .before .held-version .ensures) in
-    let again = again-is _ _ _ (word .ensures) (c .before .before .repeats .ensures) in
-    surveying-over (c .before .before .before .before .before .before .loop .inv .0) next held again (c .if1 .taken)
+    let back2 = c .before .before in let back3 = back2 .before in let back4 = back3 .before in let back5 = back4 .before in let back6 = back5 .before in
+    let word = back4 .word in
+    let next = next-named _ _ _ (back5 .loop-test .taken) (word .ensures) in
+    let held = version-sought (record { well = back6 .before .before .before .before .pre .1; looked = back3 .named .ensures }) (c .before .held-version .ensures) in
+    let again = again-is _ _ _ (word .ensures) (back2 .repeats .ensures) in
+    surveying-over (back6 .loop .inv .0) next held again (c .if1 .taken)
 
 add-n : tie.Need-add-n Inv-loop μ-loop
 add-n c =
-    let start = c .before .before .before .before .before .before .before .before .before .before .before in
-    let word = c .before .before .before .before .before .word in
-    let named = c .before .before .before .before .named in
-    let next = next-named _ _ _ (c .before .before .before .before .before .before .loop-test .taken) (word .ensures) in
-    let held = version-sought (record { well = start .pre .1; looked = named .ensures }) (c .before .before .held-version .ensures) in
-    let again = again-is _ _ _ (word .ensures) (c .before .before .before .repeats .ensures) in
-    omega (arith, surveying-few (surveying-on (c .before .before .before .before .before .before .before .loop .inv .0) next held again (c .before .if1 .left) (named .ensures) (c .new-field .ensures)), few-fields (now (start .args .command)) (now (start .args .pairs)) (start .pre .0))
+    let back2 = c .before .before in let back3 = back2 .before in let back4 = back3 .before in let back5 = back4 .before in let back6 = back5 .before in let back7 = back6 .before in
+    let start = back7 .before .before .before .before in
+    let word = back5 .word in
+    let named = back4 .named in
+    let next = next-named _ _ _ (back6 .loop-test .taken) (word .ensures) in
+    let held = version-sought (record { well = start .pre .1; looked = named .ensures }) (back2 .held-version .ensures) in
+    let again = again-is _ _ _ (word .ensures) (back3 .repeats .ensures) in
+    omega (arith, surveying-few (surveying-on (back7 .loop .inv .0) next held again (c .before .if1 .left) (named .ensures) (c .new-field .ensures)), few-fields (now (start .args .command)) (now (start .args .pairs)) (start .pre .0))
 
 loop-again : tie.Need-loop-again Inv-loop μ-loop
 loop-again c =
-    let start = c .before .before .before .before .before .before .before .before .before .before .before in
-    let loop-test = c .before .before .before .before .before .before .loop-test in
-    let word = c .before .before .before .before .before .word in
-    let named = c .before .before .before .before .named in
+    let back2 = c .before .before in let back3 = back2 .before in let back4 = back3 .before in let back5 = back4 .before in let back6 = back5 .before in let back7 = back6 .before in
+    let start = back7 .before .before .before .before in
+    let loop-test = back6 .loop-test in
+    let word = back5 .word in
+    let named = back4 .named in
     let next = next-named _ _ _ (loop-test .taken) (word .ensures) in
-    let held = version-sought (record { well = start .pre .1; looked = named .ensures }) (c .before .before .held-version .ensures) in
-    let again = again-is _ _ _ (word .ensures) (c .before .before .before .repeats .ensures) in
-    (surveying-on (c .before .before .before .before .before .before .before .loop .inv .0) next held again (c .before .if1 .left) (named .ensures) (c .new-field .ensures), omega (arith, loop-test .taken, start .pre .0 .most))
+    let held = version-sought (record { well = start .pre .1; looked = named .ensures }) (back2 .held-version .ensures) in
+    let again = again-is _ _ _ (word .ensures) (back3 .repeats .ensures) in
+    (surveying-on (back7 .loop .inv .0) next held again (c .before .if1 .left) (named .ensures) (c .new-field .ensures), omega (arith, loop-test .taken, start .pre .0 .most))
 
 returns-2 : tie.Need-returns-2 Inv-loop μ-loop
 returns-2 c = surveying-ends (c .before .loop .inv .0) (none-named _ _ _ (c .loop-test .left))

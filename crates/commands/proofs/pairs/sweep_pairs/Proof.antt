@@ -25,8 +25,9 @@ loop-holds c = (record { well = c .before .before .before .pre .1; same = refl }
 
 loop-again : tie.Need-loop-again Inv-loop μ-loop
 loop-again c =
-    let loop-test = c .before .before .before .before .before .loop-test in
-    (sweeping-on (c .before .before .before .before .before .before .loop .inv .0) (next-named _ _ _ (loop-test .taken) (c .before .before .before .word .ensures)) (c .before .before .look .ensures .0), omega (arith, loop-test .taken, c .before .before .before .before .before .before .before .before .before .before .pre .0 .most), search needs)
+    let back2 = c .before .before in let back3 = back2 .before in let back5 = back3 .before .before in let back6 = back5 .before in
+    let loop-test = back5 .loop-test in
+    (sweeping-on (back6 .loop .inv .0) (next-named _ _ _ (loop-test .taken) (back3 .word .ensures)) (back2 .look .ensures .0), omega (arith, loop-test .taken, back6 .before .before .before .before .pre .0 .most), search needs)
 
 returns : tie.Need-returns Inv-loop μ-loop
 returns c = sweeping-ends (c .before .loop .inv .0) (none-named _ _ _ (c .loop-test .left))

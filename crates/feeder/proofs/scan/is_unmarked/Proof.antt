@@ -20,9 +20,6 @@ loop-holds c = count-begins (c .args .block .now)
 add-marks : tie.Need-add-marks Inv-loop μ-loop
 add-marks c = omega (arith, c .before .before .before .loop .inv .few)
 
-loop-less : tie.Need-loop-less Inv-loop μ-loop
-loop-less c = omega arith
-
 loop-again : tie.Need-loop-again Inv-loop μ-loop
 loop-again c =
     let loop-test = c .before .before .loop-test in
@@ -44,6 +41,6 @@ is-unmarked-spec =
     (λ c. search needs)
     add-marks
     (λ c. search needs)
-    loop-less
+    (λ c. omega arith)
     loop-again
     returns)

@@ -20,9 +20,6 @@ loop-holds c = c .pass-blocks .ensures
 returns : tie.Need-returns Inv-loop μ-loop
 returns c = c .before .before .before .loop .inv
 
-loop-less : tie.Need-loop-less Inv-loop μ-loop
-loop-less c = omega arith
-
 loop-again : tie.Need-loop-again Inv-loop μ-loop
 loop-again c = pass-goes-on _ _ _ (c .before .before .before .loop .inv) (c .before .before .loop-test .taken) (c .if1 .left)
 
@@ -40,6 +37,6 @@ next-mark-spec =
     (λ c. search needs)
     returns
     (λ c. search needs)
-    loop-less
+    (λ c. omega arith)
     loop-again
     returns-2)

@@ -21,9 +21,6 @@ loop-holds c = pass-begins _ _ (c .before .pre)
 returns : tie.Need-returns Inv-loop μ-loop
 returns c = c .before .before .before .before .loop .inv
 
-loop-less : tie.Need-loop-less Inv-loop μ-loop
-loop-less c = omega arith
-
 loop-again : tie.Need-loop-again Inv-loop μ-loop
 loop-again c =
     pass-block _ _ _ (c .before .before .before .before .loop .inv) (c .before .before .before .loop-test .taken)
@@ -46,6 +43,6 @@ pass-blocks-spec =
     (λ c. search needs)
     (λ c κs. search needs)
     returns
-    loop-less
+    (λ c. omega arith)
     loop-again
     returns-2)

@@ -3,7 +3,7 @@ use native.Mathlib.Omega.{arith}
 use lib.Seq.{length-take-le}
 use borrow.Author.Tests.{not-true, not-false}
 use borrow.Author.Needs.{needs}
-use Rattle.wire.proofs.Bytes.{bytes-intro}
+use Rattle.wire.proofs.ByteLaws.{bytes-intro}
 use Rattle.feeder.proofs.StateLeft.{left-many, left-dirty, left-clean}
 use Rattle.feeder.proofs.state.feeding_leaves.Statement.{statement}
 use Rattle.feeder.proofs.state.feeding_leaves.Tie as tie

@@ -1,7 +1,7 @@
 use native.Mathlib.Omega.{arith}
 use denote.Ref.{now}
 use Rattle.store.proofs.Changes.{clock-laid}
-use Rattle.store.proofs.At.{header-inside}
+use Rattle.store.proofs.ReadAt.{header-inside}
 use borrow.Author.Needs.{needs}
 use Rattle.store.proofs.change.set_clock.Statement.{statement}
 use Rattle.store.proofs.change.set_clock.Tie as tie

@@ -1,7 +1,7 @@
 use mathlib.Core.Path.{sym, _∙_}
 use denote.Ref.{now}
 use borrow.Author.Tests.{not-true, not-false}
-use Rattle.wire.proofs.Bytes.{bytes-intro}
+use Rattle.wire.proofs.ByteLaws.{bytes-intro}
 use Rattle.store.proofs.StoreChecks.{size-wrong, header-inside, slots-inside, size-right}
 use borrow.Author.Needs.{needs}
 use Rattle.store.proofs.check.well_formed.Statement.{statement}

@@ -4,7 +4,7 @@ use native.Mathlib.Omega.{arith}
 use denote.Ref.{now}
 use borrow.Author.Needs.{needs}
 use Rattle.store.specs.Time.{liveOfKey}
-use Rattle.store.proofs.Searches.{Count, count-begins, walk-inside, walk-bytes, count-adds, count-goes-on, count-ends}
+use Rattle.store.proofs.Finding.{Count, count-begins, walk-inside, walk-bytes, count-adds, count-goes-on, count-ends}
 use Rattle.store.proofs.find.count_live.Statement.{statement}
 use Rattle.store.proofs.find.count_live.Tie as tie
 

@@ -3,7 +3,7 @@ use denote.Ref.{now}
 use borrow.Author.Needs.{needs}
 use Rattle.store.specs.Store.{decode}
 use Rattle.store.specs.Time.{liveOfKey, keyExists}
-use Rattle.store.proofs.Searches.{found-any, nothing-any}
+use Rattle.store.proofs.Finding.{found-any, nothing-any}
 use Rattle.store.proofs.find.key_exists.Statement.{statement}
 use Rattle.store.proofs.find.key_exists.Tie as tie
 

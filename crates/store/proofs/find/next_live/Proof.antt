@@ -5,7 +5,7 @@ use borrow.Author.Needs.{needs}
 use Rattle.store.specs.Store.{decode}
 use Rattle.store.specs.Time.{liveOfKey}
 use Rattle.store.specs.Promises.{lowestFrom}
-use Rattle.store.proofs.Searches.{Seek, walk-inside, walk-bytes, seek-finds, seek-goes-on, seek-ends}
+use Rattle.store.proofs.Finding.{Seek, walk-inside, walk-bytes, seek-finds, seek-goes-on, seek-ends}
 use Rattle.store.proofs.find.next_live.Statement.{statement}
 use Rattle.store.proofs.find.next_live.Tie as tie
 

@@ -1,6 +1,6 @@
 use mathlib.Core.Path.{sym}
 use denote.Ref.{now}
-use Rattle.wire.proofs.Bytes.{bytes-intro}
+use Rattle.wire.proofs.ByteLaws.{bytes-intro}
 use Rattle.store.proofs.SlotChecks.{word-beyond, beyond-whole}
 use borrow.Author.Needs.{needs}
 use Rattle.store.proofs.padding.padding_of_8.Statement.{statement}

@@ -2,7 +2,7 @@ use native.Mathlib.Omega.{arith}
 use denote.Ref.{now}
 use borrow.Author.Needs.{needs}
 use Rattle.store.specs.Store.{clockOf, decode}
-use Rattle.store.proofs.At.{header-inside}
+use Rattle.store.proofs.ReadAt.{header-inside}
 use Rattle.store.proofs.read.clock.Statement.{statement}
 use Rattle.store.proofs.read.clock.Tie as tie
 

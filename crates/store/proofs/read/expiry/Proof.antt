@@ -1,6 +1,6 @@
 use denote.Ref.{now}
 use Rattle.store.specs.Store.{decodeEntry}
-use Rattle.store.proofs.At.{slot-inside, held-bytes, entry-means}
+use Rattle.store.proofs.ReadAt.{slot-inside, held-bytes, entry-means}
 use Rattle.store.proofs.read.expiry.Statement.{statement}
 use Rattle.store.proofs.read.expiry.Tie as tie
 

@@ -1,5 +1,5 @@
 use denote.Ref.{now}
-use Rattle.store.proofs.At.{header-inside, count-slots}
+use Rattle.store.proofs.ReadAt.{header-inside, count-slots}
 use Rattle.store.proofs.read.slots.Statement.{statement}
 use Rattle.store.proofs.read.slots.Tie as tie
 

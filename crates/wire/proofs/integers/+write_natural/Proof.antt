@@ -5,8 +5,8 @@ use mathlib.Core.Path.{ap}
 use borrow.Fn.Kinds.{In}
 use borrow.Fn.PlainCycle.{Measures, is, falls, and}
 use lib.ListN.{length, length-set}
-use Rattle.wire.proofs.Laying.{laid-digit, laid-last, laid-room, length-last}
-use Rattle.wire.proofs.Digits.{text-digit}
+use Rattle.wire.proofs.ReplyLaying.{laid-digit, laid-last, laid-room, length-last}
+use Rattle.wire.proofs.IntegerDigits.{text-digit}
 use Rattle.wire.proofs.integers.write_natural.Reads as write-natural
 use Rattle.wire.proofs.integers.write_natural.Kinds as write-natural-kinds
 use Rattle.wire.proofs.integers.+write_natural.Lts-write_natural as write-natural-lts

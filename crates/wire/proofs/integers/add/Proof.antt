@@ -1,6 +1,6 @@
 -- Each return is one law of sums of signs and magnitudes.
 use native.Mathlib.Omega.{arith}
-use Rattle.wire.proofs.Signs.{signs-same, signs-other, magnitude-most, add-same, add-first, add-second, add-outside}
+use Rattle.wire.proofs.IntegerSigns.{signs-same, signs-other, magnitude-most, add-same, add-first, add-second, add-outside}
 use borrow.Author.Needs.{needs}
 use Rattle.wire.proofs.integers.add.Statement.{statement}
 use Rattle.wire.proofs.integers.add.Tie as tie

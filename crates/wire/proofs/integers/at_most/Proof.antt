@@ -2,7 +2,7 @@
 use mathlib.Core.Path.{_∙_}
 use mathlib.Core.Bool.{Bool·beq}
 use borrow.Author.Tests.{not-true, not-false}
-use Rattle.wire.proofs.Signs.{signs-same, signs-other, le-first, le-second, le-never, le-minus, le-plain}
+use Rattle.wire.proofs.IntegerSigns.{signs-same, signs-other, le-first, le-second, le-never, le-minus, le-plain}
 use Rattle.wire.proofs.integers.at_most.Statement.{statement}
 use Rattle.wire.proofs.integers.at_most.Tie as tie
 

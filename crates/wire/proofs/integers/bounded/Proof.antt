@@ -1,6 +1,6 @@
 -- Each return is one law of sign and magnitude.
 use Rattle.wire.specs.Promises.{integerOf}
-use Rattle.wire.proofs.Signs.{answer-zero, answer-minus, answer-plain, answer-below, answer-above}
+use Rattle.wire.proofs.IntegerSigns.{answer-zero, answer-minus, answer-plain, answer-below, answer-above}
 use borrow.Author.Needs.{needs}
 use Rattle.wire.proofs.integers.bounded.Statement.{statement}
 use Rattle.wire.proofs.integers.bounded.Tie as tie

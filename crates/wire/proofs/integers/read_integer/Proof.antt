@@ -1,6 +1,6 @@
 -- With no minus a text is read as a number, and else what follows it. The laws say each return of what `read_natural` answered.
 use native.Mathlib.Omega.{arith}
-use Rattle.wire.proofs.Signs.{integer-empty, plain-value, plain-refused, minus-value, minus-zero, minus-refused}
+use Rattle.wire.proofs.IntegerSigns.{integer-empty, plain-value, plain-refused, minus-value, minus-zero, minus-refused}
 use borrow.Author.Needs.{needs}
 use Rattle.wire.proofs.integers.read_integer.Statement.{statement}
 use Rattle.wire.proofs.integers.read_integer.Tie as tie

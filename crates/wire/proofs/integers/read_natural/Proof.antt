@@ -4,7 +4,7 @@ use native.Mathlib.Omega.{arith}
 use borrow.Author.Tests.{ltb-true, ltb-false}
 use mathlib.Core.Logic.{⊎-elim}
 use lib.ListN.{length, getD}
-use Rattle.wire.proofs.Reading.{Reading, digit-below, digit-over, digit-between, read-empty, read-zero, reading-begins, reading-digit, reading-other, reading-above, reading-ends}
+use Rattle.wire.proofs.IntegerReading.{Reading, digit-below, digit-over, digit-between, read-empty, read-zero, reading-begins, reading-digit, reading-other, reading-above, reading-ends}
 use Rattle.wire.proofs.integers.read_natural.Statement.{statement}
 use Rattle.wire.proofs.integers.read_natural.Tie as tie
 

@@ -7,11 +7,11 @@ use native.Mathlib.Omega.{arith}
 use borrow.Author.Tests.{ltb-true, ltb-false}
 use borrow.Rule.Slice.PartMut.{same-len-mid}
 use lib.ListN.{length, set, length-set}
-use Rattle.wire.specs.Integer.{naturalText, integerText}
+use Rattle.wire.specs.Integers.{naturalText, integerText}
 use Rattle.wire.specs.Promises.{integerOf}
 use Rattle.wire.proofs.Lists.{both-ways}
-use Rattle.wire.proofs.Laying.{laid-first, length-tail}
-use Rattle.wire.proofs.Signs.{text-minus, text-plain}
+use Rattle.wire.proofs.ReplyLaying.{laid-first, length-tail}
+use Rattle.wire.proofs.IntegerSigns.{text-minus, text-plain}
 use borrow.Author.Needs.{needs}
 use Rattle.wire.proofs.integers.write_integer.Statement.{statement}
 use Rattle.wire.proofs.integers.write_integer.Tie as tie

@@ -2,7 +2,7 @@
 use mathlib.Core.Logic.{⊎-elim}
 use borrow.Author.Needs.{needs}
 use borrow.Author.Tests.{leb-true, leb-false}
-use Rattle.wire.proofs.Rows.{upper-small, upper-below, upper-above}
+use Rattle.wire.proofs.NameRows.{upper-small, upper-below, upper-above}
 use Rattle.wire.proofs.names.capital.Statement.{statement}
 use Rattle.wire.proofs.names.capital.Tie as tie
 

@@ -6,7 +6,7 @@ use native.Mathlib.Omega.{arith}
 use borrow.Author.Needs.{needs}
 use lib.ListN.{length}
 use Rattle.wire.specs.Promises.{rowSize, rowFor, rowFrom, rowNamed}
-use Rattle.wire.proofs.Rows.{row-hit, row-skip, row-end}
+use Rattle.wire.proofs.NameRows.{row-hit, row-skip, row-end}
 use Rattle.wire.proofs.names.find.Statement.{statement}
 use Rattle.wire.proofs.names.find.Tie as tie
 

@@ -5,8 +5,8 @@ use Prim.Native.Nat.{ℕ, _-_}
 use borrow.Author.Needs.{needs}
 use lib.ListN.{length, getD}
 use Rattle.wire.specs.Bytes.{upper}
-use Rattle.wire.proofs.Passing.{Comparing, not-same, compare-begins, compare-goes-on, compare-ends}
-use Rattle.wire.proofs.Rows.{length-upper, upper-at}
+use Rattle.wire.proofs.ByteLoops.{Comparing, not-same, compare-begins, compare-goes-on, compare-ends}
+use Rattle.wire.proofs.NameRows.{length-upper, upper-at}
 use Rattle.wire.proofs.names.spells.Statement.{statement}
 use Rattle.wire.proofs.names.spells.Tie as tie
 

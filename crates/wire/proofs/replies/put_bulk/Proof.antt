@@ -1,9 +1,9 @@
 use mathlib.Core.List.{_∷_, _++_}
 use native.Mathlib.Omega.{arith}
 use lib.ListN.{length}
-use Rattle.wire.specs.Integer.{naturalText}
+use Rattle.wire.specs.Integers.{naturalText}
 use Rattle.wire.specs.Words.{crlf}
-use Rattle.wire.proofs.Laying.{laid-within, laid-tail, tail-inside, tail-room, front-room, bulk-parts, bulk-room}
+use Rattle.wire.proofs.ReplyLaying.{laid-within, laid-tail, tail-inside, tail-room, front-room, bulk-parts, bulk-room}
 use borrow.Author.Needs.{needs}
 use Rattle.wire.proofs.replies.put_bulk.Statement.{statement}
 use Rattle.wire.proofs.replies.put_bulk.Tie as tie

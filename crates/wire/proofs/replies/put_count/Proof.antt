@@ -1,7 +1,7 @@
 use mathlib.Core.List.{_∷_}
-use Rattle.wire.proofs.Laying.{laid-length, laid-within, laid-tail, tail-inside, tail-room, front-room, mark-inside, mark-room, marked}
+use Rattle.wire.proofs.ReplyLaying.{laid-length, laid-within, laid-tail, tail-inside, tail-room, front-room, mark-inside, mark-room, marked}
 use native.Mathlib.Omega.{arith}
-use Rattle.wire.specs.Integer.{naturalText}
+use Rattle.wire.specs.Integers.{naturalText}
 use Rattle.wire.specs.Words.{crlf}
 use borrow.Author.Needs.{needs}
 use Rattle.wire.proofs.replies.put_count.Statement.{statement}

@@ -1,5 +1,5 @@
 use native.Mathlib.Omega.{arith}
-use Rattle.wire.proofs.Laying.{laid-none, laid-more}
+use Rattle.wire.proofs.ReplyLaying.{laid-none, laid-more}
 use borrow.Author.Needs.{needs}
 use Rattle.wire.proofs.replies.put_end.Statement.{statement}
 use Rattle.wire.proofs.replies.put_end.Tie as tie

@@ -1,5 +1,5 @@
 use Rattle.wire.specs.Bytes.{text}
-use Rattle.wire.specs.Reply.{header}
+use Rattle.wire.specs.Replies.{header}
 use borrow.Author.Needs.{needs}
 use Rattle.wire.proofs.replies.put_header.Statement.{statement}
 use Rattle.wire.proofs.replies.put_header.Tie as tie

@@ -1,11 +1,11 @@
 use mathlib.Core.List.{_∷_}
 use native.Mathlib.Omega.{arith}
 use Rattle.wire.specs.Bytes.{text}
-use Rattle.wire.specs.Integer.{integerText}
+use Rattle.wire.specs.Integers.{integerText}
 use Rattle.wire.specs.Words.{crlf}
-use Rattle.wire.specs.Reply.{integer}
+use Rattle.wire.specs.Replies.{integer}
 use Rattle.wire.specs.Promises.{integerOf}
-use Rattle.wire.proofs.Laying.{laid-length, laid-within, laid-tail, tail-inside, tail-room, front-room, mark-inside, mark-room, marked}
+use Rattle.wire.proofs.ReplyLaying.{laid-length, laid-within, laid-tail, tail-inside, tail-room, front-room, mark-inside, mark-room, marked}
 use borrow.Author.Needs.{needs}
 use Rattle.wire.proofs.replies.put_integer.Statement.{statement}
 use Rattle.wire.proofs.replies.put_integer.Tie as tie

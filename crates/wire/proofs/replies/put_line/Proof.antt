@@ -1,7 +1,7 @@
 use native.Mathlib.Omega.{arith}
 use lib.ListN.{length-append}
 use Rattle.wire.specs.Words.{crlf}
-use Rattle.wire.proofs.Laying.{laid-copied, laid-tail, tail-inside, tail-room}
+use Rattle.wire.proofs.ReplyLaying.{laid-copied, laid-tail, tail-inside, tail-room}
 use borrow.Author.Needs.{needs}
 use Rattle.wire.proofs.replies.put_line.Statement.{statement}
 use Rattle.wire.proofs.replies.put_line.Tie as tie

@@ -1,5 +1,5 @@
 use Rattle.wire.specs.Bytes.{text}
-use Rattle.wire.specs.Reply.{line, nil}
+use Rattle.wire.specs.Replies.{line, nil}
 use borrow.Author.Needs.{needs}
 use Rattle.wire.proofs.replies.put_nil.Statement.{statement}
 use Rattle.wire.proofs.replies.put_nil.Tie as tie

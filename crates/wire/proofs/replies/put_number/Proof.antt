@@ -1,6 +1,6 @@
 use Rattle.wire.specs.Bytes.{text}
-use Rattle.wire.specs.Integer.{integerText}
-use Rattle.wire.specs.Reply.{integer}
+use Rattle.wire.specs.Integers.{integerText}
+use Rattle.wire.specs.Replies.{integer}
 use borrow.Author.Needs.{needs}
 use Rattle.wire.proofs.replies.put_number.Statement.{statement}
 use Rattle.wire.proofs.replies.put_number.Tie as tie
