@@ -5,15 +5,12 @@ use mathlib.Core.Option.{Option, none, some}
 use Prim.Native.Nat.{ℕ, _+_, _-_, _≤_}
 use native.Mathlib.Omega.{arith}
 use lib.ListN.{length, drop}
+use Rattle.wire.proofs.Lists.{impossible}
 use Rattle.feeder.specs.Record.{Head, headOf, recordOf, commandAt, commandMost}
 use Rattle.feeder.specs.Record.Head.{skip, whole, wait}
 use Rattle.feeder.specs.Stream.{ended, skipping, dividedAt, divideAfter, divide}
 use Rattle.feeder.specs.Absorb.{Place, later, placedAt, firstRecord, endOf}
 use Rattle.feeder.proofs.RecordHead.{told, head-more, whole-fits, whole-most, skip-fewer, whole-fewer}
-
--- an impossible case
-pub never {ℓ} : {A : Type ℓ} → _≡_ {A = ℕ} 0 1 → A
-never z = absurd (let n : ⊥ = omega arith in n)
 
 -- the first record of a stream stands after bytes to skip
 pub data First : List ℕ → Place → Type 0 where
@@ -29,19 +26,19 @@ pub data NoFirst : List ℕ → Type 0 where
 -- firstRecord finds the first record
 pub first-found : (s : List ℕ) (p : Place) → firstRecord s ≡ some p → First s p
 unfolding firstRecord placedAt
-first-found [] p e = never (cc)
+first-found [] p e = impossible cc
 first-found (b ∷ s) p e = go (headOf (b ∷ s)) refl (firstRecord s) e (first-found s)
   where
     go : (h : Head) → headOf (b ∷ s) ≡ h → (m : Option Place) → placedAt h m ≡ some p
         → ((q : Place) → m ≡ some q → First s q) → First (b ∷ s) p
-    go skip x none e ih = never (cc)
+    go skip x none e ih = impossible cc
     go skip x (some q) e ih =
         let z : later q ≡ p = cc in
         rw z at (there x (ih q refl))
     go (whole n) x m e ih =
         let z : record { at = 0; size = n } ≡ p = cc in
         rw z at (here x)
-    go wait x m e ih = never (cc)
+    go wait x m e ih = impossible cc
 
 -- or there is none
 pub none-found : (s : List ℕ) → firstRecord s ≡ none → NoFirst s
@@ -51,8 +48,8 @@ none-found (b ∷ s) e = go (headOf (b ∷ s)) refl (firstRecord s) e (none-foun
   where
     go : (h : Head) → headOf (b ∷ s) ≡ h → (m : Option Place) → placedAt h m ≡ none → (m ≡ none → NoFirst s) → NoFirst (b ∷ s)
     go skip x none e ih = skips x (ih refl)
-    go skip x (some q) e ih = never (cc)
-    go (whole n) x m e ih = never (cc)
+    go skip x (some q) e ih = impossible cc
+    go (whole n) x m e ih = impossible cc
     go wait x m e ih = waits x
 
 -- the first record is what firstRecord finds
@@ -99,7 +96,7 @@ first-more u (there {b = b} {s = s} h f) = there (head-more (b ∷ s) u (omega a
 
 -- it is the first of any fewer bytes that reach its end
 pub first-fewer : (s u : List ℕ) (p : Place) → First (s ++ u) p → endOf p ≤ length s → First s p
-first-fewer [] u p f l = never (omega arith)
+first-fewer [] u p f l = impossible (omega arith)
 first-fewer (b ∷ s) u p (here {n = n} h) l = here (whole-fewer n (b ∷ s) u (omega arith) h)
 first-fewer (b ∷ s) u p (there {p = q} h f) l =
     there (skip-fewer (b ∷ s) u (omega arith) h) (first-fewer s u q f (omega arith))

@@ -12,7 +12,7 @@ use borrow.Author.Tests.{eqb-true, leb-true, eq-eqb, le-leb, lt-leb}
 use Rattle.wire.specs.Lists.{every}
 use Rattle.wire.specs.Bytes.{Bytes, allZero, padded, same}
 use Rattle.wire.proofs.ByteLaws.{bytes-padded, length-padded, take-padded, drop-padded, same-refl, same-true, zero-replicate}
-use Rattle.wire.proofs.Lists.{every-at}
+use Rattle.wire.proofs.Lists.{every-at, impossible}
 use Rattle.wire.proofs.ByteLoops.{not-same}
 use Rattle.feeder.specs.declared.Feeder.{Feeder}
 use Rattle.feeder.specs.declared.record.Head as codes
@@ -23,7 +23,6 @@ use Rattle.feeder.specs.Stream.{ended, dividedAt, divideAfter, divide}
 use Rattle.feeder.specs.State.{waitingMost, stateOf, waitingIn, isLeft}
 use Rattle.feeder.specs.Promises.{headFor}
 use Rattle.feeder.proofs.RecordHead.{told}
-use Rattle.feeder.proofs.FirstRecord.{never}
 use Rattle.feeder.proofs.StreamDivide.{rest-is, all-wait, rest-waits, rest-short, rest-bytes}
 
 -- ---- a state made of bytes
@@ -55,7 +54,7 @@ rest-left s bs =
 pub none-waits : (s : List ℕ) → length s ≡ 0 → true ≡ same (divide s .rest) s
 unfolding divide divideAfter same
 none-waits [] e = refl
-none-waits (b ∷ s) e = never (omega arith)
+none-waits (b ∷ s) e = impossible (omega arith)
 
 -- past its first byte a stream has a rest of fewer bytes
 rest-fewer : (k : ℕ) (s : List ℕ) → length (divideAfter k s .rest) ≤ length s
@@ -95,10 +94,10 @@ module _ (s : List ℕ) (some : length s ≡ 0 → ⊥) where
       go wait e = absurd (other e)
 
   pub head-skips : heads.Skip ≡ headFor (headOf (drop 0 (s ++ []))) → false ≡ same (divide s .rest) s
-  head-skips = head-tells (λ z. never (cc))
+  head-skips = head-tells (λ z. impossible cc)
 
   pub head-whole : (n : ℕ) → heads.Whole n ≡ headFor (headOf (drop 0 (s ++ []))) → false ≡ same (divide s .rest) s
-  head-whole n = head-tells (λ z. never (cc))
+  head-whole n = head-tells (λ z. impossible cc)
 
 -- ---- whether feeding leaves a state
 

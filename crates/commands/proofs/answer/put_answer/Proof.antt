@@ -5,9 +5,7 @@ use Rattle.commands.proofs.answer.put_answer.Statement.{statement}
 use Rattle.commands.proofs.answer.put_answer.Tie as tie
 
 put-found-requires : tie.Need-put-found-requires
-put-found-requires c κs =
-    let start = c .before .before .before .before .before .before .before .before in
-    (looked-held (now (start .args .bytes)) (now (start .args .key)) (now (start .args .field)) (start .pre .1) (start .pre .0) (c .before .before .found .given .1), start .pre .2)
+put-found-requires c κs = let start = c .before .before .before .before .before .before .before .before in (looked-held (now (start .args .bytes)) (now (start .args .key)) (now (start .args .field)) (start .pre .1) (start .pre .0) (c .before .before .found .given .1), start .pre .2)
 
 returns : tie.Need-returns
 returns c =

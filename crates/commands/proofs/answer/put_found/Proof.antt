@@ -17,9 +17,7 @@ put-number-requires c κs =
     found-room (start .args .time) (start .args .question) (start .pre .0) (start .pre .1) (length-reply (start .args .time) (entryAt (decode (now (start .args .bytes)) .slots) (start .args .i)) (c .before .before .enum-told2 .given .1) (c .before .value2 .ensures))
 
 put-number-requires-2 : tie.Need-put-number-requires-2
-put-number-requires-2 c κs =
-    let start = c .before .before .before .before .before in
-    found-room (start .args .time) (start .args .question) (start .pre .0) (start .pre .1) (exists-reply (start .args .time) (entryAt (decode (now (start .args .bytes)) .slots) (start .args .i)) (c .before .enum-told3 .given .1))
+put-number-requires-2 c κs = let start = c .before .before .before .before .before in found-room (start .args .time) (start .args .question) (start .pre .0) (start .pre .1) (exists-reply (start .args .time) (entryAt (decode (now (start .args .bytes)) .slots) (start .args .i)) (c .before .enum-told3 .given .1))
 
 put-number-requires-3 : tie.Need-put-number-requires-3
 put-number-requires-3 c κs =
@@ -47,14 +45,10 @@ returns-2 c =
     laid-reply (length-reply (start .args .time) (entryAt (decode (now (start .args .bytes)) .slots) (start .args .i)) (c .before .before .before .before .before .enum-told2 .given .1) (c .before .before .before .before .value2 .ensures)) (c .before .before .put-number .ensures)
 
 returns-3 : tie.Need-returns-3
-returns-3 c =
-    let start = c .before .before .before .before .before .before .before .before in
-    laid-reply (exists-reply (start .args .time) (entryAt (decode (now (start .args .bytes)) .slots) (start .args .i)) (c .before .before .before .before .enum-told3 .given .1)) (c .before .before .put-number2 .ensures)
+returns-3 c = let start = c .before .before .before .before .before .before .before .before in laid-reply (exists-reply (start .args .time) (entryAt (decode (now (start .args .bytes)) .slots) (start .args .i)) (c .before .before .before .before .enum-told3 .given .1)) (c .before .before .put-number2 .ensures)
 
 returns-4 : tie.Need-returns-4
-returns-4 c =
-    let start = c .before .before .before .before .before .before .before .before in
-    laid-reply (versioned-reply (start .args .time) (entryAt (decode (now (start .args .bytes)) .slots) (start .args .i)) (c .before .before .before .before .enum-told4 .given .1)) (c .before .before .put-versioned .ensures)
+returns-4 c = let start = c .before .before .before .before .before .before .before .before in laid-reply (versioned-reply (start .args .time) (entryAt (decode (now (start .args .bytes)) .slots) (start .args .i)) (c .before .before .before .before .enum-told4 .given .1)) (c .before .before .put-versioned .ensures)
 
 returns-5 : tie.Need-returns-5
 returns-5 c =

@@ -41,24 +41,16 @@ put-integer-requires-3 c κs =
     missing-room (start .args .time) (decode (now (start .args .bytes)) .slots) (now (start .args .key)) (start .args .question) (start .pre .1) (no-milliseconds (start .args .time) (decode (now (start .args .bytes)) .slots) (now (start .args .key)) (c .before .enum-told7 .given .1))
 
 returns : tie.Need-returns
-returns c =
-    let start = c .before .before .before .before .before .before .before .before .before in
-    laid-reply (no-value (start .args .time) (decode (now (start .args .bytes)) .slots) (now (start .args .key)) (c .before .before .before .before .enum-told .given .1)) (c .before .before .put-nil .ensures)
+returns c = let start = c .before .before .before .before .before .before .before .before .before in laid-reply (no-value (start .args .time) (decode (now (start .args .bytes)) .slots) (now (start .args .key)) (c .before .before .before .before .enum-told .given .1)) (c .before .before .put-nil .ensures)
 
 returns-2 : tie.Need-returns-2
-returns-2 c =
-    let start = c .before .before .before .before .before .before .before .before .before in
-    laid-reply (no-versioned (start .args .time) (decode (now (start .args .bytes)) .slots) (now (start .args .key)) (c .before .before .before .before .enum-told2 .given .1)) (c .before .before .put-nil2 .ensures)
+returns-2 c = let start = c .before .before .before .before .before .before .before .before .before in laid-reply (no-versioned (start .args .time) (decode (now (start .args .bytes)) .slots) (now (start .args .key)) (c .before .before .before .before .enum-told2 .given .1)) (c .before .before .put-nil2 .ensures)
 
 returns-3 : tie.Need-returns-3
-returns-3 c =
-    let start = c .before .before .before .before .before .before .before .before .before in
-    laid-reply (no-length (start .args .time) (decode (now (start .args .bytes)) .slots) (now (start .args .key)) (c .before .before .before .before .enum-told3 .given .1)) (c .before .before .put-number .ensures)
+returns-3 c = let start = c .before .before .before .before .before .before .before .before .before in laid-reply (no-length (start .args .time) (decode (now (start .args .bytes)) .slots) (now (start .args .key)) (c .before .before .before .before .enum-told3 .given .1)) (c .before .before .put-number .ensures)
 
 returns-4 : tie.Need-returns-4
-returns-4 c =
-    let start = c .before .before .before .before .before .before .before .before .before in
-    laid-reply (no-exists (start .args .time) (decode (now (start .args .bytes)) .slots) (now (start .args .key)) (c .before .before .before .before .enum-told4 .given .1)) (c .before .before .put-number2 .ensures)
+returns-4 c = let start = c .before .before .before .before .before .before .before .before .before in laid-reply (no-exists (start .args .time) (decode (now (start .args .bytes)) .slots) (now (start .args .key)) (c .before .before .before .before .enum-told4 .given .1)) (c .before .before .put-number2 .ensures)
 
 returns-5 : tie.Need-returns-5
 returns-5 c =
@@ -66,14 +58,10 @@ returns-5 c =
     laid-reply (no-version (start .args .time) (decode (now (start .args .bytes)) .slots) (now (start .args .key)) (c .before .before .before .before .before .enum-told5 .given .1) (c .before .before .before .before .no-version .ensures)) (c .before .before .put-integer .ensures)
 
 returns-6 : tie.Need-returns-6
-returns-6 c =
-    let start = c .before .before .before .before .before .before .before .before .before in
-    laid-reply (no-seconds (start .args .time) (decode (now (start .args .bytes)) .slots) (now (start .args .key)) (c .before .before .before .before .enum-told6 .given .1)) (c .before .before .put-integer2 .ensures)
+returns-6 c = let start = c .before .before .before .before .before .before .before .before .before in laid-reply (no-seconds (start .args .time) (decode (now (start .args .bytes)) .slots) (now (start .args .key)) (c .before .before .before .before .enum-told6 .given .1)) (c .before .before .put-integer2 .ensures)
 
 returns-7 : tie.Need-returns-7
-returns-7 c =
-    let start = c .before .before .before .before .before .before .before .before .before in
-    laid-reply (no-milliseconds (start .args .time) (decode (now (start .args .bytes)) .slots) (now (start .args .key)) (c .before .before .before .before .enum-told7 .given .1)) (c .before .before .put-integer3 .ensures)
+returns-7 c = let start = c .before .before .before .before .before .before .before .before .before in laid-reply (no-milliseconds (start .args .time) (decode (now (start .args .bytes)) .slots) (now (start .args .key)) (c .before .before .before .before .enum-told7 .given .1)) (c .before .before .put-integer3 .ensures)
 
 pub put-missing-spec : {M : Type 1} → statement M
 put-missing-spec =

@@ -28,8 +28,7 @@ part-put-bulk-start c =
 
 put-bulk-requires : tie.Need-put-bulk-requires
 put-bulk-requires c κs =
-    let start = c .before .before .before .before .before .before .before .before in
-    let value = c .before .value .result in
+    let start = c .before .before .before .before .before .before .before .before in let value = c .before .value .result in
     tail-room (bulk (now value)) (c .before .before .before .before .put-header .ensures) (front-room (header 2 ++ bulk (now value)) (number (entryAt (decode (now (start .args .bytes)) .slots) (start .args .i) .version)) (pair-room (start .pre .0) (start .pre .1) (c .before .value .ensures) refl))
 
 add-second : tie.Need-add-second

@@ -25,28 +25,16 @@ unfolding anyOver
 loop-holds c = refl
 
 word-requires : tie.Need-word-requires Inv-loop μ-loop
-word-requires c κs =
-    let a = c .before .before .before in
-    a .pre
+word-requires c κs = let a = c .before .before .before in a .pre
 
 returns : tie.Need-returns Inv-loop μ-loop
-returns c =
-    let a = c .before in
-    let b = a .before in
-    let d = b .before in
-    over-found _ (length-words _ _) (d .loop .i) (d .loop .inv) (b .loop-test .taken) (a .word .ensures) (c .if1 .taken)
+returns c = let a = c .before in let b = a .before in let d = b .before in over-found _ (length-words _ _) (d .loop .i) (d .loop .inv) (b .loop-test .taken) (a .word .ensures) (c .if1 .taken)
 
 loop-again : tie.Need-loop-again Inv-loop μ-loop
-loop-again c =
-    let a = c .before in
-    let b = a .before in
-    let d = b .before in
-    over-on _ (length-words _ _) (d .loop .i) (d .loop .inv) (b .loop-test .taken) (a .word .ensures) (c .if1 .left)
+loop-again c = let a = c .before in let b = a .before in let d = b .before in over-on _ (length-words _ _) (d .loop .i) (d .loop .inv) (b .loop-test .taken) (a .word .ensures) (c .if1 .left)
 
 returns-2 : tie.Need-returns-2 Inv-loop μ-loop
-returns-2 c =
-    let a = c .before in
-    over-ends _ (length-words _ _) (a .loop .i) (a .loop .inv) (c .loop-test .left)
+returns-2 c = let a = c .before in over-ends _ (length-words _ _) (a .loop .i) (a .loop .inv) (c .loop-test .left)
 
 pub any-over-spec : {M : Type 1} → statement M
 any-over-spec =

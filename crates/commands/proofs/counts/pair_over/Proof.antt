@@ -31,45 +31,24 @@ unfolding pairOver
 loop-holds c = (omega arith, refl)
 
 word-requires : tie.Need-word-requires Inv-loop μ-loop
-word-requires c κs =
-    let a = c .before .before .before in
-    a .pre
+word-requires c κs = let a = c .before .before .before in a .pre
 
 returns : tie.Need-returns Inv-loop μ-loop
-returns c =
-    let a = c .before in
-    let b = a .before in
-    let d = b .before in
-    pair-field _ (length-words _ _) (d .loop .i) (d .loop .inv .1) (b .loop-test .taken) (a .word .ensures) (c .if1 .taken)
+returns c = let a = c .before in let b = a .before in let d = b .before in pair-field _ (length-words _ _) (d .loop .i) (d .loop .inv .1) (b .loop-test .taken) (a .word .ensures) (c .if1 .taken)
 
 word-requires-2 : tie.Need-word-requires-2 Inv-loop μ-loop
-word-requires-2 c κs =
-    let a = c .before .before .before .before .before in
-    a .pre
+word-requires-2 c κs = let a = c .before .before .before .before .before in a .pre
 
 returns-2 : tie.Need-returns-2 Inv-loop μ-loop
-returns-2 c =
-    let a = c .before in
-    let b = a .before in
-    let d = b .before in
-    let e = d .before in
-    let f = e .before in
-    pair-value _ (length-words _ _) (f .loop .i) (f .loop .inv .1) (e .loop-test .taken) (d .word .ensures) (b .if1 .left) (a .word2 .ensures) (c .if2 .taken)
+returns-2 c = let a = c .before in let b = a .before in let d = b .before in let e = d .before in let f = e .before in pair-value _ (length-words _ _) (f .loop .i) (f .loop .inv .1) (e .loop-test .taken) (d .word .ensures) (b .if1 .left) (a .word2 .ensures) (c .if2 .taken)
 
 loop-again : tie.Need-loop-again Inv-loop μ-loop
 loop-again c =
-    let a = c .before in
-    let b = a .before in
-    let d = b .before in
-    let e = d .before in
-    let f = e .before in
-    let g = f .before .before in
+    let a = c .before in let b = a .before in let d = b .before in let e = d .before in let f = e .before in let g = f .before .before in
     (omega (arith, g .pre .most, e .loop-test .taken), pair-on _ (length-words _ _) (f .loop .i) (f .loop .inv .1) (e .loop-test .taken) (d .word .ensures) (b .if1 .left) (a .word2 .ensures) (c .if2 .left))
 
 returns-3 : tie.Need-returns-3 Inv-loop μ-loop
-returns-3 c =
-    let a = c .before in
-    pair-ends _ (length-words _ _) (a .loop .i) (a .loop .inv .1) (c .loop-test .left)
+returns-3 c = let a = c .before in pair-ends _ (length-words _ _) (a .loop .i) (a .loop .inv .1) (c .loop-test .left)
 
 pub pair-over-spec : {M : Type 1} → statement M
 pair-over-spec =

@@ -30,16 +30,11 @@ part-put-line-end c = line-at (c .before .before .args .n) (c .before .before .p
 
 put-line-requires : tie.Need-put-line-requires
 unfolding placing
-put-line-requires c κs =
-    let a = c .before .before .before .before in
-    line-room (a .args .n) (length (now (a .args .out))) (a .pre .0) (a .pre .1)
+put-line-requires c κs = let a = c .before .before .before .before in line-room (a .args .n) (length (now (a .args .out))) (a .pre .0) (a .pre .1)
 
 returns : tie.Need-returns
 unfolding placing
-returns c =
-    let a = c .before .before in
-    let b = a .before .before .before .before .before in
-    line-laid (b .args .n) (b .pre .0) (a .put-line .ensures)
+returns c = let a = c .before .before in let b = a .before .before .before .before .before in line-laid (b .args .n) (b .pre .0) (a .put-line .ensures)
 
 pub put-error-spec : {M : Type 1} → statement M
 put-error-spec =

@@ -8,14 +8,10 @@ slice-aggregate-run-words : tie.Need-slice-aggregate-run-words
 slice-aggregate-run-words c = places-size (c .before .before .split .ensures)
 
 run-words-requires : tie.Need-run-words-requires
-run-words-requires c κs =
-    let start = c .before .before .before .before .before .before .before .before .before in
-    (places-divided (c .before .before .before .before .split .ensures), start .pre .0, start .pre .1)
+run-words-requires c κs = let start = c .before .before .before .before .before .before .before .before .before in (places-divided (c .before .before .before .before .split .ensures), start .pre .0, start .pre .1)
 
 returns : tie.Need-returns
-returns c =
-    let start = c .before .before .before .before .before .before .before .before .before .before .before .before .before .before in
-    does-exec (start .args .clock) (now (start .args .command)) (now (start .args .store)) (c .before .before .before .before .run-words .ensures)
+returns c = let start = c .before .before .before .before .before .before .before .before .before .before .before .before .before .before in does-exec (start .args .clock) (now (start .args .command)) (now (start .args .store)) (c .before .before .before .before .run-words .ensures)
 
 pub execute-spec : {M : Type 1} → statement M
 execute-spec =

@@ -10,8 +10,7 @@ use Rattle.commands.proofs.execute.run_on_key.Tie as tie
 
 on-key-requires : tie.Need-on-key-requires
 on-key-requires c κs =
-    let back3 = c .before .before .before in let back6 = back3 .before .before .before in
-    let start = back6 .before .before .before .before .before in
+    let back3 = c .before .before .before in let back6 = back3 .before .before .before in let start = back6 .before .before .before .before .before in
     (record { inside = from-inside (now (start .args .command)) (now (start .args .places)) 2 (start .pre .0); few = omega (arith, from-length (now (start .args .places)) 2, start .pre .0 .most); well = back6 .set-clock .ensures .well; room = start .pre .2 .room }, words-within (now (start .args .command)) (now (start .args .places)) (back3 .word .ensures) (start .args .deed) (start .pre .3))
 
 returns : tie.Need-returns

@@ -7,9 +7,7 @@ use Rattle.commands.proofs.execute.run_words.Statement.{statement}
 use Rattle.commands.proofs.execute.run_words.Tie as tie
 
 parse-requires : tie.Need-parse-requires
-parse-requires c κs =
-    let start = c .before .before .before .before .before in
-    (start .pre .0, now-soon (start .args .clock) (now (start .args .store)) (start .pre .1) (c .now-at .ensures))
+parse-requires c κs = let start = c .before .before .before .before .before in (start .pre .0, now-soon (start .args .clock) (now (start .args .store)) (start .pre .1) (c .now-at .ensures))
 
 put-error-requires : tie.Need-put-error-requires
 put-error-requires c κs =
@@ -19,18 +17,14 @@ put-error-requires c κs =
 run-on-field-requires : tie.Need-run-on-field-requires
 run-on-field-requires c κs =
     let back3 = c .before .before .before in let back5 = back3 .before .before in let back6 = back5 .before in
-    let start = back6 .before .before .before .before .before in
-    let now-at = back6 .now-at .ensures in
-    let parse = back5 .parse .ensures in
+    let start = back6 .before .before .before .before .before in let now-at = back6 .now-at .ensures in let parse = back5 .parse .ensures in
     let parsed2 = back3 .parsed2 .given in
     (start .pre .0 .within, field-opened (start .args .clock) (now (start .args .command)) (now (start .args .store)) (start .pre .1) _ now-at parse (parsed2 .1) (start .pre .2), field-limits (start .args .clock) (now (start .args .command)) (now (start .args .store)) (start .pre .1) _ now-at parse (parsed2 .1), field-amount (start .args .clock) (now (start .args .command)) (now (start .args .store)) (start .pre .1) _ now-at parse (parsed2 .1))
 
 run-on-key-requires : tie.Need-run-on-key-requires
 run-on-key-requires c κs =
     let back3 = c .before .before .before in let back5 = back3 .before .before in let back6 = back5 .before in
-    let start = back6 .before .before .before .before .before in
-    let now-at = back6 .now-at .ensures in
-    let parse = back5 .parse .ensures in
+    let start = back6 .before .before .before .before .before in let now-at = back6 .now-at .ensures in let parse = back5 .parse .ensures in
     let parsed3 = back3 .parsed3 .given in
     (start .pre .0 .within, key-words (start .args .clock) (now (start .args .command)) (now (start .args .store)) (start .pre .1) _ now-at parse (parsed3 .1) (now (start .args .places)) (start .pre .0), key-opened (start .args .clock) (now (start .args .command)) (now (start .args .store)) (start .pre .1) _ now-at parse (parsed3 .1) (start .pre .2), key-limits (start .args .clock) (now (start .args .command)) (now (start .args .store)) (start .pre .1) _ now-at parse (parsed3 .1))
 

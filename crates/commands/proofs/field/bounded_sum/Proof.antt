@@ -5,14 +5,10 @@ use Rattle.commands.proofs.field.bounded_sum.Statement.{statement}
 use Rattle.commands.proofs.field.bounded_sum.Tie as tie
 
 returns : tie.Need-returns
-returns c =
-    let start = c .before .before .before in
-    sum-outside (integerOf (start .args .start)) (start .args .sum) (c .before .before .add .ensures) (c .enum-told .given .1)
+returns c = let start = c .before .before .before in sum-outside (integerOf (start .args .start)) (start .args .sum) (c .before .before .add .ensures) (c .enum-told .given .1)
 
 returns-2 : tie.Need-returns-2
-returns-2 c =
-    let start = c .before .before .before .before .before .before in
-    sum-below (integerOf (start .args .start)) (start .args .sum) (c .before .before .before .before .before .add .ensures) (c .before .before .before .total .given .1) (c .before .at-most .ensures) (c .if1 .taken)
+returns-2 c = let start = c .before .before .before .before .before .before in sum-below (integerOf (start .args .start)) (start .args .sum) (c .before .before .before .before .before .add .ensures) (c .before .before .before .total .given .1) (c .before .at-most .ensures) (c .if1 .taken)
 
 returns-3 : tie.Need-returns-3
 returns-3 c =

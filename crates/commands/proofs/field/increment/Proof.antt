@@ -23,9 +23,7 @@ returns-2 c =
     increment-unread (start .args .sight .time) (start .args .sum) (start .args .stamping) (now (start .args .key)) (now (start .args .field)) (now (start .args .bytes)) (start .pre .0 .well) (start .args .sight .found) (back6 .held-version .ensures) (back5 .is-stale .ensures) (back4 .if1 .left) (back2 .stored .ensures) (c .enum-told .given .1)
 
 bounded-sum-requires : tie.Need-bounded-sum-requires
-bounded-sum-requires c κs =
-    let start = c .before .before .before .before .before .before .before .before .before .before .before .before in
-    (stored-within (decode (now (start .args .bytes)) .slots) (start .args .sight .found) (c .before .before .before .stored .ensures) (c .before .before2 .given .1), start .pre .2)
+bounded-sum-requires c κs = let start = c .before .before .before .before .before .before .before .before .before .before .before .before in (stored-within (decode (now (start .args .bytes)) .slots) (start .args .sight .found) (c .before .before .before .stored .ensures) (c .before .before2 .given .1), start .pre .2)
 
 returns-3 : tie.Need-returns-3
 returns-3 c =

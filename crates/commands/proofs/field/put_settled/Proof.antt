@@ -6,19 +6,13 @@ use Rattle.commands.proofs.field.put_settled.Statement.{statement}
 use Rattle.commands.proofs.field.put_settled.Tie as tie
 
 put-integer-requires : tie.Need-put-integer-requires
-put-integer-requires c κs =
-    let start = c .before .before .before .before .before .before .before .before in
-    room-replied (start .pre .0) (start .pre .2) (c .before .before .settled .given .1)
+put-integer-requires c κs = let start = c .before .before .before .before .before .before .before .before in room-replied (start .pre .0) (start .pre .2) (c .before .before .settled .given .1)
 
 put-error-requires : tie.Need-put-error-requires
-put-error-requires c κs =
-    let start = c .before .before .before .before .before .before .before .before in
-    room-refused (start .pre .0) (start .pre .2) (c .before .before .settled2 .given .1)
+put-error-requires c κs = let start = c .before .before .before .before .before .before .before .before in room-refused (start .pre .0) (start .pre .2) (c .before .before .settled2 .given .1)
 
 put-answer-requires : tie.Need-put-answer-requires
-put-answer-requires c κs =
-    let start = c .before .before .before .before .before .before .before .before in
-    let s = start .pre .1 _ (c .before .before .settled3 .given .1) in (s .well, s .looked, start .pre .2)
+put-answer-requires c κs = let start = c .before .before .before .before .before .before .before .before in let s = start .pre .1 _ (c .before .before .settled3 .given .1) in (s .well, s .looked, start .pre .2)
 
 returns : tie.Need-returns
 returns c =

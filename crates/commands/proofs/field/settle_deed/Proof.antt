@@ -6,25 +6,16 @@ use Rattle.commands.proofs.field.settle_deed.Statement.{statement}
 use Rattle.commands.proofs.field.settle_deed.Tie as tie
 
 returns : tie.Need-returns
-returns c =
-    let start = c .before .before .before .before .before .before .before .before .before in
-    settled-barred (start .args .sight .time) (now (start .args .value)) (start .pre .0) (start .args .deed) (c .before .before .before .deed .given .1) (c .before .is-barred .ensures) (c .if1 .taken)
+returns c = let start = c .before .before .before .before .before .before .before .before .before in settled-barred (start .args .sight .time) (now (start .args .value)) (start .pre .0) (start .args .deed) (c .before .before .before .deed .given .1) (c .before .is-barred .ensures) (c .if1 .taken)
 
 assign-requires : tie.Need-assign-requires
-assign-requires c κs =
-    let start = c .before .before .before .before .before .before .before .before .before .before in
-    (start .pre .0, limits-assign (now (start .args .value)) (start .pre .1) (c .before .before .before .before .deed .given .1))
+assign-requires c κs = let start = c .before .before .before .before .before .before .before .before .before .before in (start .pre .0, limits-assign (now (start .args .value)) (start .pre .1) (c .before .before .before .before .deed .given .1))
 
 increment-requires : tie.Need-increment-requires
-increment-requires c κs =
-    let start = c .before .before .before .before .before .before .before .before in
-    let deed2 = c .before .before .deed2 .given in
-    (start .pre .0, limits-increment (now (start .args .value)) (start .pre .1) (deed2 .1), amount-within (start .pre .2) (deed2 .1))
+increment-requires c κs = let start = c .before .before .before .before .before .before .before .before in let deed2 = c .before .before .deed2 .given in (start .pre .0, limits-increment (now (start .args .value)) (start .pre .1) (deed2 .1), amount-within (start .pre .2) (deed2 .1))
 
 expire-requires : tie.Need-expire-requires
-expire-requires c κs =
-    let start = c .before .before .before .before .before .before .before .before in
-    (sought-found (start .pre .0), limits-expire (now (start .args .value)) (start .pre .1) (c .before .before .deed3 .given .1))
+expire-requires c κs = let start = c .before .before .before .before .before .before .before .before in (sought-found (start .pre .0), limits-expire (now (start .args .value)) (start .pre .1) (c .before .before .deed3 .given .1))
 
 persist-requires : tie.Need-persist-requires
 persist-requires c κs = sought-found (c .before .before .before .before .before .before .before .pre .0)
@@ -49,9 +40,7 @@ returns-4 c =
     settled-expire (start .args .sight .time) (now (start .args .value)) (start .pre .0) (start .args .deed) (c .before .before .before .before .before .deed3 .given .1) (c .before .before .expire .ensures)
 
 returns-5 : tie.Need-returns-5
-returns-5 c =
-    let start = c .before .before .before .before .before .before .before .before .before .before in
-    settled-persist (start .args .sight .time) (now (start .args .value)) (start .pre .0) (start .args .deed) (c .before .before .before .before .enum-told .given .1) (c .before .before .persist .ensures)
+returns-5 c = let start = c .before .before .before .before .before .before .before .before .before .before in settled-persist (start .args .sight .time) (now (start .args .value)) (start .pre .0) (start .args .deed) (c .before .before .before .before .enum-told .given .1) (c .before .before .persist .ensures)
 
 returns-6 : tie.Need-returns-6
 returns-6 c =
@@ -59,9 +48,7 @@ returns-6 c =
     settled-renumber (start .args .sight .time) (now (start .args .value)) (start .pre .0) (start .args .deed) (c .before .before .before .before .before .deed4 .given .1) (c .before .before .renumber .ensures)
 
 returns-7 : tie.Need-returns-7
-returns-7 c =
-    let start = c .before .before .before .before .before .before .before in
-    settled-ask (start .args .sight .time) (now (start .args .value)) (start .pre .0) (start .args .deed) (c .before .deed5 .given .1)
+returns-7 c = let start = c .before .before .before .before .before .before .before in settled-ask (start .args .sight .time) (now (start .args .value)) (start .pre .0) (start .args .deed) (c .before .deed5 .given .1)
 
 pub settle-deed-spec : {M : Type 1} → statement M
 settle-deed-spec =

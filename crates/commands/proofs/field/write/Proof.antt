@@ -12,9 +12,7 @@ next-version-requires : tie.Need-next-version-requires
 next-version-requires c κs = held-at-most (sought-held (c .before .before .before .before .before .before .pre .0)) (c .held-version .ensures)
 
 returns : tie.Need-returns
-returns c =
-    let start = c .before .before .before .before .before .before .before .before in
-    write-passes (start .args .sight .time) (start .args .stamping) (now (start .args .value)) (start .pre .0) (c .before .before .held-version .ensures) (c .before .next-version .ensures) (c .if1 .taken)
+returns c = let start = c .before .before .before .before .before .before .before .before in write-passes (start .args .sight .time) (start .args .stamping) (now (start .args .value)) (start .pre .0) (c .before .before .held-version .ensures) (c .before .next-version .ensures) (c .if1 .taken)
 
 returns-2 : tie.Need-returns-2
 returns-2 c =

@@ -8,19 +8,13 @@ use Rattle.commands.proofs.key.on_key.Tie as tie
 
 set-many-requires : tie.Need-set-many-requires
 unfolding commandFor
-set-many-requires c κs =
-    let start = c .before .before .before .before .before .before .before .before in
-    (start .pre .0, deed-within _ _ (c .before .before .enum-told .given .1) (start .pre .1))
+set-many-requires c κs = let start = c .before .before .before .before .before .before .before .before in (start .pre .0, deed-within _ _ (c .before .before .enum-told .given .1) (start .pre .1))
 
 put-number-requires : tie.Need-put-number-requires
-put-number-requires c κs =
-    let start = c .before .before .before .before .before .before .before .before .before in
-    may-count _ (omega (arith, few-counted _ _ (start .pre .0 .well) (c .before .count-held .ensures))) (omega (arith, start .pre .0 .room))
+put-number-requires c κs = let start = c .before .before .before .before .before .before .before .before .before in may-count _ (omega (arith, few-counted _ _ (start .pre .0 .well) (c .before .count-held .ensures))) (omega (arith, start .pre .0 .room))
 
 put-number-requires-2 : tie.Need-put-number-requires-2
-put-number-requires-2 c κs =
-    let start = c .before .before .before .before .before .before .before .before .before in
-    may-count _ (omega (arith, few-counted _ _ (start .pre .0 .well) (c .before .count-live .ensures))) (omega (arith, start .pre .0 .room))
+put-number-requires-2 c κs = let start = c .before .before .before .before .before .before .before .before .before in may-count _ (omega (arith, few-counted _ _ (start .pre .0 .well) (c .before .count-live .ensures))) (omega (arith, start .pre .0 .room))
 
 returns : tie.Need-returns
 unfolding commandFor

@@ -31,9 +31,7 @@ part-put-field-start : tie.Need-part-put-field-start Inv-loop μ-loop
 part-put-field-start c = going-start (c .before .before .loop .inv)
 
 put-field-requires : tie.Need-put-field-requires Inv-loop μ-loop
-put-field-requires c κs =
-    let start = c .before .before .before .before .before .before .before .before in
-    (start .pre .1, going-spare (c .before .before .before .loop .inv) answerMost (start .pre .2))
+put-field-requires c κs = let start = c .before .before .before .before .before .before .before .before in (start .pre .1, going-spare (c .before .before .before .loop .inv) answerMost (start .pre .2))
 
 add-at : tie.Need-add-at Inv-loop μ-loop
 add-at c = omega (arith, going-within (c .before .before .before .before .before .before .loop .inv) (answers-next _ _ _ _ (c .before .before .before .before .before .loop-test .taken) (c .before .before .before .before .word .ensures)) (c .before .before .put-field .ensures))

@@ -11,9 +11,7 @@ mul-put-header : tie.Need-mul-put-header
 mul-put-header c = omega (arith, entries-few _ _ _ _ (c .before .count-live .ensures) (c .width .ensures) (c .before .before .before .before .before .pre .0))
 
 put-header-requires : tie.Need-put-header-requires
-put-header-requires c κs =
-    let start = c .before .before .before .before .before .before in
-    header-room (entries-few _ _ _ _ (c .before .before .count-live .ensures) (c .before .width .ensures) (start .pre .0)) (start .pre .1)
+put-header-requires c κs = let start = c .before .before .before .before .before .before in header-room (entries-few _ _ _ _ (c .before .before .count-live .ensures) (c .before .width .ensures) (start .pre .0)) (start .pre .1)
 
 sub-put-listed : tie.Need-sub-put-listed
 sub-put-listed c =

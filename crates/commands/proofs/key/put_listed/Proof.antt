@@ -49,22 +49,15 @@ add-at c =
     omega (arith, going-within (back9 .loop .inv .0) (shown-next n _) (back2 .put-entry .ensures))
 
 add-from : tie.Need-add-from Inv-loop μ-loop
-add-from c =
-    let back5 = c .before .before .before .before .before in let back7 = back5 .before .before in
-    let n = live-next (back7 .before .before .before .before .before .before .before .pre .0) (back5 .found .given .1) (back7 .next-live .ensures) in
-    omega (arith, live-few n)
+add-from c = let back5 = c .before .before .before .before .before in let back7 = back5 .before .before in let n = live-next (back7 .before .before .before .before .before .before .before .pre .0) (back5 .found .given .1) (back7 .next-live .ensures) in omega (arith, live-few n)
 
 loop-less : tie.Need-loop-less Inv-loop μ-loop
-loop-less c =
-    let back5 = c .before .before .before .before .before in let back7 = back5 .before .before in
-    let n = live-next (back7 .before .before .before .before .before .before .before .pre .0) (back5 .found .given .1) (back7 .next-live .ensures) in
-    omega (arith, live-later n)
+loop-less c = let back5 = c .before .before .before .before .before in let back7 = back5 .before .before in let n = live-next (back7 .before .before .before .before .before .before .before .pre .0) (back5 .found .given .1) (back7 .next-live .ensures) in omega (arith, live-later n)
 
 loop-again : tie.Need-loop-again Inv-loop μ-loop
 loop-again c =
     let back2 = c .before .before in let back5 = back2 .before .before .before in let back7 = back5 .before .before in let back9 = back7 .before .before in
-    let loop = back9 .loop in
-    let n = live-next (back9 .before .before .before .before .before .pre .0) (back5 .found .given .1) (back7 .next-live .ensures) in
+    let loop = back9 .loop in let n = live-next (back9 .before .before .before .before .before .pre .0) (back5 .found .given .1) (back7 .next-live .ensures) in
     (going-on (loop .inv .0) (shown-next n _) (back2 .put-entry .ensures), loop .inv .1)
 
 same-length-2 : tie.Need-same-length-2 Inv-loop μ-loop

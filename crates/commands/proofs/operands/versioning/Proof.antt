@@ -5,34 +5,19 @@ use Rattle.commands.proofs.operands.versioning.Statement.{statement}
 use Rattle.commands.proofs.operands.versioning.Tie as tie
 
 returns : tie.Need-returns
-returns c =
-    let a = c .before .before in
-    versioning-none _ (a .args .said) (a .args .operand) (c .if1 .taken)
+returns c = let a = c .before .before in versioning-none _ (a .args .said) (a .args .operand) (c .if1 .taken)
 
 returns-2 : tie.Need-returns-2
-returns-2 c =
-    let a = c .before .before in
-    let b = a .before in
-    let d = b .before in
-    let e = d .before .before in
-    versioning-refused _ (e .args .said) (e .args .operand) (d .if1 .left) (natural-refused versionMost (b .word .ensures) (a .read-natural .ensures) (c .enum-told .given .1))
+returns-2 c = let a = c .before .before in let b = a .before in let d = b .before in let e = d .before .before in versioning-refused _ (e .args .said) (e .args .operand) (d .if1 .left) (natural-refused versionMost (b .word .ensures) (a .read-natural .ensures) (c .enum-told .given .1))
 
 returns-3 : tie.Need-returns-3
 returns-3 c =
-    let a = c .before .before in
-    let b = a .before .before in
-    let d = b .before in
-    let e = d .before in
-    let f = e .before .before in
+    let a = c .before .before in let b = a .before .before in let d = b .before in let e = d .before in let f = e .before .before in
     versioning-match _ (f .args .said) (f .args .operand) (e .if1 .left) (a .read .given .0 .0) (natural-value versionMost (d .word .ensures) (b .read-natural .ensures) (a .read .given .0 .0) (a .read .given .1) .0) (c .if2 .taken)
 
 returns-4 : tie.Need-returns-4
 returns-4 c =
-    let a = c .before .before in
-    let b = a .before .before in
-    let d = b .before in
-    let e = d .before in
-    let f = e .before .before in
+    let a = c .before .before in let b = a .before .before in let d = b .before in let e = d .before in let f = e .before .before in
     versioning-exactly _ (f .args .said) (f .args .operand) (e .if1 .left) (a .read .given .0 .0) (natural-value versionMost (d .word .ensures) (b .read-natural .ensures) (a .read .given .0 .0) (a .read .given .1) .0) (c .if2 .left)
 
 pub versioning-spec : {M : Type 1} → statement M

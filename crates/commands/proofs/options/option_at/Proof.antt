@@ -8,79 +8,41 @@ use Rattle.commands.proofs.options.option_at.Statement.{statement}
 use Rattle.commands.proofs.options.option_at.Tie as tie
 
 returns : tie.Need-returns
-returns c =
-    let a = c .before .before in
-    let b = a .before in
-    let d = b .before .before .before in
-    option-unknown _ (d .args .allowed .now) (d .args .i) (length-words _ _) (d .pre .1) (b .word .ensures) (a .option-named .ensures) (c .enum-told .given .1)
+returns c = let a = c .before .before in let b = a .before in let d = b .before .before .before in option-unknown _ (d .args .allowed .now) (d .args .i) (length-words _ _) (d .pre .1) (b .word .ensures) (a .option-named .ensures) (c .enum-told .given .1)
 
 option-datum-requires : tie.Need-option-datum-requires
-option-datum-requires c κs =
-    let a = c .before in
-    let b = a .before .before in
-    (option-number _ (b .option-named .ensures) (a .found .given .0 .0) (a .found .given .1), omega arith)
+option-datum-requires c κs = let a = c .before in let b = a .before .before in (option-number _ (b .option-named .ensures) (a .found .given .0 .0) (a .found .given .1), omega arith)
 
 returns-2 : tie.Need-returns-2
 returns-2 c =
-    let a = c .before in
-    let b = a .before in
-    let d = b .before .before in
-    let e = d .before .before in
-    let f = e .before in
+    let a = c .before in let b = a .before in let d = b .before .before in let e = d .before .before in let f = e .before in
     let g = f .before .before .before in
     option-barred _ (g .args .allowed .now) (g .args .i) (length-words _ _) (g .pre .1) (f .word .ensures) (e .option-named .ensures) (d .found .given .0 .0) (d .found .given .1) (b .option-datum .ensures) (a .takes .ensures) (c .if1 .taken)
 
 option-datum-requires-2 : tie.Need-option-datum-requires-2
-option-datum-requires-2 c κs =
-    let a = c .before .before .before .before in
-    let b = a .before .before in
-    (option-number _ (b .option-named .ensures) (a .found .given .0 .0) (a .found .given .1), omega arith)
+option-datum-requires-2 c κs = let a = c .before .before .before .before in let b = a .before .before in (option-number _ (b .option-named .ensures) (a .found .given .0 .0) (a .found .given .1), omega arith)
 
 option-datum-requires-3 : tie.Need-option-datum-requires-3
-option-datum-requires-3 c κs =
-    let a = c .before .before .before .before .before in
-    let b = a .before .before in
-    (option-number _ (b .option-named .ensures) (a .found .given .0 .0) (a .found .given .1), omega arith)
+option-datum-requires-3 c κs = let a = c .before .before .before .before .before in let b = a .before .before in (option-number _ (b .option-named .ensures) (a .found .given .0 .0) (a .found .given .1), omega arith)
 
 add-next-word : tie.Need-add-next-word
 unfolding optionData
-add-next-word c =
-    let a = c .before .before .before .before .before .before in
-    let b = a .before .before .before .before .before .before in
-    omega (arith, c .option-datum3 .ensures, size-range (optionOf (a .found .given .0 .0) .kind), b .pre .0 .most)
+add-next-word c = let a = c .before .before .before .before .before .before in let b = a .before .before .before .before .before .before in omega (arith, c .option-datum3 .ensures, size-range (optionOf (a .found .given .0 .0) .kind), b .pre .0 .most)
 
 sub-next-word : tie.Need-sub-next-word
 unfolding optionData
-sub-next-word c =
-    let a = c .before .before .before .before .before .before in
-    omega (arith, c .option-datum3 .ensures, size-range (optionOf (a .found .given .0 .0) .kind))
+sub-next-word c = let a = c .before .before .before .before .before .before in omega (arith, c .option-datum3 .ensures, size-range (optionOf (a .found .given .0 .0) .kind))
 
 returns-3 : tie.Need-returns-3
 returns-3 c =
-    let a = c .before .before in
-    let b = a .before in
-    let d = b .before .before in
-    let e = d .before in
-    let f = e .before in
-    let g = f .before .before in
-    let h = g .before .before in
-    let j = h .before in
-    let k = j .before .before .before in
+    let a = c .before .before in let b = a .before in let d = b .before .before in let e = d .before in let f = e .before in let g = f .before .before in
+    let h = g .before .before in let j = h .before in let k = j .before .before .before in
     option-short _ (k .args .allowed .now) (k .args .i) (length-words _ _) (k .pre .1) (j .word .ensures) (h .option-named .ensures) (g .found .given .0 .0) (g .found .given .1) (f .option-datum .ensures) (e .takes .ensures) (d .if1 .left) (b .option-datum3 .ensures) (a .next-word .ensures) (c .enum-told2 .given .1)
 
 returns-4 : tie.Need-returns-4
 returns-4 c =
-    let a = c .before in
-    let b = a .before .before in
-    let d = b .before in
-    let e = d .before in
-    let f = e .before in
-    let g = f .before in
-    let h = g .before in
-    let j = h .before .before in
-    let k = j .before .before in
-    let l = k .before in
-    let m = l .before .before .before in
+    let a = c .before in let b = a .before .before in let d = b .before in let e = d .before in let f = e .before in let g = f .before in let h = g .before in
+    let j = h .before .before in let k = j .before .before in let l = k .before in let m = l .before .before .before in
     option-found _ (m .args .allowed .now) (m .args .i) (length-words _ _) (m .pre .1) (l .word .ensures) (k .option-named .ensures) (j .found .given .0 .0) (j .found .given .1) (h .option-datum .ensures) (g .takes .ensures) (f .if1 .left) (d .option-datum3 .ensures) (b .next-word .ensures) (a .end .given .0 .0) (a .end .given .1) (e .option-datum2 .ensures)
 
 pub option-at-spec : {M : Type 1} → statement M

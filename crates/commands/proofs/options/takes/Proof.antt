@@ -20,21 +20,13 @@ loop-holds : tie.Need-loop-holds Inv-loop μ-loop
 loop-holds c = refl
 
 returns : tie.Need-returns Inv-loop μ-loop
-returns c =
-    let a = c .before .before in
-    let b = a .before in
-    takes-found _ _ (b .loop .i) (b .loop .inv) (a .loop-test .taken) (c .if1 .taken)
+returns c = let a = c .before .before in let b = a .before in takes-found _ _ (b .loop .i) (b .loop .inv) (a .loop-test .taken) (c .if1 .taken)
 
 loop-again : tie.Need-loop-again Inv-loop μ-loop
-loop-again c =
-    let a = c .before .before in
-    let b = a .before in
-    takes-on _ _ (b .loop .i) (b .loop .inv) (a .loop-test .taken) (c .if1 .left)
+loop-again c = let a = c .before .before in let b = a .before in takes-on _ _ (b .loop .i) (b .loop .inv) (a .loop-test .taken) (c .if1 .left)
 
 returns-2 : tie.Need-returns-2 Inv-loop μ-loop
-returns-2 c =
-    let a = c .before in
-    takes-ends _ _ (a .loop .i) (a .loop .inv) (c .loop-test .left)
+returns-2 c = let a = c .before in takes-ends _ _ (a .loop .i) (a .loop .inv) (c .loop-test .left)
 
 pub takes-spec : {M : Type 1} → statement M
 takes-spec =

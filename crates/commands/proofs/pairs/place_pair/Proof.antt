@@ -12,16 +12,13 @@ held-version-requires : tie.Need-held-version-requires
 held-version-requires c κs = sought-held (record { well = c .before .before .before .before .before .before .before .pre .well; looked = c .before .named .ensures })
 
 add-version : tie.Need-add-version
-add-version c =
-    let start = c .before .before .before .before .before .before .before .before in
-    omega (arith, version-sought (record { well = start .pre .well; looked = c .before .before .named .ensures }) (c .held-version .ensures), start .pre .version)
+add-version c = let start = c .before .before .before .before .before .before .before .before in omega (arith, version-sought (record { well = start .pre .well; looked = c .before .before .named .ensures }) (c .held-version .ensures), start .pre .version)
 
 place-requires : tie.Need-place-requires
 unfolding instantOf
 place-requires c κs =
     let back3 = c .before .before .before in let back5 = back3 .before .before in let back6 = back5 .before in let back7 = back6 .before in
-    let start = back7 .before .before in
-    let named = back3 .named in
+    let start = back7 .before .before in let named = back3 .named in
     let a = start .args in (
       named .ensures,
       start .pre .well,

@@ -20,26 +20,17 @@ abbrev μ-loop : tie.MeasureT-loop
 μ-loop command pairs i field n₀ j₀ n j = length pairs - j
 
 add-j : tie.Need-add-j Inv-loop μ-loop
-add-j c =
-    let start = c .before .before in
-    omega (arith, start .pre .1, start .pre .0 .most)
+add-j c = let start = c .before .before in omega (arith, start .pre .1, start .pre .0 .most)
 
 loop-holds : tie.Need-loop-holds Inv-loop μ-loop
-loop-holds c =
-    let start = c .before .before in
-    (record { sum = omega arith }, omega (arith, start .pre .1, start .pre .0 .most), c .word .ensures)
+loop-holds c = let start = c .before .before in (record { sum = omega arith }, omega (arith, start .pre .1, start .pre .0 .most), c .word .ensures)
 
 add-n : tie.Need-add-n Inv-loop μ-loop
-add-n c =
-    let start = c .before .before .before .before .before .before .before in
-    let a = start .args in
-    omega (arith, repeating-few (c .before .before .before .before .loop .inv .0), few-named (now (a .command)) (now (a .pairs)) (a .i + 2) (start .pre .0))
+add-n c = let start = c .before .before .before .before .before .before .before in let a = start .args in omega (arith, repeating-few (c .before .before .before .before .loop .inv .0), few-named (now (a .command)) (now (a .pairs)) (a .i + 2) (start .pre .0))
 
 loop-again : tie.Need-loop-again Inv-loop μ-loop
 loop-again c =
-    let loop = c .before .before .before .before .loop in
-    let loop-test = c .before .before .before .loop-test in
-    let now = loop .inv in
+    let loop = c .before .before .before .before .loop in let loop-test = c .before .before .before .loop-test in let now = loop .inv in
     let next = next-named _ _ _ (loop-test .taken) (c .before .before .word2 .ensures) in
     let near : loop .j + 2 ≤ wordsMost = omega (arith, loop-test .taken, c .before .before .before .before .before .before .before .pre .0 .most) in
     ⊎-elim

@@ -20,8 +20,7 @@ put-error-requires c κs = may-refuse 23 (known-late .3) (omega (arith, c .befor
 returns : tie.Need-returns
 returns c =
     let back2 = c .before .before in let back4 = back2 .before .before in let back6 = back4 .before .before in let back10 = back6 .before .before .before .before in
-    let start = back10 .before .before .before .before .before .before in
-    let ws = wordsIn (now (start .args .command)) (now (start .args .pairs)) in
+    let start = back10 .before .before .before .before .before .before in let ws = wordsIn (now (start .args .command)) (now (start .args .pairs)) in
     let few : length ws ≤ wordsMost = rw length-words (start .pre .0 .inside .most) in
     many-over _ _ ws _ (back10 .sweep-pairs .ensures) few (back6 .survey-pairs .ensures) (back4 .enum-told .given .1) (back2 .put-error .ensures)
 
@@ -32,16 +31,14 @@ returns-2 : tie.Need-returns-2
 unfolding room
 returns-2 c =
     let back2 = c .before .before in let back4 = back2 .before .before in let back5 = back4 .before in let back8 = back5 .before .before .before in let back10 = back8 .before .before in let back14 = back10 .before .before .before .before in
-    let start = back14 .before .before .before .before .before .before in
-    let ws = wordsIn (now (start .args .command)) (now (start .args .pairs)) in
+    let start = back14 .before .before .before .before .before .before in let ws = wordsIn (now (start .args .command)) (now (start .args .pairs)) in
     let few : length ws ≤ wordsMost = rw length-words (start .pre .0 .inside .most) in
     many-full _ _ ws _ (back14 .sweep-pairs .ensures) few (back10 .survey-pairs .ensures) (back8 .survey .given .1) (back5 .room .ensures) (back4 .if1 .taken) (back2 .put-error2 .ensures)
 
 place-pairs-requires : tie.Need-place-pairs-requires
 place-pairs-requires c κs =
     let back5 = c .before .before .before .before .before in let back7 = back5 .before .before in let back11 = back7 .before .before .before .before in
-    let start = back11 .before .before .before .before .before .before in
-    let ws = wordsIn (now (start .args .command)) (now (start .args .pairs)) in
+    let start = back11 .before .before .before .before .before .before in let ws = wordsIn (now (start .args .command)) (now (start .args .pairs)) in
     let few : length ws ≤ wordsMost = rw length-words (start .pre .0 .inside .most) in
     (start .pre .0 .inside, many-placing _ _ ws _ (back11 .sweep-pairs .ensures) few (back7 .survey-pairs .ensures) (back5 .survey .given .1) (start .pre .1))
 
@@ -49,8 +46,7 @@ returns-3 : tie.Need-returns-3
 unfolding room line text
 returns-3 c =
     let back2 = c .before .before in let back7 = back2 .before .before .before .before .before in let back9 = back7 .before .before in let back10 = back9 .before in let back13 = back10 .before .before .before in let back15 = back13 .before .before in let back19 = back15 .before .before .before .before in
-    let start = back19 .before .before .before .before .before .before in
-    let ws = wordsIn (now (start .args .command)) (now (start .args .pairs)) in
+    let start = back19 .before .before .before .before .before .before in let ws = wordsIn (now (start .args .command)) (now (start .args .pairs)) in
     let few : length ws ≤ wordsMost = rw length-words (start .pre .0 .inside .most) in
     many-done _ _ ws _ (back19 .sweep-pairs .ensures) few (back15 .survey-pairs .ensures) (back13 .survey .given .1) (back10 .room .ensures) (back9 .if1 .left) (back7 .place-pairs .ensures) (back2 .put-line .ensures)
 

@@ -42,8 +42,7 @@ add-if1-2 c =
 returns : tie.Need-returns Inv-loop μ-loop
 returns c =
     let back2 = c .before .before in let back3 = back2 .before in let back4 = back3 .before in let back5 = back4 .before in let back6 = back5 .before in
-    let word = back4 .word in
-    let next = next-named _ _ _ (back5 .loop-test .taken) (word .ensures) in
+    let word = back4 .word in let next = next-named _ _ _ (back5 .loop-test .taken) (word .ensures) in
     let held = version-sought (record { well = back6 .before .before .before .before .pre .1; looked = back3 .named .ensures }) (c .before .held-version .ensures) in
     let again = again-is _ _ _ (word .ensures) (back2 .repeats .ensures) in
     surveying-over (back6 .loop .inv .0) next held again (c .if1 .taken)
@@ -51,9 +50,7 @@ returns c =
 add-n : tie.Need-add-n Inv-loop μ-loop
 add-n c =
     let back2 = c .before .before in let back3 = back2 .before in let back4 = back3 .before in let back5 = back4 .before in let back6 = back5 .before in let back7 = back6 .before in
-    let start = back7 .before .before .before .before in
-    let word = back5 .word in
-    let named = back4 .named in
+    let start = back7 .before .before .before .before in let word = back5 .word in let named = back4 .named in
     let next = next-named _ _ _ (back6 .loop-test .taken) (word .ensures) in
     let held = version-sought (record { well = start .pre .1; looked = named .ensures }) (back2 .held-version .ensures) in
     let again = again-is _ _ _ (word .ensures) (back3 .repeats .ensures) in
@@ -62,10 +59,7 @@ add-n c =
 loop-again : tie.Need-loop-again Inv-loop μ-loop
 loop-again c =
     let back2 = c .before .before in let back3 = back2 .before in let back4 = back3 .before in let back5 = back4 .before in let back6 = back5 .before in let back7 = back6 .before in
-    let start = back7 .before .before .before .before in
-    let loop-test = back6 .loop-test in
-    let word = back5 .word in
-    let named = back4 .named in
+    let start = back7 .before .before .before .before in let loop-test = back6 .loop-test in let word = back5 .word in let named = back4 .named in
     let next = next-named _ _ _ (loop-test .taken) (word .ensures) in
     let held = version-sought (record { well = start .pre .1; looked = named .ensures }) (back2 .held-version .ensures) in
     let again = again-is _ _ _ (word .ensures) (back3 .repeats .ensures) in

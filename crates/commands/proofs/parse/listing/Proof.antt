@@ -17,9 +17,7 @@ returns-2 c = rw (c .match .keys2)
 
 returns-3 : tie.Need-returns-3
 unfolding listingOf
-returns-3 c =
-    let past : 2 ≤ c .before .args .n = omega (arith, c .match .rest) in
-    sym (List·getD-eq-default firstListings Both past)
+returns-3 c = let past : 2 ≤ c .before .args .n = omega (arith, c .match .rest) in sym (List·getD-eq-default firstListings Both past)
 
 pub listing-spec : {M : Type 1} → statement M
 listing-spec =

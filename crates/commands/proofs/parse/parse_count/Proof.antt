@@ -8,14 +8,10 @@ returns : tie.Need-returns
 returns c = λ time. not-clean count-takes (c .before .scan .ensures) time (c .if1 .taken)
 
 returns-2 : tie.Need-returns-2
-returns-2 c =
-    let a = c .before .before in
-    λ time. count-live time (ready count-takes (a .before .scan .ensures) (a .if1 .left)) (c .if2 .taken)
+returns-2 c = let a = c .before .before in λ time. count-live time (ready count-takes (a .before .scan .ensures) (a .if1 .left)) (c .if2 .taken)
 
 returns-3 : tie.Need-returns-3
-returns-3 c =
-    let a = c .before .before in
-    λ time. count-held time (ready count-takes (a .before .scan .ensures) (a .if1 .left)) (c .if2 .left)
+returns-3 c = let a = c .before .before in λ time. count-held time (ready count-takes (a .before .scan .ensures) (a .if1 .left)) (c .if2 .left)
 
 pub parse-count-spec : {M : Type 1} → statement M
 parse-count-spec =

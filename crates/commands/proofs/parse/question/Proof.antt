@@ -33,9 +33,7 @@ returns-6 c = rw (c .match .keys6)
 
 returns-7 : tie.Need-returns-7
 unfolding questionOf
-returns-7 c =
-    let past : 6 ≤ c .before .args .n = omega (arith, c .match .rest) in
-    sym (List·getD-eq-default firstQuestions Milliseconds past)
+returns-7 c = let past : 6 ≤ c .before .args .n = omega (arith, c .match .rest) in sym (List·getD-eq-default firstQuestions Milliseconds past)
 
 pub question-spec : {M : Type 1} → statement M
 question-spec =

@@ -12,9 +12,7 @@ datum-requires c κs = (command-inside (c .before .args .row) (c .before .args .
 
 returns : tie.Need-returns
 unfolding tables commandTable
-returns c =
-    let a = c .before .before in
-    c .datum .ensures ∙ command-datum (a .args .row) (a .args .place) (a .pre .0) (a .pre .1)
+returns c = let a = c .before .before in c .datum .ensures ∙ command-datum (a .args .row) (a .args .place) (a .pre .0) (a .pre .1)
 
 pub command-datum-spec : {M : Type 1} → statement M
 command-datum-spec = tie.close (tie.spec (λ c. search needs) datum-requires returns)

@@ -12,9 +12,7 @@ datum-requires c κs = (option-inside (c .before .args .row) (c .before .args .p
 
 returns : tie.Need-returns
 unfolding tables optionTable
-returns c =
-    let a = c .before .before in
-    c .datum .ensures ∙ option-datum (a .args .row) (a .args .place) (a .pre .0) (a .pre .1)
+returns c = let a = c .before .before in c .datum .ensures ∙ option-datum (a .args .row) (a .args .place) (a .pre .0) (a .pre .1)
 
 pub option-datum-spec : {M : Type 1} → statement M
 option-datum-spec = tie.close (tie.spec (λ c. search needs) datum-requires returns)

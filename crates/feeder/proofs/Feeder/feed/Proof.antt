@@ -17,36 +17,28 @@ returns c =
 
 returns-2 : tie.Need-returns-2
 returns-2 c =
-    let back = c .before .before .before .before .before in
-    let args = back .before .before .before .before .before .before .before .args in
+    let back = c .before .before .before .before .before in let args = back .before .before .before .before .before .before .before .args in
     refused-store (args .t1) (args .piece .now) (args .store .now) (args .reply .now)
     (sym (back .feeding-leaves .ensures) ∙ not-false _ (c .before .before .before .before .if1 .left))
     (sym (c .before .before .well-formed .ensures) ∙ not-true _ (c .before .if2 .taken)) (c .refused2 .ensures)
 
 returns-3 : tie.Need-returns-3
 returns-3 c =
-    let back = c .before .before .before .before .before in
-    let args = back .before .before .before .before .before .before .before .before .args in
+    let back = c .before .before .before .before .before in let args = back .before .before .before .before .before .before .before .before .args in
     refused-buffer (args .t1) (args .piece .now) (args .store .now) (args .reply .now)
     (sym (back .before .feeding-leaves .ensures) ∙ not-false _ (back .if1 .left))
     (sym (c .before .before .before .well-formed .ensures) ∙ not-false _ (c .before .before .if2 .left)) (c .before .if3 .taken)
     (c .refused3 .ensures)
 
 absorb-requires : tie.Need-absorb-requires
-absorb-requires c κs =
-    let back = c .before .before .before .before .before .before in
-    (sym (back .before .feeding-leaves .ensures) ∙ not-false _ (back .if1 .left), omega (arith, length-replicate {A = ℕ} recordMost 0))
+absorb-requires c κs = let back = c .before .before .before .before .before .before in (sym (back .before .feeding-leaves .ensures) ∙ not-false _ (back .if1 .left), omega (arith, length-replicate {A = ℕ} recordMost 0))
 
 reply-to-requires : tie.Need-reply-to-requires
-reply-to-requires c κs =
-    let back = c .before .before .before .before .before .before .before in
-    let well = sym (back .before .before .well-formed .ensures) ∙ not-false _ (back .before .if2 .left) in
-    (c .before .before .before .before .absorb .ensures .inside, (well, back .if3 .left))
+reply-to-requires c κs = let back = c .before .before .before .before .before .before .before in let well = sym (back .before .before .well-formed .ensures) ∙ not-false _ (back .before .if2 .left) in (c .before .before .before .before .absorb .ensures .inside, (well, back .if3 .left))
 
 returns-4 : tie.Need-returns-4
 returns-4 c =
-    let back = c .before .before .before .before .before .before .before .before .before in
-    let back2 = back .before .before .before .before .before in
+    let back = c .before .before .before .before .before .before .before .before .before in let back2 = back .before .before .before .before .before in
     let args = back2 .before .before .before .before .before .before .before .before .before .before .args in
     fed-whole (args .t1) (args .piece .now) (args .store .now) (args .reply .now)
     (sym (back2 .before .before .before .feeding-leaves .ensures) ∙ not-false _ (back2 .before .before .if1 .left)) (back .absorb .ensures)

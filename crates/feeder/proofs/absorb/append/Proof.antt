@@ -5,9 +5,7 @@ use Rattle.feeder.proofs.absorb.append.Statement.{statement}
 use Rattle.feeder.proofs.absorb.append.Tie as tie
 
 returns : tie.Need-returns
-returns c =
-    let args = c .before .before .before .before .before .before .args in
-    appended (args .out .now) (args .piece .now) (c .before .before .copy .last .1 .0) (args .count) (omega arith) (c .before .before .copy .ensures)
+returns c = let args = c .before .before .before .before .before .before .args in appended (args .out .now) (args .piece .now) (c .before .before .copy .last .1 .0) (args .count) (omega arith) (c .before .before .copy .ensures)
 
 pub append-spec : {M : Type 1} → statement M
 append-spec =

@@ -21,9 +21,7 @@ slice-aggregate-gather : tie.Need-slice-aggregate-gather
 slice-aggregate-gather c = sym (left-state _ (c .before .before .before .before .pre .0) .count)
 
 gather-requires : tie.Need-gather-requires
-gather-requires c κs =
-    let pre = c .before .before .before .before .before .pre in
-    omega (arith, left-state _ (pre .0) .count, pre .1)
+gather-requires c κs = let pre = c .before .before .before .before .before .pre in omega (arith, left-state _ (pre .0) .count, pre .1)
 
 copy-requires : tie.Need-copy-requires
 copy-requires c κs =
@@ -34,11 +32,7 @@ add-result-2 : tie.Need-add-result-2
 add-result-2 c = omega (arith, left-state _ (c .before .before .before .before .before .before .before .before .before .before .before .before .pre .0) .few)
 
 returns-2 : tie.Need-returns-2
-returns-2 c =
-    let back = c .before .before .before .before .before .before in
-    let back2 = back .before .before .before .before .before .before in
-    let args = back2 .args in
-    kept-rest _ (args .piece .now) (back2 .pre .0) (args .at) (back .gather .ensures) (c .before .before .copy .ensures)
+returns-2 c = let back = c .before .before .before .before .before .before in let back2 = back .before .before .before .before .before .before in let args = back2 .args in kept-rest _ (args .piece .now) (back2 .pre .0) (args .at) (back .gather .ensures) (c .before .before .copy .ensures)
 
 pub keep-spec : {M : Type 1} → statement M
 keep-spec =

@@ -19,16 +19,13 @@ loop-holds c = scan-begins (c .before .before .args .waiting .now) (c .before .b
 
 returns : tie.Need-returns Inv-loop μ-loop
 returns c =
-    let back = c .before .before .before .before .before in
-    let loop = back .loop in
-    let args = back .before .before .before .args in
+    let back = c .before .before .before .before .before in let loop = back .loop in let args = back .before .before .before .args in
     scan-whole (args .waiting .now) (args .piece .now) (loop .at) (loop .inv) (c .before .before .before .before .loop-test .taken) _
     (sym (c .before .head .given .1) ∙ c .before .before .before .head-at .ensures)
 
 returns-2 : tie.Need-returns-2 Inv-loop μ-loop
 returns-2 c =
-    let loop = c .before .before .before .before .loop in
-    let args = c .before .before .before .before .before .before .before .args in
+    let loop = c .before .before .before .before .loop in let args = c .before .before .before .before .before .before .before .args in
     scan-waits (args .waiting .now) (args .piece .now) (loop .at) (loop .inv) (c .before .before .before .loop-test .taken)
     (sym (c .enum-told .given .1) ∙ c .before .before .head-at .ensures)
 
@@ -37,16 +34,12 @@ loop-less c = omega (arith, c .next-place .ensures .ahead)
 
 loop-again : tie.Need-loop-again Inv-loop μ-loop
 loop-again c =
-    let back = c .before .before .before .before .before in
-    let loop = back .loop in
-    let args = back .before .before .before .args in
+    let back = c .before .before .before .before .before in let loop = back .loop in let args = back .before .before .before .args in
     scan-goes-on (args .waiting .now) (args .piece .now) (loop .at) (loop .inv) (c .before .before .before .before .loop-test .taken)
     (c .next-place .result) (sym (c .before .enum-told2 .given .1) ∙ c .before .before .before .head-at .ensures) (c .next-place .ensures)
 
 returns-3 : tie.Need-returns-3 Inv-loop μ-loop
-returns-3 c =
-    let args = c .before .before .before .before .args in
-    scan-ends (args .waiting .now) (args .piece .now) (c .before .loop .at) (c .before .loop .inv) (c .loop-test .left)
+returns-3 c = let args = c .before .before .before .before .args in scan-ends (args .waiting .now) (args .piece .now) (c .before .loop .at) (c .before .loop .inv) (c .loop-test .left)
 
 pub first-stop-spec : {M : Type 1} → statement M
 first-stop-spec =

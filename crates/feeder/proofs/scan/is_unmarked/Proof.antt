@@ -22,9 +22,7 @@ add-marks c = omega (arith, c .before .before .before .loop .inv .few)
 
 loop-again : tie.Need-loop-again Inv-loop μ-loop
 loop-again c =
-    let loop-test = c .before .before .loop-test in
-    let loop = c .before .before .before .loop in
-    let args = c .before .before .before .before .args in
+    let loop-test = c .before .before .loop-test in let loop = c .before .before .before .loop in let args = c .before .before .before .before .args in
     ⊎-elim (λ w. rw (w .1) (count-mark (args .block .now) (loop .marks) (loop .i) (loop .inv) (loop-test .taken)))
     (λ w. rw (w .1) (count-other (args .block .now) (loop .marks) (loop .i) (loop .inv) (loop-test .taken) (w .0 .left))) (c .if1 .came)
 

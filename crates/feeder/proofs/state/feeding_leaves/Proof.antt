@@ -13,21 +13,17 @@ returns c = left-many (c .before .before .args .waiting .now) (c .before .before
 
 returns-2 : tie.Need-returns-2
 returns-2 c =
-    let back = c .before .before .before .before .before in
-    let args = back .args in
+    let back = c .before .before .before .before .before in let args = back .args in
     left-dirty (args .waiting .now) (args .count)
     (bytes-intro (args .waiting .now) (λ i. c .before .before .before .before .shared-slice-known .given i .fits)) (back .pre)
     (c .before .before .before .if1 .left) (c .before .all-zero .ensures) (not-true _ (c .if2 .taken))
 
 slice-aggregate-all-wait : tie.Need-slice-aggregate-all-wait
-slice-aggregate-all-wait c =
-    let args = c .before .before .before .before .before .before .args in
-    sym (length-take-le (args .count) (args .waiting .now) (omega arith))
+slice-aggregate-all-wait c = let args = c .before .before .before .before .before .before .args in sym (length-take-le (args .count) (args .waiting .now) (omega arith))
 
 returns-3 : tie.Need-returns-3
 returns-3 c =
-    let back = c .before .before .before .before .before in
-    let args = back .before .before .args in
+    let back = c .before .before .before .before .before in let args = back .before .before .args in
     left-clean (args .waiting .now) (args .count) (bytes-intro (args .waiting .now) (λ i. back .before .shared-slice-known .given i .fits))
     (back .before .before .pre) (back .if1 .left) (c .before .before .before .all-zero .ensures) (not-false _ (c .before .before .if2 .left))
     (c .all-wait .ensures)

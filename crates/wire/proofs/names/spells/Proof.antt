@@ -23,9 +23,7 @@ loop-holds : tie.Need-loop-holds Inv-loop μ-loop
 loop-holds c = compare-begins _ _ (length-upper (c .before .before .before .args .word .now) ∙ c .if1 .left)
 
 returns-2 : tie.Need-returns-2 Inv-loop μ-loop
-returns-2 c =
-    let i = c .before .before .before .before .before .loop .i in
-    sym (not-same _ _ (λ e. c .if2 .taken (c .before .before .capital .ensures ∙ sym (upper-at (c .before .before .before .before .before .before .before .before .before .args .word .now) i) ∙ ap (λ (l : List ℕ). getD l i 0) e)))
+returns-2 c = let i = c .before .before .before .before .before .loop .i in sym (not-same _ _ (λ e. c .if2 .taken (c .before .before .capital .ensures ∙ sym (upper-at (c .before .before .before .before .before .before .before .before .before .args .word .now) i) ∙ ap (λ (l : List ℕ). getD l i 0) e)))
 
 loop-again : tie.Need-loop-again Inv-loop μ-loop
 loop-again c = let back2 = c .before .before in let back4 = back2 .before .before in let back5 = back4 .before in let loop = back5 .loop in let args = back5 .before .before .before .before .args in compare-goes-on _ _ _ (loop .inv) (rw (length-upper (args .word .now)) (back4 .loop-test .taken)) (upper-at (args .word .now) (loop .i) ∙ sym (back2 .capital .ensures) ∙ c .if2 .left)

@@ -33,9 +33,7 @@ returns-2 c =
     (progress-damaged (back4 .loop .inv .0) (back3 .loop-test .taken) (sym (c .enum-told2 .given .1) ∙ back2 .read-word .ensures))
 
 loop-again : tie.Need-loop-again Inv-loop μ-loop
-loop-again c =
-    let inv = c .before .before .before .before .before .loop .inv in
-    (progress-goes-on (inv .0) (c .before .before .before .before .loop-test .taken) (omega arith) (sym (c .before .word .given .1) ∙ c .before .before .before .read-word .ensures), rw length-set (inv .1))
+loop-again c = let inv = c .before .before .before .before .before .loop .inv in (progress-goes-on (inv .0) (c .before .before .before .before .loop-test .taken) (omega arith) (sym (c .before .word .given .1) ∙ c .before .before .before .read-word .ensures), rw length-set (inv .1))
 
 same-length-2 : tie.Need-same-length-2 Inv-loop μ-loop
 same-length-2 c = c .before .before .loop .inv .1
