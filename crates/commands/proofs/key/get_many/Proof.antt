@@ -28,9 +28,9 @@ put-answers-requires c κs =
 
 add-result : tie.Need-add-result
 add-result c =
-    let back2 = c .before .before in let back7 = back2 .before .before .before .before .before in let back11 = back7 .before .before .before .before in
-    let start = back11 .before .before .before .before .before .before in let a = start .args in
-    omega (arith, laid-within (laid-tail (back7 .put-header .ensures) (back2 .put-answers .ensures)) (answers-room (a .time) _ (now (a .key)) (a .question) (now (a .command)) (now (a .fields)) (back11 .sweep-fields .ensures .well) (start .pre .few) (start .pre .room)))
+    let start = c .before .before .before .before .before .before .before .before .before .before .before .before .before .before .before .before .before in
+    let a = start .args in
+    omega (arith, laid-within (laid-tail (c .before .before .before .before .before .before .before .put-header .ensures) (c .before .before .put-answers .ensures)) (answers-room (a .time) _ (now (a .key)) (a .question) (now (a .command)) (now (a .fields)) (c .before .before .before .before .before .before .before .before .before .before .before .sweep-fields .ensures .well) (start .pre .few) (start .pre .room)))
 
 returns : tie.Need-returns
 returns c = let back2 = c .before .before in let back7 = back2 .before .before .before .before .before in does-many _ _ _ _ _ (back7 .before .before .before .before .sweep-fields .ensures) (laid-reply (sym (answers-begin _ _ _)) (laid-tail (back7 .put-header .ensures) (back2 .put-answers .ensures)))

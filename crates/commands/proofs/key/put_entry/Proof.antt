@@ -25,7 +25,7 @@ put-bulk-requires-4 : tie.Need-put-bulk-requires-4
 put-bulk-requires-4 c κs = let back4 = c .before .before .before .before in let back6 = back4 .before .before in let back7 = back6 .before in tail-room _ (back4 .put-bulk3 .ensures) (both-room _ (back7 .before .before .before .before .pre .1) (back7 .enum-told3 .given .1) (back6 .field2 .ensures) (c .before .value2 .ensures))
 
 add-result : tie.Need-add-result
-add-result c = let back2 = c .before .before in let back4 = back2 .before .before in let back7 = back4 .before .before .before in let back9 = back7 .before .before in let back10 = back9 .before in omega (arith, laid-within (laid-tail (back7 .put-bulk3 .ensures) (back2 .put-bulk4 .ensures)) (both-room _ (back10 .before .before .before .before .pre .1) (back10 .enum-told3 .given .1) (back9 .field2 .ensures) (back4 .value2 .ensures)))
+add-result c = omega (arith, laid-within (laid-tail (c .before .before .before .before .before .before .before .put-bulk3 .ensures) (c .before .before .put-bulk4 .ensures)) (both-room _ (c .before .before .before .before .before .before .before .before .before .before .before .before .before .before .pre .1) (c .before .before .before .before .before .before .before .before .before .before .enum-told3 .given .1) (c .before .before .before .before .before .before .before .before .before .field2 .ensures) (c .before .before .before .before .value2 .ensures)))
 
 returns : tie.Need-returns
 returns c = laid-reply (shown-field _ (c .before .before .before .before .before .enum-told .given .1) (c .before .before .before .before .field .ensures)) (c .before .before .put-bulk .ensures)

@@ -31,9 +31,8 @@ put-listed-requires c κs =
 
 add-result : tie.Need-add-result
 add-result c =
-    let back2 = c .before .before in let back6 = back2 .before .before .before .before in let back8 = back6 .before .before in let back9 = back8 .before in
-    let start = back9 .before .before .before .before in
-    omega (arith, laid-within (laid-tail (back6 .put-header .ensures) (back2 .put-listed .ensures)) (entries-room _ _ _ _ (back9 .count-live .ensures) (back8 .width .ensures) (start .pre .0) (start .pre .1)))
+    let start = c .before .before .before .before .before .before .before .before .before .before .before .before .before in
+    omega (arith, laid-within (laid-tail (c .before .before .before .before .before .before .put-header .ensures) (c .before .before .put-listed .ensures)) (entries-room _ _ _ _ (c .before .before .before .before .before .before .before .before .before .count-live .ensures) (c .before .before .before .before .before .before .before .before .width .ensures) (start .pre .0) (start .pre .1)))
 
 returns : tie.Need-returns
 returns c = let back2 = c .before .before in let back6 = back2 .before .before .before .before in let back8 = back6 .before .before in laid-reply (sym (entries-begin _ _ _ _ (back8 .before .count-live .ensures) (back8 .width .ensures))) (laid-tail (back6 .put-header .ensures) (back2 .put-listed .ensures))

@@ -44,9 +44,8 @@ put-entry-requires c κs =
 
 add-at : tie.Need-add-at Inv-loop μ-loop
 add-at c =
-    let back2 = c .before .before in let back5 = back2 .before .before .before in let back7 = back5 .before .before in let back9 = back7 .before .before in
-    let n = live-next (back9 .before .before .before .before .before .pre .0) (back5 .found .given .1) (back7 .next-live .ensures) in
-    omega (arith, going-within (back9 .loop .inv .0) (shown-next n _) (back2 .put-entry .ensures))
+    let n = live-next (c .before .before .before .before .before .before .before .before .before .before .before .before .before .before .pre .0) (c .before .before .before .before .before .found .given .1) (c .before .before .before .before .before .before .before .next-live .ensures) in
+    omega (arith, going-within (c .before .before .before .before .before .before .before .before .before .loop .inv .0) (shown-next n _) (c .before .before .put-entry .ensures))
 
 add-from : tie.Need-add-from Inv-loop μ-loop
 add-from c = let back5 = c .before .before .before .before .before in let back7 = back5 .before .before in let n = live-next (back7 .before .before .before .before .before .before .before .pre .0) (back5 .found .given .1) (back7 .next-live .ensures) in omega (arith, live-few n)
