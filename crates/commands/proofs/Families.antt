@@ -41,7 +41,7 @@ use Rattle.commands.specs.Options.{signed64, expiryGroup, conditionGroup
 use Rattle.commands.specs.Parse.{Form, allowed, optionWords, numberRange, pairsOf, build, isZero, deedVersioning, beyond, deedLifetime, onDeed}
 use Rattle.commands.specs.Parse.Form.{setForm, setManyForm, incrementForm, expireForm, persistForm, renumberForm, askForm, getManyForm, deleteForm, countForm, listForm}
 use Rattle.commands.specs.Parse.Parsed.{accepted}
-use Rattle.commands.specs.Tables.{listFamily, listingOf, firstForms, formOf, commandData, familyAt, argumentAt, commandOf, kindIn, unitOf}
+use Rattle.commands.specs.TablePromises.{listFamily, listingOf, firstForms, formOf, commandData, familyAt, argumentAt, commandOf, kindIn, unitOf}
 use Rattle.commands.specs.ParsePromises.{notGiven, givenAt, instantIn, readOf, versionedFor, termsFor, conditionFor, onInteger, sumFor, lowestSigned, highestSigned, boundGiven, sumOf, parseRest, deedOf, commandFor, meant}
 use Rattle.commands.proofs.RowNumbers.{row-form}
 use Rattle.commands.proofs.OptionWords.{instant-read}

@@ -31,7 +31,7 @@ use Rattle.commands.specs.Parse as P
 use Rattle.commands.specs.Parse.{Form, commands, commandNamed, countFits, build, tooLong, laterChecks, checks, parseWords}
 use Rattle.commands.specs.Parse.Form.{setForm, setManyForm, incrementForm, expireForm, persistForm, renumberForm, askForm, getManyForm, deleteForm, countForm, listForm}
 use Rattle.commands.specs.Parse.Parsed.{refused, accepted}
-use Rattle.commands.specs.Tables.{commandTable, commandOf}
+use Rattle.commands.specs.TablePromises.{commandTable, commandOf}
 use Rattle.commands.specs.ParsePromises.{Divided, parseRest, meant}
 use Rattle.commands.proofs.Checks.{check-applies, check-passed, parse-accepted}
 use Rattle.commands.proofs.RowNumbers.{command-row}

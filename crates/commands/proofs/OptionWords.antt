@@ -26,7 +26,7 @@ use Rattle.commands.specs.declared.Lifetime.the-variants as lifetimes
 use Rattle.commands.specs.declared.Versioning.the-variants as versionings
 use Rattle.commands.specs.Options.{_with_, operandRange, readIn, readable, numberIn, naturalIn, instant, readableOperand, lifetimeOf, versioningOf, expiryGroup, versionGroup}
 use Rattle.commands.specs.Options.OptionKind.{expires, versioned}
-use Rattle.commands.specs.Tables.{secondsFromNow, secondsSince, msFromNow, unitOf, kept, ifMissing, matched, expiryKind, conditionBy, versioningBy, kindIn}
+use Rattle.commands.specs.TablePromises.{secondsFromNow, secondsSince, msFromNow, unitOf, kept, ifMissing, matched, expiryKind, conditionBy, versioningBy, kindIn}
 use Rattle.commands.specs.ParsePromises.{notGiven, numbered, optionAt, instantIn, lifetimeBy, versionBy, readOf, timedFor, versionedFor, conditionFor, boundFor}
 use Rattle.commands.proofs.Scanning.{option-none, option-some}
 

@@ -35,7 +35,7 @@ use Rattle.commands.specs.Options.{Given, _with_, signed64, expiryGroup,
 use Rattle.commands.specs.Options.OptionKind.{bound}
 use Rattle.commands.specs.Parse.{Form, allowed, optionWords, numberRange, build, isZero, deedVersioning, beyond, deedLifetime, onDeed, laterChecks}
 use Rattle.commands.specs.Parse.Parsed.{refused, accepted}
-use Rattle.commands.specs.Tables.{kindIn}
+use Rattle.commands.specs.TablePromises.{kindIn}
 use Rattle.commands.specs.ParsePromises.{notGiven, numbered, optionAt, givenAt, Scanned, lifetimeBy, versionBy, readOf, timedFor, versionedFor, termChecks, termsFor, conditionFor, boundFor, boundGiven, parseRest, meant}
 use Rattle.commands.proofs.Checks.{check-applies, check-passed, checks-end}
 use Rattle.commands.proofs.Scanning.{option-some, option-none}

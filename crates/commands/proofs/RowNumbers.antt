@@ -25,7 +25,7 @@ use Rattle.commands.specs.Options.OptionKind.{noExp}
 use Rattle.commands.specs.Parse.{CommandRow, row, commands, commandCount, commandNamed}
 use Rattle.commands.specs.Parse.Count.{atLeast}
 use Rattle.commands.specs.Parse.Form.{setForm}
-use Rattle.commands.specs.Tables.{nameRow, familyOf, unitNumber, unitOf, questionNumber, questionOf, listingNumber, listingOf, argumentOf, formOf, leastOf, moreOf, namesOf, commandData, commandTable, commandOf, conditionNumber, versioningNumber, saidOf, expiryKind, conditionBy, versioningBy, kindIn, sizeOf, optionData, optionTable, optionOf}
+use Rattle.commands.specs.TablePromises.{nameRow, familyOf, unitNumber, unitOf, questionNumber, questionOf, listingNumber, listingOf, argumentOf, formOf, leastOf, moreOf, namesOf, commandData, commandTable, commandOf, conditionNumber, versioningNumber, saidOf, expiryKind, conditionBy, versioningBy, kindIn, sizeOf, optionData, optionTable, optionOf}
 use Rattle.commands.specs.ParsePromises.{notGiven}
 use Rattle.commands.proofs.Computing.{computing}
 

@@ -18,7 +18,7 @@ use Rattle.commands.specs.Options.{Given, noExpGroup, givenOf}
 use Rattle.commands.specs.Parse.{Form, Count, countFits, pairsOf, build, tooLong}
 use Rattle.commands.specs.Parse.Count.{exactly, atLeast, evenFrom}
 use Rattle.commands.specs.Parse.Form.{setForm, setManyForm, incrementForm, expireForm, persistForm, renumberForm, askForm, getManyForm, deleteForm, countForm, listForm}
-use Rattle.commands.specs.Tables.{leastOf, noMore, anyMore, moreOf, noneNamed, eachField, eachPair, oneField, namesOf, commandData, leastAt, moreAt, namesAt, commandOf}
+use Rattle.commands.specs.TablePromises.{leastOf, noMore, anyMore, moreOf, noneNamed, eachField, eachPair, oneField, namesOf, commandData, leastAt, moreAt, namesAt, commandOf}
 use Rattle.commands.specs.ParsePromises.{anyOver, pairOver}
 
 -- ---- the numbers of words

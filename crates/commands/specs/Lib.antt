@@ -7,7 +7,7 @@ pub mod Parse
 pub mod Effect
 pub mod Execute
 pub mod Claims
-pub mod Tables
+pub mod TablePromises
 pub mod ParsePromises
 pub mod Promises
 pub mod Examples

@@ -44,7 +44,7 @@ use Rattle.commands.specs.Command.Command.{onField, setMany, getMany, de
 use Rattle.commands.specs.Options.{Given, _with_, minGroup, maxGroup, group, groupCount, operandRange, scan, conflicting, readableOperand, givenOf, lifetimeOf, versioningOf}
 use Rattle.commands.specs.Parse as P
 use Rattle.commands.specs.Parse.{Form, pairsOf, beyond, allowed, optionWords, build, laterChecks, isZero}
-use Rattle.commands.specs.Tables.{unitOf, conditionBy, kindIn}
+use Rattle.commands.specs.TablePromises.{unitOf, conditionBy, kindIn}
 
 -- ---- words
 

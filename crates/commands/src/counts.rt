@@ -19,7 +19,7 @@ ghost use Prim.Native.Nat.{ℕ, _<_};
 ghost use Rattle.wire.specs.Promises.{wordsIn, Inside};
 ghost use Rattle.commands.specs.Options.{Given};
 ghost use Rattle.commands.specs.Parse.{commandCount, countFits, build, tooLong};
-ghost use Rattle.commands.specs.Tables.{commandOf};
+ghost use Rattle.commands.specs.TablePromises.{commandOf};
 ghost use Rattle.commands.specs.ParsePromises.{anyOver, pairOver};
 
 // Whether a command takes so many words, its name counted.

@@ -44,7 +44,7 @@ ghost use Rattle.wire.specs.Promises.{wordsIn, Inside};
 ghost use Rattle.store.specs.Layout.{timeLimit};
 ghost use Rattle.commands.specs.Parse as P;
 ghost use Rattle.commands.specs.Parse.{commandCount};
-ghost use Rattle.commands.specs.Tables.{commandOf, unitOf, questionOf, listingOf};
+ghost use Rattle.commands.specs.TablePromises.{commandOf, unitOf, questionOf, listingOf};
 ghost use Rattle.commands.specs.ParsePromises.{Divided, parseRest, meant};
 
 // EXHSET from its options on: checks 15 to 18.

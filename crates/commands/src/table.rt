@@ -9,7 +9,7 @@ ghost use lib.ListN.{getD};
 ghost use Rattle.wire.specs.Promises.{rowFor, rowNamed, dataSize};
 ghost use Rattle.commands.specs.Options.{optionCount};
 ghost use Rattle.commands.specs.Parse.{commandCount};
-ghost use Rattle.commands.specs.Tables.{commandTable, commandData, commandOf, optionTable, optionData, optionOf};
+ghost use Rattle.commands.specs.TablePromises.{commandTable, commandData, commandOf, optionTable, optionData, optionOf};
 
 // The numbers of a command's row: its family; its unit, question or listing; the least number of its words; whether more may follow; which of them are a field or a value.
 pub const FAMILY_AT: usize = 0;

@@ -1,6 +1,6 @@
 use native.Mathlib.Omega.{arith}
 use Rattle.wire.proofs.WordPlaces.{length-words}
-use Rattle.commands.specs.Tables.{optionData, optionOf}
+use Rattle.commands.specs.TablePromises.{optionData, optionOf}
 use Rattle.commands.proofs.RowNumbers.{option-number}
 use Rattle.commands.proofs.Scanning.{size-range, option-unknown, option-barred, option-short, option-found}
 use borrow.Author.Needs.{needs}

@@ -3,7 +3,7 @@ use Prim.Native.Nat.{_≤_}
 use native.Mathlib.Omega.{arith}
 use lib.ListN.{List·getD-eq-default}
 use Rattle.commands.specs.declared.Listing.the-variants.{Both}
-use Rattle.commands.specs.Tables.{firstListings, listingOf}
+use Rattle.commands.specs.TablePromises.{firstListings, listingOf}
 use Rattle.commands.proofs.parse.listing.Statement.{statement}
 use Rattle.commands.proofs.parse.listing.Tie as tie
 

@@ -3,7 +3,7 @@ use Prim.Native.Nat.{_≤_}
 use native.Mathlib.Omega.{arith}
 use lib.ListN.{List·getD-eq-default}
 use Rattle.commands.specs.declared.Question.the-variants.{Milliseconds}
-use Rattle.commands.specs.Tables.{firstQuestions, questionOf}
+use Rattle.commands.specs.TablePromises.{firstQuestions, questionOf}
 use Rattle.commands.proofs.parse.question.Statement.{statement}
 use Rattle.commands.proofs.parse.question.Tie as tie
 

@@ -1,6 +1,6 @@
 -- The bytes of the code are those of the definition, computed.
 use mathlib.Core.Path.{_∙_}
-use Rattle.commands.specs.Tables.{commandTable}
+use Rattle.commands.specs.TablePromises.{commandTable}
 use Rattle.commands.proofs.RowNumbers.{tables, command-inside, command-datum}
 use borrow.Author.Needs.{needs}
 use Rattle.commands.proofs.table.command_datum.Statement.{statement}

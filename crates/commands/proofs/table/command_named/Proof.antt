@@ -1,5 +1,5 @@
 -- The bytes of the code are those of the definition, computed.
-use Rattle.commands.specs.Tables.{commandTable}
+use Rattle.commands.specs.TablePromises.{commandTable}
 use Rattle.commands.proofs.RowNumbers.{tables, command-table}
 use borrow.Author.Needs.{needs}
 use Rattle.commands.proofs.table.command_named.Statement.{statement}

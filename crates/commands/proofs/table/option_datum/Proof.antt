@@ -1,6 +1,6 @@
 -- The bytes of the code are those of the definition, computed.
 use mathlib.Core.Path.{_∙_}
-use Rattle.commands.specs.Tables.{optionTable}
+use Rattle.commands.specs.TablePromises.{optionTable}
 use Rattle.commands.proofs.RowNumbers.{tables, option-inside, option-datum}
 use borrow.Author.Needs.{needs}
 use Rattle.commands.proofs.table.option_datum.Statement.{statement}

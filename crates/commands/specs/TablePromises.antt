@@ -1,4 +1,4 @@
--- The commands and the options as rows of data: what the code's tables hold, computed from the definitions.
+-- What the code's tables of commands and options hold, computed from the definitions: the forms of its contracts.
 use mathlib.Core.Bool.{true, false, cond}
 use mathlib.Core.List.{List, [], _∷_, _++_, flatMap}
 use Prim.Native.Nat.{ℕ}
