@@ -36,10 +36,10 @@ use Rattle.commands.specs.Execute.{runOn, run, perform, exec, execBytes}
 use Rattle.commands.specs.ParsePromises.{Divided, meant, deedOf, commandFor, isRefusal}
 use Rattle.commands.specs.Promises.{Does, Replied, Opened, WithinLimits, amountFits}
 use Rattle.commands.proofs.Acts.{holds-self}
-use Rattle.commands.proofs.Checks.{checks-clear, givenIn, builtOf, parse-refused, parse-accepted}
+use Rattle.commands.proofs.ParseChecks.{checks-clear, givenIn, builtOf, parse-refused, parse-accepted}
 use Rattle.commands.proofs.Sound.{parse-clock}
 use Rattle.commands.proofs.Keeps.{now-early}
-use Rattle.commands.proofs.FromBytes.{parse-amount}
+use Rattle.commands.proofs.ParseFromBytes.{parse-amount}
 
 -- what is done on what the bytes mean is done on the bytes
 pub does-exec : (clock : ℕ) (command b : List ℕ) {after d x : List ℕ} {r : ℕ} → Does (exec clock command (decode b)) after d x r

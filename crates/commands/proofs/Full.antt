@@ -17,7 +17,7 @@ use Rattle.commands.specs.Parse.Parsed.{accepted}
 use Rattle.commands.specs.Effect.{Effect}
 use Rattle.commands.specs.Execute.{lateChecks, added, room, exec}
 use Rattle.commands.specs.Claims.{Proper}
-use Rattle.commands.proofs.Checks.{check-applies, check-passed, lowest-some, lowest-none}
+use Rattle.commands.proofs.ParseChecks.{check-applies, check-passed, lowest-some, lowest-none}
 use Rattle.commands.proofs.Went.{sweptBy, effectOn, lateRefusal, accepted-refusal}
 use Rattle.commands.proofs.Refused.{late-refusal}
 

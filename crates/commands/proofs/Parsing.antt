@@ -37,9 +37,9 @@ use Rattle.commands.specs.Parse.{Form, allowed, optionWords, numberRange
 use Rattle.commands.specs.Parse.Parsed.{refused, accepted}
 use Rattle.commands.specs.TablePromises.{kindIn}
 use Rattle.commands.specs.ParsePromises.{notGiven, numbered, optionAt, givenAt, Scanned, lifetimeBy, versionBy, readOf, timedFor, versionedFor, termChecks, termsFor, conditionFor, boundFor, boundGiven, parseRest, meant}
-use Rattle.commands.proofs.Checks.{check-applies, check-passed, checks-end}
-use Rattle.commands.proofs.Scanning.{option-some, option-none}
-use Rattle.commands.proofs.OneEach.{scan-allowed, all-groups}
+use Rattle.commands.proofs.ParseChecks.{check-applies, check-passed, checks-end}
+use Rattle.commands.proofs.OptionScanning.{option-some, option-none}
+use Rattle.commands.proofs.OptionsOneEach.{scan-allowed, all-groups}
 
 -- ---- checks 15 to 18
 

@@ -15,7 +15,7 @@ use Rattle.commands.specs.Command.{Command, keyOf, fieldsOf}
 use Rattle.commands.specs.Parse.{parse}
 use Rattle.commands.specs.Parse.Parsed.{accepted}
 use Rattle.commands.specs.Execute.{lateChecks, Outcome, exec}
-use Rattle.commands.proofs.Checks.{lowest-between, parse-refused}
+use Rattle.commands.proofs.ParseChecks.{lowest-between, parse-refused}
 use Rattle.commands.proofs.Sweep.{sweep-keeps-live}
 use Rattle.commands.proofs.Went.{Went, went, storeOf, sweptBy, effectOn, lateRefusal}
 use Rattle.commands.proofs.Went.Went.{early, late, done}

@@ -32,7 +32,7 @@ use Rattle.commands.specs.Effect.Change.{write}
 use Rattle.commands.specs.Execute.{Outcome, refusedWith, doneWith, settle, passes, adds, added, room, lateChecks}
 use Rattle.commands.specs.ParsePromises.{isRefusal}
 use Rattle.commands.specs.Promises.{Does, Wrote, Settles, Changes, settledReply, tellable, writeSettled, lookFor, versioned, outcomeFor}
-use Rattle.commands.proofs.Checks.{lowest-number, check-applies, check-passed}
+use Rattle.commands.proofs.ParseChecks.{lowest-number, check-applies, check-passed}
 use Rattle.commands.proofs.Room.{keep-set-less, slot-none}
 use Rattle.commands.proofs.Acts.{holds-self}
 

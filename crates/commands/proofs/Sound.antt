@@ -22,7 +22,7 @@ use Rattle.commands.specs.Options.{Given, givenOf, noExpGroup, lifetime,
 use Rattle.commands.specs.Parse.{Form, pairsOf, build, tooLong, beyond, deedLifetime, onDeed, parse}
 use Rattle.commands.specs.Parse.Form.{setForm, setManyForm, incrementForm, expireForm, persistForm, renumberForm, askForm, getManyForm, deleteForm, countForm, listForm}
 use Rattle.commands.specs.Parse.Parsed.{accepted}
-use Rattle.commands.proofs.Checks.{checks-clear, Accepted, parse-accepted, givenIn, builtOf}
+use Rattle.commands.proofs.ParseChecks.{checks-clear, Accepted, parse-accepted, givenIn, builtOf}
 
 -- a word of at most so many bytes
 pub record Bounded (most : ℕ) (w : Word) : Type 0 where

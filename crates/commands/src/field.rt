@@ -8,7 +8,7 @@ use crate::Versioning;
 use crate::act::look;
 use crate::act::slot_for;
 use crate::answer::put_answer;
-use crate::errors::put_error;
+use crate::refusal::put_error;
 use crate::versions::is_barred;
 use crate::versions::is_stale;
 use crate::versions::next_expiry;

@@ -2,7 +2,6 @@
 mod act;
 mod answer;
 mod counts;
-mod errors;
 pub mod execute;
 mod field;
 mod key;
@@ -10,6 +9,7 @@ mod operands;
 mod options;
 mod pairs;
 mod parse;
+mod refusal;
 mod table;
 mod versions;
 

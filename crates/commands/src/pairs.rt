@@ -1,8 +1,8 @@
 // EXHMSET: pairs of a field and a value, all of them or none. `pairs` are the places of their words.
 use crate::act::look;
 use crate::act::place;
-use crate::errors::put_error;
 use crate::field::held_version;
+use crate::refusal::put_error;
 use store::Expiry;
 use store::Found;
 use store::find;

@@ -19,7 +19,7 @@ use Rattle.store.proofs.Encode.{decode-valid, encode-decode, length-decode}
 use Rattle.store.proofs.Places.{encode-at}
 use Rattle.commands.specs.Refusal.{_when_, lowest, bufferLeast, earlyMost}
 use Rattle.commands.specs.Execute.{exec, execBytes}
-use Rattle.commands.proofs.Checks.{lowest-none}
+use Rattle.commands.proofs.ParseChecks.{lowest-none}
 use Rattle.commands.proofs.Refused.{early-refusal, refused-keeps-live}
 use Rattle.commands.proofs.Keeps.{exec-valid}
 use Rattle.commands.proofs.Fit.{reply-fits}

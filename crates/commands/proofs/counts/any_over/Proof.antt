@@ -9,7 +9,7 @@ use Rattle.wire.specs.Promises.{wordsIn}
 use Rattle.wire.proofs.WordPlaces.{length-words}
 use Rattle.store.specs.Layout.{fieldMost}
 use Rattle.commands.specs.ParsePromises.{anyOver}
-use Rattle.commands.proofs.Tallies.{over-found, over-on, over-ends}
+use Rattle.commands.proofs.CountTallies.{over-found, over-on, over-ends}
 use borrow.Author.Needs.{needs}
 use Rattle.commands.proofs.counts.any_over.Statement.{statement}
 use Rattle.commands.proofs.counts.any_over.Tie as tie

@@ -1,4 +1,4 @@
-use Rattle.commands.proofs.Tallies.{row-few, row-just, row-enough, row-paired}
+use Rattle.commands.proofs.CountTallies.{row-few, row-just, row-enough, row-paired}
 use borrow.Author.Needs.{needs}
 use Rattle.commands.proofs.counts.count_fits.Statement.{statement}
 use Rattle.commands.proofs.counts.count_fits.Tie as tie

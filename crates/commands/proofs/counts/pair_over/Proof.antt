@@ -12,7 +12,7 @@ use Rattle.wire.proofs.WordPlaces.{length-words}
 use Rattle.store.specs.Layout.{fieldMost, valueMost}
 use Rattle.commands.specs.Parse.{pairsOf}
 use Rattle.commands.specs.ParsePromises.{pairOver}
-use Rattle.commands.proofs.Tallies.{pair-field, pair-value, pair-on, pair-ends}
+use Rattle.commands.proofs.CountTallies.{pair-field, pair-value, pair-on, pair-ends}
 use borrow.Author.Needs.{needs}
 use Rattle.commands.proofs.counts.pair_over.Statement.{statement}
 use Rattle.commands.proofs.counts.pair_over.Tie as tie

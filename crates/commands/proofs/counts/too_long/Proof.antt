@@ -1,4 +1,4 @@
-use Rattle.commands.proofs.Tallies.{key-long, key-only, fields-long, pair-long, field-long, field-short, value-long}
+use Rattle.commands.proofs.CountTallies.{key-long, key-only, fields-long, pair-long, field-long, field-short, value-long}
 use borrow.Author.Needs.{needs}
 use Rattle.commands.proofs.counts.too_long.Statement.{statement}
 use Rattle.commands.proofs.counts.too_long.Tie as tie

@@ -1,4 +1,4 @@
-use Rattle.commands.proofs.OptionWords.{bound-none, bound-read}
+use Rattle.commands.proofs.OperandWords.{bound-none, bound-read}
 use borrow.Author.Needs.{needs}
 use Rattle.commands.proofs.operands.bound.Statement.{statement}
 use Rattle.commands.proofs.operands.bound.Tie as tie

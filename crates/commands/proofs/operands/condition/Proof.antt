@@ -1,4 +1,4 @@
-use Rattle.commands.proofs.OptionWords.{condition-none, condition-missing, condition-live}
+use Rattle.commands.proofs.OperandWords.{condition-none, condition-missing, condition-live}
 use Rattle.commands.proofs.operands.condition.Statement.{statement}
 use Rattle.commands.proofs.operands.condition.Tie as tie
 

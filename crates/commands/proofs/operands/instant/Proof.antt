@@ -1,4 +1,4 @@
-use Rattle.commands.proofs.OptionWords.{instant-seconds, instant-since, instant-ms, instant-itself}
+use Rattle.commands.proofs.OperandWords.{instant-seconds, instant-since, instant-ms, instant-itself}
 use borrow.Author.Needs.{needs}
 use Rattle.commands.proofs.operands.instant.Statement.{statement}
 use Rattle.commands.proofs.operands.instant.Tie as tie

@@ -1,5 +1,5 @@
 use Rattle.store.specs.Layout.{timeLimit}
-use Rattle.commands.proofs.OptionWords.{natural-value, natural-refused, lifetime-none, lifetime-keep, lifetime-refused, lifetime-until}
+use Rattle.commands.proofs.OperandWords.{natural-value, natural-refused, lifetime-none, lifetime-keep, lifetime-refused, lifetime-until}
 use borrow.Author.Needs.{needs}
 use Rattle.commands.proofs.operands.lifetime.Statement.{statement}
 use Rattle.commands.proofs.operands.lifetime.Tie as tie

@@ -1,6 +1,6 @@
 use mathlib.Core.Path.{sym, _∙_}
 use Rattle.commands.specs.ParsePromises.{boundGiven, sumOf}
-use Rattle.commands.proofs.Families.{sum-0, sum-1, sum-2, sum-3}
+use Rattle.commands.proofs.ParseFamilies.{sum-0, sum-1, sum-2, sum-3}
 use borrow.Author.Needs.{needs}
 use Rattle.commands.proofs.operands.sum.Statement.{statement}
 use Rattle.commands.proofs.operands.sum.Tie as tie

@@ -1,5 +1,5 @@
 use Rattle.store.specs.Layout.{versionMost}
-use Rattle.commands.proofs.OptionWords.{natural-value, natural-refused, versioning-none, versioning-refused, versioning-match, versioning-exactly}
+use Rattle.commands.proofs.OperandWords.{natural-value, natural-refused, versioning-none, versioning-refused, versioning-match, versioning-exactly}
 use borrow.Author.Needs.{needs}
 use Rattle.commands.proofs.operands.versioning.Statement.{statement}
 use Rattle.commands.proofs.operands.versioning.Tie as tie

@@ -1,8 +1,8 @@
 use native.Mathlib.Omega.{arith}
 use Rattle.wire.proofs.WordPlaces.{length-words}
 use Rattle.commands.specs.TablePromises.{optionData, optionOf}
-use Rattle.commands.proofs.RowNumbers.{option-number}
-use Rattle.commands.proofs.Scanning.{size-range, option-unknown, option-barred, option-short, option-found}
+use Rattle.commands.proofs.TableRows.{option-number}
+use Rattle.commands.proofs.OptionScanning.{size-range, option-unknown, option-barred, option-short, option-found}
 use borrow.Author.Needs.{needs}
 use Rattle.commands.proofs.options.option_at.Statement.{statement}
 use Rattle.commands.proofs.options.option_at.Tie as tie

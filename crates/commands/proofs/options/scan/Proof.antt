@@ -4,7 +4,7 @@ use native.Mathlib.Omega.{arith}
 use lib.ListN.{length}
 use Rattle.wire.specs.Promises.{wordsIn}
 use Rattle.wire.proofs.WordPlaces.{length-words}
-use Rattle.commands.proofs.Scanning.{Scanning, scanning-begins, scanning-fails, scanning-again, scanning-on, scanning-ends}
+use Rattle.commands.proofs.OptionScanning.{Scanning, scanning-begins, scanning-fails, scanning-again, scanning-on, scanning-ends}
 use borrow.Author.Needs.{needs}
 use Rattle.commands.proofs.options.scan.Statement.{statement}
 use Rattle.commands.proofs.options.scan.Tie as tie

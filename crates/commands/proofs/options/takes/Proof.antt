@@ -5,7 +5,7 @@ use lib.Dec.{eqb}
 use lib.ListN.{length, drop}
 use native.Mathlib.Omega.{arith}
 use Rattle.wire.specs.Lists.{any}
-use Rattle.commands.proofs.Scanning.{takes-found, takes-on, takes-ends}
+use Rattle.commands.proofs.OptionScanning.{takes-found, takes-on, takes-ends}
 use borrow.Author.Needs.{needs}
 use Rattle.commands.proofs.options.takes.Statement.{statement}
 use Rattle.commands.proofs.options.takes.Tie as tie

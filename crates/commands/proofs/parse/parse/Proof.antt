@@ -1,5 +1,5 @@
-use Rattle.commands.proofs.FromBytes.{parse-10, parse-11, parse-12, parse-13, parse-14, parse-rest}
-use Rattle.commands.proofs.RowNumbers.{command-number}
+use Rattle.commands.proofs.ParseFromBytes.{parse-10, parse-11, parse-12, parse-13, parse-14, parse-rest}
+use Rattle.commands.proofs.TableRows.{command-number}
 use borrow.Author.Needs.{needs}
 use Rattle.commands.proofs.parse.parse.Statement.{statement}
 use Rattle.commands.proofs.parse.parse.Tie as tie

@@ -1,5 +1,5 @@
 use Rattle.commands.proofs.Parsing.{not-clean, ready}
-use Rattle.commands.proofs.Families.{count-takes, count-live, count-held}
+use Rattle.commands.proofs.ParseFamilies.{count-takes, count-live, count-held}
 use borrow.Author.Needs.{needs}
 use Rattle.commands.proofs.parse.parse_count.Statement.{statement}
 use Rattle.commands.proofs.parse.parse_count.Tie as tie

@@ -1,7 +1,7 @@
 use Rattle.store.specs.Layout.{timeLimit}
-use Rattle.commands.proofs.OptionWords.{natural-value, natural-refused}
+use Rattle.commands.proofs.OperandWords.{natural-value, natural-refused}
 use Rattle.commands.proofs.Parsing.{not-clean, ready}
-use Rattle.commands.proofs.Families.{expire-takes, expire-unread, expire-unversioned, expire-zero, expire-beyond, expire-done}
+use Rattle.commands.proofs.ParseFamilies.{expire-takes, expire-unread, expire-unversioned, expire-zero, expire-beyond, expire-done}
 use borrow.Author.Needs.{needs}
 use Rattle.commands.proofs.parse.parse_expire.Statement.{statement}
 use Rattle.commands.proofs.parse.parse_expire.Tie as tie

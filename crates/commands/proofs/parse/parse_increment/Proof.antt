@@ -1,5 +1,5 @@
 use Rattle.commands.proofs.Parsing.{not-clean, ready}
-use Rattle.commands.proofs.Families.{increment-takes, increment-unread, increment-done, increment-refused}
+use Rattle.commands.proofs.ParseFamilies.{increment-takes, increment-unread, increment-done, increment-refused}
 use borrow.Author.Needs.{needs}
 use Rattle.commands.proofs.parse.parse_increment.Statement.{statement}
 use Rattle.commands.proofs.parse.parse_increment.Tie as tie

@@ -1,6 +1,6 @@
 use Rattle.store.specs.Layout.{versionMost}
-use Rattle.commands.proofs.OptionWords.{natural-value, natural-refused}
-use Rattle.commands.proofs.Families.{renumber-unread, renumber-done}
+use Rattle.commands.proofs.OperandWords.{natural-value, natural-refused}
+use Rattle.commands.proofs.ParseFamilies.{renumber-unread, renumber-done}
 use borrow.Author.Needs.{needs}
 use Rattle.commands.proofs.parse.parse_renumber.Statement.{statement}
 use Rattle.commands.proofs.parse.parse_renumber.Tie as tie

@@ -2,7 +2,7 @@ use mathlib.Core.Path.{sym, ap, _∙_}
 use native.Mathlib.Omega.{arith}
 use Rattle.commands.specs.Parse.Form.{setForm, setManyForm, incrementForm, expireForm, persistForm, renumberForm, askForm, getManyForm, deleteForm, countForm, listForm}
 use Rattle.commands.specs.TablePromises.{unitOf, formOf}
-use Rattle.commands.proofs.Families.{fixed-pairs, fixed-persist, fixed-ask, fixed-many, fixed-delete, fixed-list, behind, list-form, row-parsed}
+use Rattle.commands.proofs.ParseFamilies.{fixed-pairs, fixed-persist, fixed-ask, fixed-many, fixed-delete, fixed-list, behind, list-form, row-parsed}
 use borrow.Author.Needs.{needs}
 use Rattle.commands.proofs.parse.parse_row.Statement.{statement}
 use Rattle.commands.proofs.parse.parse_row.Tie as tie

@@ -1,5 +1,5 @@
 use Rattle.commands.proofs.Parsing.{not-clean, ready}
-use Rattle.commands.proofs.Families.{set-takes, set-done, set-refused}
+use Rattle.commands.proofs.ParseFamilies.{set-takes, set-done, set-refused}
 use borrow.Author.Needs.{needs}
 use Rattle.commands.proofs.parse.parse_set.Statement.{statement}
 use Rattle.commands.proofs.parse.parse_set.Tie as tie

@@ -1,7 +1,7 @@
 -- The bytes of the code are those of the definition, computed.
 use mathlib.Core.Path.{_∙_}
 use Rattle.commands.specs.TablePromises.{commandTable}
-use Rattle.commands.proofs.RowNumbers.{tables, command-inside, command-datum}
+use Rattle.commands.proofs.TableRows.{tables, command-inside, command-datum}
 use borrow.Author.Needs.{needs}
 use Rattle.commands.proofs.table.command_datum.Statement.{statement}
 use Rattle.commands.proofs.table.command_datum.Tie as tie

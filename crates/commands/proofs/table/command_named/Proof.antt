@@ -1,6 +1,6 @@
 -- The bytes of the code are those of the definition, computed.
 use Rattle.commands.specs.TablePromises.{commandTable}
-use Rattle.commands.proofs.RowNumbers.{tables, command-table}
+use Rattle.commands.proofs.TableRows.{tables, command-table}
 use borrow.Author.Needs.{needs}
 use Rattle.commands.proofs.table.command_named.Statement.{statement}
 use Rattle.commands.proofs.table.command_named.Tie as tie

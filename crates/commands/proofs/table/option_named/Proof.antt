@@ -1,6 +1,6 @@
 -- The bytes of the code are those of the definition, computed.
 use Rattle.commands.specs.TablePromises.{optionTable}
-use Rattle.commands.proofs.RowNumbers.{tables, option-table}
+use Rattle.commands.proofs.TableRows.{tables, option-table}
 use borrow.Author.Needs.{needs}
 use Rattle.commands.proofs.table.option_named.Statement.{statement}
 use Rattle.commands.proofs.table.option_named.Tie as tie

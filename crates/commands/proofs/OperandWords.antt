@@ -28,7 +28,7 @@ use Rattle.commands.specs.Options.{_with_, operandRange, readIn, readabl
 use Rattle.commands.specs.Options.OptionKind.{expires, versioned}
 use Rattle.commands.specs.TablePromises.{secondsFromNow, secondsSince, msFromNow, unitOf, kept, ifMissing, matched, expiryKind, conditionBy, versioningBy, kindIn}
 use Rattle.commands.specs.ParsePromises.{notGiven, numbered, optionAt, instantIn, lifetimeBy, versionBy, readOf, timedFor, versionedFor, conditionFor, boundFor}
-use Rattle.commands.proofs.Scanning.{option-none, option-some}
+use Rattle.commands.proofs.OptionScanning.{option-none, option-some}
 
 -- ---- numbers
 

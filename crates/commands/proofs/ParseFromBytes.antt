@@ -33,8 +33,8 @@ use Rattle.commands.specs.Parse.Form.{setForm, setManyForm, incrementFor
 use Rattle.commands.specs.Parse.Parsed.{refused, accepted}
 use Rattle.commands.specs.TablePromises.{commandTable, commandOf}
 use Rattle.commands.specs.ParsePromises.{Divided, parseRest, meant}
-use Rattle.commands.proofs.Checks.{check-applies, check-passed, parse-accepted}
-use Rattle.commands.proofs.RowNumbers.{command-row}
+use Rattle.commands.proofs.ParseChecks.{check-applies, check-passed, parse-accepted}
+use Rattle.commands.proofs.TableRows.{command-row}
 use Rattle.commands.proofs.Parsing.{scannedOf, givenIn, saidBy}
 
 -- ---- checks 13 and 14

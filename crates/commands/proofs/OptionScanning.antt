@@ -24,7 +24,7 @@ use Rattle.commands.specs.declared.options.ScannedOptions as code
 use Rattle.commands.specs.Options.{OptionKind, Range, Given, _with_, options, group, groupCount, operandRange, optionNamed, scan, conflicting, givenOf}
 use Rattle.commands.specs.TablePromises.{kindIn, sizeOf, optionData, groupAt, saidAt, sizeAt, optionTable, optionOf}
 use Rattle.commands.specs.ParsePromises.{notGiven, numbered, optionAt, givenAt, Found, Scanned}
-use Rattle.commands.proofs.RowNumbers.{option-row, option-number, row-kind, row-below}
+use Rattle.commands.proofs.TableRows.{option-row, option-number, row-kind, row-below}
 
 -- ---- the groups that are allowed
 

@@ -2,10 +2,10 @@
 use native.Mathlib.Omega.{arith}
 use denote.Ref.{now}
 use lib.ListN.{length}
-use Rattle.commands.proofs.Lines.{placing, line-at, line-room, line-laid}
+use Rattle.commands.proofs.RefusalLines.{placing, line-at, line-room, line-laid}
 use borrow.Author.Needs.{needs}
-use Rattle.commands.proofs.errors.put_error.Statement.{statement}
-use Rattle.commands.proofs.errors.put_error.Tie as tie
+use Rattle.commands.proofs.refusal.put_error.Statement.{statement}
+use Rattle.commands.proofs.refusal.put_error.Tie as tie
 
 sub-start : tie.Need-sub-start
 sub-start c = line-at (c .before .args .n) (c .before .pre .0) .first
