@@ -1,16 +1,15 @@
 -- From what a command's function does to what `execBytes` says.
 use mathlib.Core.Path.{_≡_, refl, sym, ap, subst, _∙_}
-use mathlib.Core.Bool.{Bool, true, false, cond, _&&_}
+use mathlib.Core.Bool.{Bool, true, false, cond}
 use mathlib.Core.List.{List, [], _∷_}
 use mathlib.Core.Option.{none, some}
-use Prim.Native.Nat.{ℕ, zero, suc, _+_, _%_, _≤_, _<_}
-use native.Mathlib.Numerals.{lt-of-le-of-ne}
+use Prim.Native.Nat.{ℕ, _%_, _≤_, _<_}
 use native.Mathlib.Omega.{arith}
-use borrow.Author.Tests.{leb-true, eqb-true, eqb-false, not-false}
+use borrow.Author.Tests.{leb-true, eqb-true, not-false}
 use lib.Dec.{leb, eqb}
 use lib.ListN.{length, take, drop}
 use lib.Seq.{length-take-le}
-use Rattle.wire.specs.Lists.{all, any}
+use Rattle.wire.specs.Lists.{all}
 use Rattle.wire.specs.Bytes.{spells}
 use Rattle.wire.specs.Words.{Word, wordsOf, wordAt}
 use Rattle.wire.specs.Promises.{Laid, wordsIn, Places}
@@ -26,17 +25,18 @@ use Rattle.commands.specs.declared.FieldDeed.the-variants as fieldDeeds
 use Rattle.commands.specs.declared.KeyDeed.{KeyDeed}
 use Rattle.commands.specs.declared.Parsed.{Parsed}
 use Rattle.commands.specs.declared.Parsed.the-variants as parses
-use Rattle.commands.specs.Refusal.{earlyLeast, earlyMost, bufferLeast, table, errorLine}
+use Rattle.commands.specs.Refusal.{bufferLeast, errorLine}
 use Rattle.commands.specs.Command.{Command}
 use Rattle.commands.specs.Command.Command.{onField}
 use Rattle.commands.specs.Parse as P
 use Rattle.commands.specs.Parse.{commands, commandNamed, countFits, parse}
 use Rattle.commands.specs.Parse.Parsed.{refused, accepted}
 use Rattle.commands.specs.Execute.{runOn, run, perform, exec, execBytes}
+use Rattle.commands.specs.TablePromises.{leastOf}
 use Rattle.commands.specs.ParsePromises.{Divided, meant, deedOf, commandFor, isRefusal}
 use Rattle.commands.specs.Promises.{Does, Replied, Opened, WithinLimits, amountFits}
 use Rattle.commands.proofs.Acts.{holds-self}
-use Rattle.commands.proofs.ParseChecks.{checks-clear, givenIn, builtOf, parse-refused, parse-accepted}
+use Rattle.commands.proofs.ParseChecks.{checks-clear, scannedOf, saidBy, parse-known, parse-accepted}
 use Rattle.commands.proofs.Sound.{parse-clock}
 use Rattle.commands.proofs.Keeps.{now-early}
 use Rattle.commands.proofs.ParseFromBytes.{parse-amount}
@@ -69,38 +69,10 @@ clock-does now c s {b} {after} {d} {x} {r} h w = subst (λ (t : Store). Does (ru
 pub now-soon : (clock : ℕ) (b : List ℕ) → wellFormed b ≡ true → {time : ℕ} → time ≡ nowAt clock (decode b) → clock < timeLimit → time < timeLimit
 now-soon clock b w t l = rw t (now-early clock (decode b) (decode-valid b w .clock) l)
 
--- ---- which refusals parsing gives
-
--- so many numbers from one on have a line
-unfoldable known-from : ℕ → ℕ → Bool
-known-from zero n = true
-known-from (suc k) n = isRefusal n && known-from k (suc n)
-
-known-at : (k lo : ℕ) → known-from k lo ≡ true → (n : ℕ) → lo ≤ n → n < lo + k → isRefusal n ≡ true
-unfolding known-from
-known-at zero lo h n a b = absurd (omega arith)
-known-at (suc k) lo h n a b =
-    go (eqb lo n) refl
-    (λ d. known-at k (suc lo) (and-right (isRefusal lo) (known-from k (suc lo)) h) n (lt-of-le-of-ne a d) (omega arith))
-  where
-    go : (t : Bool) → eqb lo n ≡ t → ((lo ≡ n → ⊥) → isRefusal n ≡ true) → isRefusal n ≡ true
-    go true q later = rw (← eqb-true lo n q) (and-left (isRefusal lo) (known-from k (suc lo)) h)
-    go false q later = later (eqb-false lo n q)
-
--- 10 to 18 do.
-early-known : (n : ℕ) → earlyLeast ≤ n → n ≤ earlyMost → isRefusal n ≡ true
-unfolding known-from isRefusal any table
-early-known n a b = known-at 9 earlyLeast refl n a (omega arith)
-
 -- ---- how many words a command has
 
-least : P.Count → ℕ
-least (P.Count.exactly k) = k
-least (P.Count.atLeast k) = k
-least (P.Count.evenFrom k) = k
-
-least-fits : (c : P.Count) (n : ℕ) → countFits c n ≡ true → least c ≤ n
-unfolding least countFits
+least-fits : (c : P.Count) (n : ℕ) → countFits c n ≡ true → leastOf c ≤ n
+unfolding leastOf countFits
 least-fits (P.Count.exactly k) n h = omega (arith, eqb-true n k h)
 least-fits (P.Count.atLeast k) n h = leb-true k n h
 least-fits (P.Count.evenFrom k) n h = leb-true k n (and-left (leb k n) (eqb (n % 2) 0) h)
@@ -115,19 +87,19 @@ named-all p (x ∷ xs) w r h e = go (spells (x .name) w) e (named-all p xs w r (
     go true q later = let z : x ≡ r = cc in rw (← z) (and-left (p x) (all p xs) h)
     go false q later = later q
 
--- an accepted command has at least two words
+-- an accepted command has at leastOf two words
 two-words : (time clock : ℕ) (s : List ℕ) (c : Command) (ws : List Word) → parse time clock s ≡ accepted c → wordsOf s ≡ some ws → 2 ≤ length ws
-unfolding least all
+unfolding leastOf all
 two-words time clock s c ws e v =
     let a = parse-accepted time clock s c e in
     let r = a .row in
-    let k = checks-clear (r .form) (r .count) (a .words) (givenIn r (a .words)) (builtOf time r (a .words)) (a .clear) in
+    let k = checks-clear (r .form) (r .count) (a .words) (scannedOf (r .form) (a .words)) (saidBy time (r .form) (a .words)) (a .clear) in
     let n : a .words ≡ ws = some-same (sym (a .split) ∙ v) in
-    let l : least (r .count) ≤ length (a .words) = least-fits (r .count) (length (a .words)) (not-false (countFits (r .count) (length (a .words))) (k .counted)) in
-    let two : leb 2 (least (r .count)) ≡ true = named-all (λ x. leb 2 (least (x .count))) commands (wordAt 0 (a .words)) r table-least (a .named) in
-    omega (arith, leb-true 2 (least (r .count)) two, l, ap length n)
+    let l : leastOf (r .count) ≤ length (a .words) = least-fits (r .count) (length (a .words)) (not-false (countFits (r .count) (length (a .words))) (k .counted)) in
+    let two : leb 2 (leastOf (r .count)) ≡ true = named-all (λ x. leb 2 (leastOf (x .count))) commands (wordAt 0 (a .words)) r table-least (a .named) in
+    omega (arith, leb-true 2 (leastOf (r .count)) two, l, ap length n)
   where
-    table-least : all (λ x. leb 2 (least (x .count))) commands ≡ true
+    table-least : all (λ x. leb 2 (leastOf (x .count))) commands ≡ true
     table-least = unfold commands in refl
 
     some-same : {x y : List Word} → some x ≡ some y → x ≡ y
@@ -141,7 +113,7 @@ module _ (clock : ℕ) (command b : List ℕ) (w : wellFormed b ≡ true) {time 
   accepted-limits =
       let a = parse-accepted time clock command c e in
       let r = a .row in
-      let k = checks-clear (r .form) (r .count) (a .words) (givenIn r (a .words)) (builtOf time r (a .words)) (a .clear) in
+      let k = checks-clear (r .form) (r .count) (a .words) (scannedOf (r .form) (a .words)) (saidBy time (r .form) (a .words)) (a .clear) in
       record { short = rw (a .built) at (k .short); timed = rw (a .built) at (k .timed) }
 
   accepted-time : time < timeLimit
@@ -158,7 +130,7 @@ module _ (clock : ℕ) (command b : List ℕ) (w : wellFormed b ≡ true) (ws : 
   said-refused q = sym m ∙ ap (meant ws) q
 
   pub refusal-known : {n : ℕ} → p ≡ parses.Refused n → isRefusal n ≡ true
-  refusal-known {n} q = let r = parse-refused time clock command n (said-refused q) in early-known n (r .0) (r .1)
+  refusal-known {n} q = parse-known time clock command n (said-refused q)
 
   pub refusal-done : {n : ℕ} {d x : List ℕ} {r : ℕ} → p ≡ parses.Refused n → Laid (errorLine n) d x r → Does (exec clock command (decode b)) b d x r
   unfolding exec perform

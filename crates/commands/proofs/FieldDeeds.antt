@@ -9,7 +9,7 @@ use lib.IntN.{ℤ, pos, _+ℤ_}
 use lib.Signed.{leZ}
 use lib.ListN.{length, take, getD}
 use borrow.Author.Tests.{not-true, not-false}
-use Rattle.wire.specs.Lists.{any, isSome, onlyIf, orElse}
+use Rattle.wire.specs.Lists.{isSome, onlyIf, orElse}
 use Rattle.wire.specs.Bytes.{Bytes}
 use Rattle.wire.specs.Integers.{readInteger, lowest64, highest64, within, integerText}
 use Rattle.wire.specs.Replies.{integer, number}
@@ -43,7 +43,7 @@ use Rattle.commands.specs.declared.field.WriteOutcome.{WriteOutcome}
 use Rattle.commands.specs.declared.field.WriteOutcome.the-variants as writes
 use Rattle.commands.specs.declared.field.Settled.{Settled}
 use Rattle.commands.specs.declared.field.Settled.the-variants as settleds
-use Rattle.commands.specs.Refusal.{table, errorLine}
+use Rattle.commands.specs.Refusal.{errorLine}
 use Rattle.commands.specs.Effect.{writing, isStale, nextVersion, setterVersion, nextExpiry, barred, written, counted, hasExpiry, setEffect, incrementEffect, expireEffect, persistEffect, renumberEffect}
 use Rattle.commands.specs.ParsePromises.{isRefusal}
 use Rattle.commands.specs.Promises.{HeldAt, FoundIn, Sought, Storable, Wrote, Changes, answerMost, entryFor, lookFor, slotAfter, heldVersion, heldExpiry, versioned, expiring, boundedSum, incremented, fieldsAdded, writeSettled}
@@ -55,11 +55,6 @@ use Rattle.commands.proofs.VersionPlans.{stale-is, version-is, expiry-i
 use Rattle.commands.proofs.Settling.{changes-as, changes-stale, changes-unread, changes-overflow, changes-answer, wrote-passes, wrote-full, wrote-done, wrote-settles}
 
 -- ---- room for a reply
-
--- 20 to 24 are numbers of refusals.
-pub known-late : (isRefusal 20 ≡ true) × (isRefusal 21 ≡ true) × (isRefusal 22 ≡ true) × (isRefusal 23 ≡ true) × (isRefusal 24 ≡ true)
-unfolding isRefusal any table
-known-late = (refl, refl, refl, refl, refl)
 
 -- A refusal's line may be written,
 pub may-refuse : (n : ℕ) {m : ℕ} → isRefusal n ≡ true → answerMost ≤ m → (isRefusal n ≡ true) × (length (errorLine n) ≤ m)

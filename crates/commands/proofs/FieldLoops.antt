@@ -30,7 +30,7 @@ use Rattle.commands.specs.Effect.{changeAll, effect}
 use Rattle.commands.specs.Effect.Change.{remove}
 use Rattle.commands.specs.Execute.{swept}
 use Rattle.commands.specs.Promises.{answerMost, answerAbout, answersOf, fieldsMost, listedOf, widthOf, Removes, Deletes}
-use Rattle.commands.proofs.Fit.{effect-short}
+use Rattle.commands.proofs.Fit.{effect-short, elementsMost}
 use Rattle.commands.proofs.Elements.{Next}
 use Rattle.commands.proofs.ListedSlots.{shown-count}
 use Rattle.commands.proofs.FieldSweeps.{named, keep-unnamed, dead-more, dead-none, count-more}
@@ -173,7 +173,7 @@ module _ {k : Word} {fields left : List Word} {b d : List ℕ} {m : ℕ} (s : De
 
 -- ---- the header of an array
 
-module _ {n : ℕ} (few : n ≤ 1000) where
+module _ {n : ℕ} (few : n ≤ elementsMost) where
   pub header-room : {m : ℕ} → bufferLeast ≤ m → length (header n) ≤ m
   header-room big = omega (arith, length-header 4 n (omega arith) (omega arith))
 
@@ -234,14 +234,14 @@ module _ (now : ℕ) (b : List ℕ) (k : Word) (l : Listing) {m w : ℕ} (p : m 
       (omega (arith, effect-short now (list k l) (decode b .slots) (decode-valid b v .fits) (decode-valid b v .most) (omega arith) refl .short))
 
   -- and are few
-  pub entries-few : wellFormed b ≡ true → m * w ≤ 1000
+  pub entries-few : wellFormed b ≡ true → m * w ≤ elementsMost
   unfolding widthOf
   entries-few v = go l q
     where
       few : m ≤ slotsMost
       few = omega (arith, p, length-keep (liveOfKey now k) (decode b .slots), decode-valid b v .most)
 
-      go : (x : Listing) → w ≡ widthOf x → m * w ≤ 1000
+      go : (x : Listing) → w ≡ widthOf x → m * w ≤ elementsMost
       go Fields e = rw e (omega (arith, few))
       go Values e = rw e (omega (arith, few))
       go Both e = rw e (omega (arith, few))

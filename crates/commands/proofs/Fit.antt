@@ -24,7 +24,7 @@ use Rattle.commands.specs.Command.{Command, keyOf, fieldsOf}
 use Rattle.commands.specs.Command.Command.{onField, setMany, getMany, delete, countHeld, countLive, list}
 use Rattle.commands.specs.Effect.{reply, listed, listedSlot, effect}
 use Rattle.commands.specs.Execute.{Outcome, exec}
-use Rattle.commands.specs.Promises.{answerMost}
+use Rattle.commands.specs.Promises.{answerMost, fieldsMost}
 use Rattle.commands.proofs.Went.{Went, went, sweptBy}
 use Rattle.commands.proofs.Went.Went.{early, late, done}
 use Rattle.commands.proofs.Full.{proper}
@@ -32,6 +32,20 @@ use Rattle.commands.proofs.Replies.{loosen, error-short, value-short, f
 use Rattle.commands.proofs.Sound.{Bounded, parse-few}
 use Rattle.commands.proofs.Writes.{found-fits}
 use Rattle.commands.proofs.Sweep.{sweep-fits, length-sweep}
+
+-- the most elements that a listing shows and the bytes of them: a field and a value of each entry, with the lengths and line ends around them
+abbrev pub elementsMost : ℕ
+elementsMost = 2 * slotsMost
+
+abbrev listedMost : ℕ
+listedMost = 110 * slotsMost
+
+-- the most bytes of an array of answers about fields, and of any reply
+abbrev manyMost : ℕ
+manyMost = fieldsMost * answerMost + 5
+
+abbrev replyMost : ℕ
+replyMost = listedMost + 7
 
 -- Lists one after the other.
 join-short : {a b : ℕ} (r t : List ℕ) → Bounded a r → Bounded b t → Bounded (a + b) (r ++ t)
@@ -97,13 +111,13 @@ map-short most g (f ∷ fs) h zero = h f
 map-short most g (f ∷ fs) h (suc i) = map-short most g fs h i
 
 -- an array of at most 62 replies about one field
-many-short : (g : Word → List ℕ) (fs : List Word) → length fs ≤ 62 → ((f : Word) → Bounded answerMost (g f)) → Bounded 9057 (array (map g fs))
+many-short : (g : Word → List ℕ) (fs : List Word) → length fs ≤ fieldsMost → ((f : Word) → Bounded answerMost (g f)) → Bounded manyMost (array (map g fs))
 many-short g fs few h =
     let n : length (map g fs) ≡ length fs = length-map fs g in
-    loosen 9057 (omega arith) (array-short 2 answerMost (map g fs) (omega arith) (omega arith) (map-short answerMost g fs h))
+    loosen manyMost (omega arith) (array-short 2 answerMost (map g fs) (omega arith) (omega arith) (map-short answerMost g fs h))
 
 -- an array of at most 1,000 elements
-list-short : (xs : List (List ℕ)) → Listed 1000 55000 xs → Bounded 55007 (array xs)
+list-short : (xs : List (List ℕ)) → Listed elementsMost listedMost xs → Bounded replyMost (array xs)
 unfolding array
 list-short xs h =
     join-short (header (length xs)) (flatten xs)
@@ -111,28 +125,28 @@ list-short xs h =
     (h .sum)
 
 -- An accepted command that is not refused replies in at most 55,007 bytes.
-pub effect-short : (now : ℕ) (c : Command) (ss : List Slot) → AllFit ss → length ss ≤ slotsMost → length (fieldsOf c) ≤ 62
-    → effect now c ss .overflows ≡ false → Bounded 55007 (effect now c ss .reply)
+pub effect-short : (now : ℕ) (c : Command) (ss : List Slot) → AllFit ss → length ss ≤ slotsMost → length (fieldsOf c) ≤ fieldsMost
+    → effect now c ss .overflows ≡ false → Bounded replyMost (effect now c ss .reply)
 unfolding effect fieldsOf
-effect-short now (onField k f d) ss h n few o = loosen 55007 (omega arith) (deed-short now ss k f d (entryOf k f ss) (found-fits k f ss h) o)
-effect-short now (setMany k ps) ss h n few o = loosen 55007 (omega arith) ok-short
+effect-short now (onField k f d) ss h n few o = loosen replyMost (omega arith) (deed-short now ss k f d (entryOf k f ss) (found-fits k f ss h) o)
+effect-short now (setMany k ps) ss h n few o = loosen replyMost (omega arith) ok-short
 effect-short now (getMany k fs q) ss h n few o =
-    loosen 55007 (omega arith)
+    loosen replyMost (omega arith)
     (many-short (λ f. reply now ss k q (entryOf k f ss)) fs few (λ f. answer-short now ss k q (entryOf k f ss) (found-fits k f ss h)))
-effect-short now (delete k fs) ss h n few o = loosen 55007 (omega arith) (count-short (λ s. any (λ f. holds k f s) fs) ss n)
-effect-short now (countHeld k) ss h n few o = loosen 55007 (omega arith) (count-short (ofKey k) ss n)
-effect-short now (countLive k) ss h n few o = loosen 55007 (omega arith) (count-short (liveOfKey now k) ss n)
+effect-short now (delete k fs) ss h n few o = loosen replyMost (omega arith) (count-short (λ s. any (λ f. holds k f s) fs) ss n)
+effect-short now (countHeld k) ss h n few o = loosen replyMost (omega arith) (count-short (ofKey k) ss n)
+effect-short now (countLive k) ss h n few o = loosen replyMost (omega arith) (count-short (liveOfKey now k) ss n)
 effect-short now (list k l) ss h n few o =
     let a = listed-slots l (liveOfKey now k) ss h in
     list-short (flatMap (listedSlot l) (keep (liveOfKey now k) ss))
-    (record { count = omega (arith, a .count); sum = loosen 55000 (omega arith) (a .sum) })
+    (record { count = omega (arith, a .count); sum = loosen listedMost (omega arith) (a .sum) })
 
-exec-short : (clock : ℕ) (command : List ℕ) (s : Store) → Valid s → Bounded 55007 (exec clock command s .reply)
+exec-short : (clock : ℕ) (command : List ℕ) (s : Store) → Valid s → Bounded replyMost (exec clock command s .reply)
 exec-short clock command s v = go (went clock command s)
   where
-    go : {o : Outcome} → Went clock command s o → Bounded 55007 (o .reply)
-    go (early n p) = loosen 55007 (omega arith) (error-short n)
-    go (late c n p l) = loosen 55007 (omega arith) (error-short n)
+    go : {o : Outcome} → Went clock command s o → Bounded replyMost (o .reply)
+    go (early n p) = loosen replyMost (omega arith) (error-short n)
+    go (late c n p l) = loosen replyMost (omega arith) (error-short n)
     go (done c p l) =
         effect-short (nowAt clock s) c (sweptBy (nowAt clock s) c s) (sweep-fits (nowAt clock s) (keyOf c) (fieldsOf c) (s .slots) (v .fits))
         (omega (arith, length-sweep (nowAt clock s) (keyOf c) (fieldsOf c) (s .slots), v .most))

@@ -23,7 +23,7 @@ use Rattle.wire.proofs.WordPlaces.{next-end, next-at}
 use Rattle.commands.specs.declared.options.ScannedOptions as code
 use Rattle.commands.specs.Options.{OptionKind, Range, Given, _with_, options, group, groupCount, operandRange, optionNamed, scan, conflicting, givenOf}
 use Rattle.commands.specs.TablePromises.{kindIn, sizeOf, optionData, groupAt, saidAt, sizeAt, optionTable, optionOf}
-use Rattle.commands.specs.ParsePromises.{notGiven, numbered, optionAt, givenAt, Found, Scanned}
+use Rattle.commands.specs.ParsePromises.{notGiven, numbered, optionAt, givenAt, FoundOption, Scanned}
 use Rattle.commands.proofs.TableRows.{option-row, option-number, row-kind, row-below}
 
 -- ---- the groups that are allowed
@@ -243,7 +243,7 @@ module _ (ws : List Word) (allowed : List ℕ) (i : ℕ) {count : ℕ} (size : l
           option-short q = scan-short allowed ws i inside (kindOf k) known-so (omega (arith, size-so, next-end count (i + n - 1) ee q))
 
           -- which is there
-          pub option-found : (last : ℕ) → end ≡ nexts.Word last → {said : ℕ} → said ≡ getD (optionData (optionOf k)) saidAt 0 → Found ws allowed i g said last
+          pub option-found : (last : ℕ) → end ≡ nexts.Word last → {said : ℕ} → said ≡ getD (optionData (optionOf k)) saidAt 0 → FoundOption ws allowed i g said last
           unfolding optionData numbered
           option-found last q {said} es =
               let at : (last ≡ i + n - 1) × (i + n - 1 < count) = next-at count (i + n - 1) last ee q in
@@ -320,7 +320,7 @@ module _ {ws : List Word} {allowed : List ℕ} {from i : ℕ} {r : code.ScannedO
       record { clean = rw (all, s .clean); given = λ e g b. rw all (s .entries g b) }
 
   -- an option was found
-  module _ {g said last : ℕ} (f : Found ws allowed i g said last) where
+  module _ {g said last : ℕ} (f : FoundOption ws allowed i g said last) where
     abbrev x : Given
     x = numbered ws g said last
 

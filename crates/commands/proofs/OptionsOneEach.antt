@@ -81,18 +81,6 @@ unfolding all
 all-each h [] = refl
 all-each h (n ∷ ns) = and-both (h n) (all-each h ns)
 
--- the group of what was found
-pub given-group : (n : ℕ) (gs : List Given) (x : Given) → givenOf n gs ≡ some x → group (x .kind) ≡ n
-unfolding givenOf
-given-group n [] x e = impossible cc
-given-group n (g ∷ gs) x e = go (eqb (group (g .kind)) n) refl e (given-group n gs x)
-  where
-    go : (t : Bool) → eqb (group (g .kind)) n ≡ t → cond t (some g) (givenOf n gs) ≡ some x → (givenOf n gs ≡ some x → group (x .kind) ≡ n) → group (x .kind) ≡ n
-    go true q e later =
-        let s : g ≡ x = cc in
-        rw s at (eqb-true (group (g .kind)) n q)
-    go false q e later = later e
-
 -- none of a group
 none-of : (n : ℕ) (gs : List Given) → any (λ h. eqb n (group (h .kind))) gs ≡ false → givenOf n gs ≡ none
 unfolding any givenOf

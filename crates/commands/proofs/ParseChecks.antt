@@ -104,14 +104,15 @@ checks-clear form count ws scanned c h =
 
 -- ---- the ways in which a command is read
 
-abbrev pub givenIn : CommandRow → List Word → Option (List Given)
-givenIn r ws = scan (allowed (r .form)) none (optionWords (r .form) ws)
+-- the options that a command of a form gives, none where they are damaged, and what the command says with them
+abbrev pub scannedOf : Form → List Word → Option (List Given)
+scannedOf f ws = scan (allowed f) none (optionWords f ws)
 
-abbrev pub builtOf : ℕ → CommandRow → List Word → Command
-builtOf now r ws = build now (r .form) ws (Option·getD (givenIn r ws) [])
+abbrev pub saidBy : ℕ → Form → List Word → Command
+saidBy now f ws = build now f ws (Option·getD (scannedOf f ws) [])
 
 abbrev pub checksOf : ℕ → CommandRow → List Word → List Check
-checksOf now r ws = checks (r .form) (r .count) ws (givenIn r ws) (builtOf now r ws)
+checksOf now r ws = checks (r .form) (r .count) ws (scannedOf (r .form) ws) (saidBy now (r .form) ws)
 
 -- not the protocol's array, the clock out of range, no command of that name, refused by 13 to 18, or accepted
 pub data Reads (now clock : ℕ) (s : List ℕ) : Parsed → Type 0 where
@@ -123,14 +124,14 @@ pub data Reads (now clock : ℕ) (s : List ℕ) : Parsed → Type 0 where
       → lowest (checksOf now r ws) ≡ some n → Reads now clock s (refused n)
   passed :
       (ws : List Word) (r : CommandRow) → wordsOf s ≡ some ws → clock < timeLimit → commandNamed commands (wordAt 0 ws) ≡ some r
-      → lowest (checksOf now r ws) ≡ none → Reads now clock s (accepted (builtOf now r ws))
+      → lowest (checksOf now r ws) ≡ none → Reads now clock s (accepted (saidBy now (r .form) ws))
 
 reads-row : (now clock : ℕ) (s : List ℕ) (ws : List Word) (r : CommandRow) → wordsOf s ≡ some ws → clock < timeLimit
     → commandNamed commands (wordAt 0 ws) ≡ some r → Reads now clock s (parseWords now r ws)
 unfolding parseWords orElse
 reads-row now clock s ws r w k m = go (lowest (checksOf now r ws)) refl
   where
-    go : (o : Option ℕ) → lowest (checksOf now r ws) ≡ o → Reads now clock s (orElse o (accepted (builtOf now r ws)) refused)
+    go : (o : Option ℕ) → lowest (checksOf now r ws) ≡ o → Reads now clock s (orElse o (accepted (saidBy now (r .form) ws)) refused)
     go none e = passed ws r w k m e
     go (some n) e = checked ws r n w k m e
 
@@ -166,7 +167,7 @@ reads-refused n (damaged w) e = let m : n ≡ 10 = cc in omega arith
 reads-refused n (clockOut ws w k) e = let m : n ≡ 11 = cc in omega arith
 reads-refused n (unknown ws w k m) e = let m : n ≡ 12 = cc in omega arith
 reads-refused {now} n (checked ws r k w c m l) e =
-    let b : (13 ≤ k) × (k ≤ earlyMost) = checks-number (r .form) (r .count) ws (givenIn r ws) (builtOf now r ws) k l in
+    let b : (13 ≤ k) × (k ≤ earlyMost) = checks-number (r .form) (r .count) ws (scannedOf (r .form) ws) (saidBy now (r .form) ws) k l in
     let m : k ≡ n = cc in
     omega arith
 reads-refused n (passed ws r w k m l) e = impossible cc
@@ -197,7 +198,7 @@ pub record Accepted (now clock : ℕ) (s : List ℕ) (c : Command) : Type 0 wher
   pub early : clock < timeLimit
   pub named : commandNamed commands (wordAt 0 words) ≡ some row
   pub clear : lowest (checksOf now row words) ≡ none
-  pub built : builtOf now row words ≡ c
+  pub built : saidBy now (row .form) words ≡ c
 
 -- An accepted command has passed them.
 pub parse-accepted : (now clock : ℕ) (s : List ℕ) (c : Command) → parse now clock s ≡ accepted c → Accepted now clock s c

@@ -43,10 +43,11 @@ use Rattle.commands.specs.Parse.Form.{setForm, setManyForm, incrementFor
 use Rattle.commands.specs.Parse.Parsed.{accepted}
 use Rattle.commands.specs.TablePromises.{listFamily, listingOf, firstForms, formOf, commandData, familyAt, argumentAt, commandOf, kindIn, unitOf}
 use Rattle.commands.specs.ParsePromises.{notGiven, givenAt, instantIn, readOf, versionedFor, termsFor, conditionFor, onInteger, sumFor, lowestSigned, highestSigned, boundGiven, sumOf, parseRest, deedOf, commandFor, meant}
+use Rattle.commands.proofs.ParseChecks.{saidBy}
 use Rattle.commands.proofs.TableRows.{row-form}
 use Rattle.commands.proofs.OperandWords.{instant-read}
 use Rattle.commands.proofs.OptionScanning.{option-some, option-none}
-use Rattle.commands.proofs.Parsing.{givenIn, unclean, allRead, saidBy, rest-16, rest-17, rest-18, rest-said, Takes, Ready, version-said, version-refused, terms-refused, terms-said, condition-said, bare-read, hasRead, integer-read, integer-value, bound-readable, bound-said}
+use Rattle.commands.proofs.Parsing.{givenIn, unclean, allRead, rest-16, rest-17, rest-18, rest-said, Takes, Ready, version-said, version-refused, terms-refused, terms-said, condition-said, bare-read, hasRead, integer-read, integer-value, bound-readable, bound-said}
 
 -- the option of a group that a command of a form was given
 abbrev givenOption : Form → ℕ → List Word → Bool

@@ -30,28 +30,21 @@ use Rattle.commands.specs.declared.operands.Terms.the-variants as terms
 use Rattle.commands.specs.declared.options.ScannedOptions.{ScannedOptions}
 use Rattle.commands.specs.declared.Parsed.the-variants as parses
 use Rattle.commands.specs.Refusal.{lowest}
-use Rattle.commands.specs.Command.{Command}
 use Rattle.commands.specs.Options.{Given, _with_, signed64, expiryGroup, conditionGroup, versionGroup, groupCount, operandRange, scan, conflicting, givenOf, readIn, readable, numberIn, readableOperand, conditionOf, lifetime, versioning, condition, boundIn}
 use Rattle.commands.specs.Options.OptionKind.{bound}
-use Rattle.commands.specs.Parse.{Form, allowed, optionWords, numberRange, build, isZero, deedVersioning, beyond, deedLifetime, onDeed, laterChecks}
+use Rattle.commands.specs.Parse.{Form, allowed, optionWords, numberRange, isZero, deedVersioning, beyond, deedLifetime, onDeed, laterChecks}
 use Rattle.commands.specs.Parse.Parsed.{refused, accepted}
 use Rattle.commands.specs.TablePromises.{kindIn}
 use Rattle.commands.specs.ParsePromises.{notGiven, numbered, optionAt, givenAt, Scanned, lifetimeBy, versionBy, readOf, timedFor, versionedFor, termChecks, termsFor, conditionFor, boundFor, boundGiven, parseRest, meant}
-use Rattle.commands.proofs.ParseChecks.{check-applies, check-passed, checks-end}
+use Rattle.commands.proofs.ParseChecks.{check-applies, check-passed, checks-end, scannedOf, saidBy}
 use Rattle.commands.proofs.OptionScanning.{option-some, option-none}
 use Rattle.commands.proofs.OptionsOneEach.{scan-allowed, all-groups}
 
 -- ---- checks 15 to 18
 
 -- the options of a command of a form, and the command that they and its words say
-abbrev pub scannedOf : Form → List Word → Option (List Given)
-scannedOf f ws = scan (allowed f) none (optionWords f ws)
-
 abbrev pub givenIn : Form → List Word → List Given
 givenIn f ws = Option·getD (scannedOf f ws) []
-
-abbrev pub saidBy : ℕ → Form → List Word → Command
-saidBy time f ws = build time f ws (givenIn f ws)
 
 -- the tests of 15 to 18; the one of 16 passes where all numbers are read
 abbrev pub unclean : Form → List Word → Bool

@@ -19,10 +19,11 @@ use Rattle.commands.specs.Command.{Deed, Command, keyOf, fieldsOf, value
 use Rattle.commands.specs.Command.Deed.{assign}
 use Rattle.commands.specs.Command.Command.{onField, countHeld, countLive}
 use Rattle.commands.specs.Options.{Given, givenOf, noExpGroup, lifetime, condition, versioning}
+use Rattle.commands.specs.Promises.{fieldsMost}
 use Rattle.commands.specs.Parse.{Form, pairsOf, build, tooLong, beyond, deedLifetime, onDeed, parse}
 use Rattle.commands.specs.Parse.Form.{setForm, setManyForm, incrementForm, expireForm, persistForm, renumberForm, askForm, getManyForm, deleteForm, countForm, listForm}
 use Rattle.commands.specs.Parse.Parsed.{accepted}
-use Rattle.commands.proofs.ParseChecks.{checks-clear, Accepted, parse-accepted, givenIn, builtOf}
+use Rattle.commands.proofs.ParseChecks.{checks-clear, Accepted, parse-accepted, scannedOf, saidBy}
 
 -- a word of at most so many bytes
 pub record Bounded (most : ℕ) (w : Word) : Type 0 where
@@ -41,10 +42,6 @@ pub record Sound (c : Command) : Type 0 where
 
 -- ---- every word of the command is a word of the array, or empty
 
--- the most fields that a command names: all its words but its name and its key
-abbrev pub namedMost : ℕ
-namedMost = 62
-
 -- a property of every word of a list; past its end there is the empty one
 abbrev AllHave : (Word → Type 0) → List Word → Type 0
 AllHave P ws = (i : ℕ) → P (getD ws i [])
@@ -54,7 +51,7 @@ record Taken (P : Word → Type 0) (c : Command) : Type 0 where
   key : P (keyOf c)
   fields : AllHave P (fieldsOf c)
   values : AllHave P (valuesOf c)
-  few : length (fieldsOf c) ≤ namedMost
+  few : length (fieldsOf c) ≤ fieldsMost
 
 pub pair-count : (ws : List Word) → length (pairsOf ws) ≤ length ws
 unfolding pairsOf
@@ -89,7 +86,7 @@ module _ (P : Word → Type 0) (empty : P []) where
     unfolding keyOf fieldsOf valuesOf wordAt
     of-field d v = record { key = h 1; fields = have-one (wordAt 2 ws) (h 2); values = v; few = omega arith }
 
-    few-left : length (drop 2 ws) ≤ namedMost
+    few-left : length (drop 2 ws) ≤ fieldsMost
     few-left = simp length-drop (omega arith)
 
     of-build : (now : ℕ) (gs : List Given) (f : Form) → Taken P (build now f ws gs)
@@ -140,7 +137,7 @@ unfolding tooLong
 parse-sound now clock s c b e =
     let a = parse-accepted now clock s c e in
     let r = a .row in
-    let k = checks-clear (r .form) (r .count) (a .words) (givenIn r (a .words)) (builtOf now r (a .words)) (a .clear) in
+    let k = checks-clear (r .form) (r .count) (a .words) (scannedOf (r .form) (a .words)) (saidBy now (r .form) (a .words)) (a .clear) in
     let l : tooLong c ≡ false = rw (a .built) at (k .short) in
     let w : onDeed (λ d. beyond (deedLifetime d)) c ≡ false = rw (a .built) at (k .timed) in
     let t : Taken Bytes c = parse-taken Bytes refl now clock s c (λ ws q. words-bytes s ws b q) a in
@@ -156,7 +153,7 @@ parse-sound now clock s c b e =
     }
 
 -- What is accepted names no more fields.
-pub parse-few : (now clock : ℕ) (s : List ℕ) (c : Command) → parse now clock s ≡ accepted c → length (fieldsOf c) ≤ namedMost
+pub parse-few : (now clock : ℕ) (s : List ℕ) (c : Command) → parse now clock s ≡ accepted c → length (fieldsOf c) ≤ fieldsMost
 parse-few now clock s c e = parse-taken (λ w. Unit {0}) tt now clock s c (λ ws q i. tt) (parse-accepted now clock s c e) .few
 
 -- What is accepted comes with a clock below the limit.

@@ -37,11 +37,11 @@ tables = tt
 -- ---- rows of names
 
 -- a name fits its row
-abbrev pub Short : String → Type 0
-Short t = length (text t) < nameSize
+abbrev pub ShortName : String → Type 0
+ShortName t = length (text t) < nameSize
 
 -- a name and numbers that fit their row
-module _ (t : String) (numbers : List ℕ) (short : Short t) (few : length numbers ≤ dataSize) where
+module _ (t : String) (numbers : List ℕ) (short : ShortName t) (few : length numbers ≤ dataSize) where
   length-name : length (padded nameSize (length (text t) ∷ text t)) ≡ nameSize
   length-name = length-padded nameSize (length (text t) ∷ text t) short
 
@@ -106,7 +106,7 @@ module _ {A : Type 0} (name : A → String) (numbers : A → List ℕ) where
     unfolding allFit all
     later-fit = and-right (fits r) (allFit rs) h
 
-    row-short : Short (name r)
+    row-short : ShortName (name r)
     row-short = ltb-true (length (text (name r))) nameSize (and-left (ltb (length (text (name r))) nameSize) (leb (length (numbers r)) dataSize) row-fits)
 
     row-few : length (numbers r) ≤ dataSize

@@ -40,21 +40,21 @@ use Rattle.commands.proofs.Sound.{Bounded, AllBounded, Sound}
 -- ---- slots that are changed
 
 -- an entry that fits if its version does
-abbrev pub Writable : Change → Type 0
-Writable (write e) = e .version ≤ versionMost → Fits e
-Writable (remove k f) = Unit {0}
+abbrev pub FitsOnce : Change → Type 0
+FitsOnce (write e) = e .version ≤ versionMost → Fits e
+FitsOnce (remove k f) = Unit {0}
 
-abbrev pub AllWritable : List Change → Type 0
-AllWritable [] = Unit {0}
-AllWritable (c ∷ cs) = Writable c × AllWritable cs
+abbrev pub AllFitOnce : List Change → Type 0
+AllFitOnce [] = Unit {0}
+AllFitOnce (c ∷ cs) = FitsOnce c × AllFitOnce cs
 
-change-fits : (now : ℕ) (c : Change) (ss : List Slot) → passes c ≡ false → Writable c → AllFit ss → AllFit (change now c ss)
+change-fits : (now : ℕ) (c : Change) (ss : List Slot) → passes c ≡ false → FitsOnce c → AllFit ss → AllFit (change now c ss)
 unfolding change passes
 change-fits now (write e) ss p w h = put-fits now e ss (w (ltb-false versionMost (e .version) p)) h
 change-fits now (remove k f) ss p w h = without-fits _ ss h
 
 -- Changes whose entries fit leave slots that fit.
-pub changes-fit : (now : ℕ) (cs : List Change) (ss : List Slot) → any passes cs ≡ false → AllWritable cs → AllFit ss → AllFit (changeAll now cs ss)
+pub changes-fit : (now : ℕ) (cs : List Change) (ss : List Slot) → any passes cs ≡ false → AllFitOnce cs → AllFit ss → AllFit (changeAll now cs ss)
 unfolding changeAll any
 changes-fit now [] ss p w h = h
 changes-fit now (c ∷ cs) ss p w h =
@@ -102,7 +102,7 @@ next-expiry Keep (some e) b h = h .expiry
 next-expiry (Until t) found b h = ltb-false timeLimit t b
 
 writing-fits : (k f v : Word) (n : Versioning) (t : Lifetime) (found : Option Entry) → Bounded keyMost k → Bounded fieldMost f → Bounded valueMost v
-    → instantOf (nextExpiry t found) ≤ timeLimit → Writable (write (written k f v n t found))
+    → instantOf (nextExpiry t found) ≤ timeLimit → FitsOnce (write (written k f v n t found))
 unfolding written
 writing-fits k f v n t found hk hf hv x m =
     record {
@@ -114,7 +114,7 @@ writing-fits k f v n t found hk hf hv x m =
       valueBytes = hv .bytes;
     }
 
-stamped-fits : (e : Entry) (v : ℕ) (t : Expiry) → Fits e → instantOf t ≤ timeLimit → Writable (write (stamped v t e))
+stamped-fits : (e : Entry) (v : ℕ) (t : Expiry) → Fits e → instantOf t ≤ timeLimit → FitsOnce (write (stamped v t e))
 stamped-fits e v t h x m =
     record {
       short = h .short;
@@ -133,13 +133,13 @@ sum-short z t h =
       bytes = bytes-integerText z;
     }
 
-either-writable : (t : Bool) (a b : Effect) → AllWritable (a .changes) → AllWritable (b .changes) → AllWritable (cond t a b .changes)
+either-writable : (t : Bool) (a b : Effect) → AllFitOnce (a .changes) → AllFitOnce (b .changes) → AllFitOnce (cond t a b .changes)
 either-writable true a b h g = h
 either-writable false a b h g = g
 
 module _ (now : ℕ) (ss : List Slot) (k f : Word) (hk : Bounded keyMost k) (hf : Bounded fieldMost f) where
   deed-writable : (d : Deed) (found : Option Entry) → AllBounded valueMost (deedValues d) → beyond (deedLifetime d) ≡ false → FitsSlot found
-      → deedEffect now ss k f d found .overflows ≡ false → AllWritable (deedEffect now ss k f d found .changes)
+      → deedEffect now ss k f d found .overflows ≡ false → AllFitOnce (deedEffect now ss k f d found .changes)
   unfolding deedEffect deedValues deedLifetime setEffect incrementEffect expireEffect persistEffect renumberEffect orElse beyond instantOf
   deed-writable (assign v c n t) found hv b h o =
       either-writable (barred c found) (answer (integer (negsuc 0)))
@@ -160,7 +160,7 @@ module _ (now : ℕ) (ss : List Slot) (k f : Word) (hk : Bounded keyMost k) (hf 
   deed-writable (ask q) found hv b h o = tt
 
 pairs-writable : (now : ℕ) (k : Word) (ps : List Pair) (ss : List Slot) → Bounded keyMost k → AllBounded fieldMost (map (λ p. p .field) ps)
-    → AllBounded valueMost (map (λ p. p .value) ps) → AllWritable (writesOf now k ps ss)
+    → AllBounded valueMost (map (λ p. p .value) ps) → AllFitOnce (writesOf now k ps ss)
 unfolding writesOf nextExpiry instantOf
 pairs-writable now k [] ss hk hf hv = tt
 pairs-writable now k (p ∷ ps) ss hk hf hv =
@@ -169,13 +169,13 @@ pairs-writable now k (p ∷ ps) ss hk hf hv =
       pairs-writable now k ps (put now e ss) hk (λ i. hf (suc i)) (λ i. hv (suc i)),
     )
 
-removes-writable : (k : Word) (fs : List Word) → AllWritable (map (remove k) fs)
+removes-writable : (k : Word) (fs : List Word) → AllFitOnce (map (remove k) fs)
 removes-writable k [] = tt
 removes-writable k (f ∷ fs) = (tt, removes-writable k fs)
 
 -- What a sound command writes fits, where neither 22 nor 23 applies.
 pub effect-writable : (now : ℕ) (c : Command) (ss : List Slot) → Sound c → AllFit ss → effect now c ss .overflows ≡ false
-    → AllWritable (effect now c ss .changes)
+    → AllFitOnce (effect now c ss .changes)
 unfolding effect keyOf fieldsOf valuesOf onDeed
 effect-writable now (onField k f d) ss s h o =
     deed-writable now ss k f (s .key) (s .fields 0) d (entryOf k f ss) (s .values) (s .within) (found-fits k f ss h) o

@@ -39,47 +39,47 @@ abbrev pub entry : String → String → String → ℕ → Expiry → Slot
 entry k f v n x = some (stored.entry (text k) (text f) (text v) n x)
 
 -- requests in order on a store of two empty slots, and what its two slots then hold
-pub record Row : Type 0 where
+pub record Case : Type 0 where
   pub name : String
   pub requests : List Request
   pub first : Slot
   pub second : Slot
 
-abbrev pub row : String → List Request → Slot → Slot → Row
-row n ps s t = record { name = n; requests = ps; first = s; second = t }
+abbrev pub case : String → List Request → Slot → Slot → Case
+case n ps s t = record { name = n; requests = ps; first = s; second = t }
 
 -- the replies in order, and the slots at the end
-pub record Seen : Type 0 where
+pub record Observed : Type 0 where
   pub replies : List (List ℕ)
   pub slots : List Slot
 
-unfoldable pub performed : List Request → Store → Seen
+unfoldable pub performed : List Request → Store → Observed
 performed [] s = record { replies = []; slots = s .slots }
 performed (p ∷ ps) s =
     let o : Outcome = exec (p .clock) (respOf (spaced (text (p .command)))) s in
-    let later : Seen = performed ps (o .store) in
+    let later : Observed = performed ps (o .store) in
     record { replies = o .reply ∷ later .replies; slots = later .slots }
 
-unfoldable pub given : Row → Seen
+unfoldable pub given : Case → Observed
 given r = performed (r .requests) (record { clock = 0; slots = none ∷ none ∷ [] })
 
-unfoldable pub expected : Row → Seen
+unfoldable pub expected : Case → Observed
 expected r = record { replies = map (λ p. text (p .reply)) (r .requests); slots = r .first ∷ r .second ∷ [] }
 
 -- ---- "Marked presses. To be proved: key m, two slots, a fresh store a case."
 
-unfoldable pub markedExamples : List Row
+unfoldable pub markedExamples : List Case
 markedExamples =
-    row "P1: absent, EXHSET m a 1 VER 9: 1, version 1"
+    case "P1: absent, EXHSET m a 1 VER 9: 1, version 1"
     (request 1000 "EXHSET m a 1 VER 9" ":1\r\n" ∷ request 1000 "EXHVER m a" ":1\r\n" ∷ [])
     (entry "m" "a" "1" 1 Never) none
-    ∷ row "P2: then VER 2: 20"
+    ∷ case "P2: then VER 2: 20"
     (request 1000 "EXHSET m a 1 VER 9" ":1\r\n" ∷ request 1000 "EXHSET m a 1 VER 2" "-ERR update version is stale\r\n" ∷ [])
     (entry "m" "a" "1" 1 Never) none
-    ∷ row "P3: instead VER 1: 0, version 2"
+    ∷ case "P3: instead VER 1: 0, version 2"
     (request 1000 "EXHSET m a 1 VER 9" ":1\r\n" ∷ request 1000 "EXHSET m a 1 VER 1" ":0\r\n" ∷ request 1000 "EXHVER m a" ":2\r\n" ∷ [])
     (entry "m" "a" "1" 2 Never) none
-    ∷ row "P4: clock 1000, EXHSET m b 1 PX 500; at 1499 PTTL 1, TTL 0; at 1500 EXHGET nil, then EXHLEN 0"
+    ∷ case "P4: clock 1000, EXHSET m b 1 PX 500; at 1499 PTTL 1, TTL 0; at 1500 EXHGET nil, then EXHLEN 0"
     (request 1000 "EXHSET m b 1 PX 500" ":1\r\n"
     ∷ request 1499 "EXHPTTL m b" ":1\r\n"
     ∷ request 1499 "EXHTTL m b" ":0\r\n"
@@ -87,70 +87,70 @@ markedExamples =
     ∷ request 1500 "EXHLEN m" ":0\r\n"
     ∷ [])
     none none
-    ∷ row "P5: the same, but at 1500 EXHLEN first: 1; NOEXP 0"
+    ∷ case "P5: the same, but at 1500 EXHLEN first: 1; NOEXP 0"
     (request 1000 "EXHSET m b 1 PX 500" ":1\r\n"
     ∷ request 1500 "EXHLEN m" ":1\r\n"
     ∷ request 1500 "EXHLEN m NOEXP" ":0\r\n"
     ∷ [])
     (entry "m" "b" "1" 1 (At 1500)) none
-    ∷ row "P6: a and b live, EXHSET m c 1: 24, both kept"
+    ∷ case "P6: a and b live, EXHSET m c 1: 24, both kept"
     (request 1000 "EXHSET m a 1" ":1\r\n"
     ∷ request 1000 "EXHSET m b 1" ":1\r\n"
     ∷ request 1000 "EXHSET m c 1" "-ERR store is full\r\n"
     ∷ [])
     (entry "m" "a" "1" 1 Never) (entry "m" "b" "1" 1 Never)
-    ∷ row "P7: b dead: 1, c in b's slot"
+    ∷ case "P7: b dead: 1, c in b's slot"
     (request 1000 "EXHSET m a 1" ":1\r\n"
     ∷ request 1000 "EXHSET m b 1 PX 500" ":1\r\n"
     ∷ request 1500 "EXHSET m c 1" ":1\r\n"
     ∷ [])
     (entry "m" "a" "1" 1 Never) (entry "m" "c" "1" 1 Never)
-    ∷ row "P8: absent, INCRBY 5 MIN 6: 22, still absent"
+    ∷ case "P8: absent, INCRBY 5 MIN 6: 22, still absent"
     (request 1000 "EXHINCRBY m a 5 MIN 6" "-ERR increment or decrement would overflow\r\n" ∷ request 1000 "EXHEXISTS m a" ":0\r\n" ∷ [])
     none none
-    ∷ row "P9: 9223372036854775807 plus 1: 22"
+    ∷ case "P9: 9223372036854775807 plus 1: 22"
     (request 1000 "EXHSET m a 9223372036854775807" ":1\r\n"
     ∷ request 1000 "EXHINCRBY m a 1" "-ERR increment or decrement would overflow\r\n"
     ∷ [])
     (entry "m" "a" "9223372036854775807" 1 Never) none
-    ∷ row "P10: stored -0: 21"
+    ∷ case "P10: stored -0: 21"
     (request 1000 "EXHSET m a -0" ":1\r\n" ∷ request 1000 "EXHINCRBY m a 1" "-ERR hash value is not an integer\r\n" ∷ [])
     (entry "m" "a" "-0" 1 Never) none
-    ∷ row "P11: EXHSET m a 1 EX NX: 16"
+    ∷ case "P11: EXHSET m a 1 EX NX: 16"
     (request 1000 "EXHSET m a 1 EX NX" "-ERR value is not an integer or out of range\r\n" ∷ [])
     none none
-    ∷ row "P12: a live, SETVER 0, then EXHSET m a 1 VER 7: 0, version 1"
+    ∷ case "P12: a live, SETVER 0, then EXHSET m a 1 VER 7: 0, version 1"
     (request 1000 "EXHSET m a 1" ":1\r\n"
     ∷ request 1000 "EXHSETVER m a 0" ":1\r\n"
     ∷ request 1000 "EXHSET m a 1 VER 7" ":0\r\n"
     ∷ request 1000 "EXHVER m a" ":1\r\n"
     ∷ [])
     (entry "m" "a" "1" 1 Never) none
-    ∷ row "P13: record at 900 after one at 1000: now is 1000"
+    ∷ case "P13: record at 900 after one at 1000: now is 1000"
     (request 1000 "EXHSET m a 1 PX 500" ":1\r\n" ∷ request 900 "EXHPTTL m a" ":500\r\n" ∷ request 900 "EXHSET m b 1 PX 100" ":1\r\n" ∷ [])
     (entry "m" "a" "1" 1 (At 1500)) (entry "m" "b" "1" 1 (At 1100))
-    ∷ row "P14: EXHMSET m a 1 a 2: +OK, version 2"
+    ∷ case "P14: EXHMSET m a 1 a 2: +OK, version 2"
     (request 1000 "EXHMSET m a 1 a 2" "+OK\r\n" ∷ request 1000 "EXHVER m a" ":2\r\n" ∷ [])
     (entry "m" "a" "2" 2 Never) none
     ∷ []
 
 -- ---- "EXHGETALL of a=1, b=22, whole", and "What trainees' programs got away with"
 
-unfoldable pub workedCases : List Row
+unfoldable pub workedCases : List Case
 workedCases =
-    row "EXHGETALL of a=1, b=22, whole"
+    case "EXHGETALL of a=1, b=22, whole"
     (request 1000 "EXHMSET m a 1 b 22" "+OK\r\n" ∷ request 1000 "EXHGETALL m" "*4\r\n$1\r\na\r\n$1\r\n1\r\n$1\r\nb\r\n$2\r\n22\r\n" ∷ [])
     (entry "m" "a" "1" 1 Never) (entry "m" "b" "22" 1 Never)
-    ∷ row "A dead entry is not removed before check 15"
+    ∷ case "A dead entry is not removed before check 15"
     (request 1000 "EXHSET m b 1 PX 500" ":1\r\n" ∷ request 1500 "EXHSET m b 2 SOON" "-ERR syntax error\r\n" ∷ [])
     (entry "m" "b" "1" 1 (At 1500)) none
-    ∷ row "Of an EXHMSET that finds the store full nothing is stored"
+    ∷ case "Of an EXHMSET that finds the store full nothing is stored"
     (request 1000 "EXHMSET m a 1 b 2 c 3" "-ERR store is full\r\n" ∷ [])
     none none
-    ∷ row "VER is not compared on a dead entry"
+    ∷ case "VER is not compared on a dead entry"
     (request 1000 "EXHSET m b 1 PX 500" ":1\r\n" ∷ request 1500 "EXHSET m b 2 VER 9" ":1\r\n" ∷ [])
     (entry "m" "b" "2" 1 Never) none
-    ∷ row "A refusal that lies after 18 removes the named dead entry and sets the clock"
+    ∷ case "A refusal that lies after 18 removes the named dead entry and sets the clock"
     (request 1000 "EXHSET m a 1" ":1\r\n"
     ∷ request 1000 "EXHSET m b 1 PX 500" ":1\r\n"
     ∷ request 1500 "EXHMSET m b 1 c 2" "-ERR store is full\r\n"

@@ -76,7 +76,7 @@ abbrev pub givenAt : List Word → ScannedOptions → ℕ → Option Given
 givenAt ws r g = optionAt ws g (getD (r .said) g 0) (getD (r .operands) g 0)
 
 -- an option stands at word i: what is left of a scan there is that option, and what is left behind its last word
-pub record Found (ws : List Word) (allowed : List ℕ) (i g said last : ℕ) : Type 0 where
+pub record FoundOption (ws : List Word) (allowed : List ℕ) (i g said last : ℕ) : Type 0 where
   pub left : scan allowed none (drop i ws)
       ≡ Option·map (λ gs. numbered ws g said last ∷ gs) (scan allowed none (drop (last + 1) ws))
   pub member : group (kindIn g said) ≡ g
@@ -87,7 +87,7 @@ pub record Found (ws : List Word) (allowed : List ℕ) (i g said last : ℕ) : T
 
 -- what the code found there; a scan fails where it found nothing
 abbrev pub FoundBy : List Word → List ℕ → ℕ → OptionFound → Type 0
-FoundBy ws allowed i (founds.At g said last) = Found ws allowed i g said last
+FoundBy ws allowed i (founds.At g said last) = FoundOption ws allowed i g said last
 FoundBy ws allowed i founds.Nothing = scan allowed none (drop i ws) ≡ none
 
 -- what a scan of the words from one on found

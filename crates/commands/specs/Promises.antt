@@ -19,7 +19,7 @@ use Rattle.store.specs.declared.Expiry.the-variants.{Never}
 use Rattle.store.specs.declared.Found.{Found}
 use Rattle.store.specs.declared.Found.the-variants as founds
 use Rattle.store.specs.Layout.{versionMost, timeLimit}
-use Rattle.store.specs.Store.{Entry, entry, Slot, Store, withSlots, decode, wellFormed, holds}
+use Rattle.store.specs.Store.{Entry, blank, withVersion, withExpiry, Slot, Store, withSlots, decode, wellFormed, holds}
 use Rattle.store.specs.Time.{keyExists, liveOfKey, lowestSlot, entryOf, slotFor, put, emptySlot, deadSlot}
 use Rattle.store.specs.Valid.{Short}
 use Rattle.store.specs.Promises.{foundFor, entryAt, Held, Holds}
@@ -166,10 +166,10 @@ heldExpiry found = orElse found Never (λ e. e .expiry)
 
 -- an entry of which only the version, or only the expiry, is looked at
 abbrev pub versioned : ℕ → Entry
-versioned v = entry [] [] [] v Never
+versioned v = withVersion v blank
 
 abbrev pub expiring : Expiry → Entry
-expiring x = entry [] [] [] 0 x
+expiring x = withExpiry x blank
 
 -- ---- pairs
 

@@ -231,7 +231,7 @@ namesAt = 4
 unfoldable pub commandTable : List ℕ
 commandTable = flatMap (λ r. nameRow (r .name) (commandData r)) commands
 
--- a command by its number in the table; the first one past its end
+-- a command by its number in the table; past its end EXHSET
 unfoldable pub commandOf : ℕ → CommandRow
 commandOf i = getD commands i (row "EXHSET" (atLeast 4) setForm)
 
@@ -313,6 +313,6 @@ sizeAt = 2
 unfoldable pub optionTable : List ℕ
 optionTable = flatMap (λ r. nameRow (r .name) (optionData r)) options
 
--- an option by its number in the table; the last one past its end
+-- an option by its number in the table; past its end NOEXP
 unfoldable pub optionOf : ℕ → OptionRow
 optionOf i = getD options i ("NOEXP" means noExp)

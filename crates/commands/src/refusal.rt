@@ -24,8 +24,11 @@ const LINES: [u8; 346] = *b"-ERR protocol\
     -ERR version overflow\
     -ERR store is full";
 
+// The last number of a refusal.
+const LATE_MOST: usize = 24;
+
 // Where the line of each number ends among them. It starts where that of the number before it ends.
-const ENDS: [usize; 25] = [
+const ENDS: [usize; LATE_MOST + 1] = [
     0,
     0,
     0,

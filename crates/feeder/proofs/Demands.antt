@@ -11,7 +11,7 @@ use lib.IntN.{ℤ}
 use lib.ListN.{length, getD}
 use Rattle.wire.specs.Bytes.{Bytes, part}
 use Rattle.wire.specs.Integers.{within, readInteger, integerText}
-use Rattle.wire.specs.Words.{Word, wordsOf}
+use Rattle.wire.specs.Words.{Word, wordsMost, wordsOf}
 use Rattle.wire.specs.Replies.{respOf}
 use Rattle.wire.proofs.IntegerLaws.{read-text, text-read}
 use Rattle.wire.proofs.WordLaws.{words-respOf, respOf-words}
@@ -219,7 +219,7 @@ pub integer-text-only : (lo hi : ℤ) (s : List ℕ) (z : ℤ) → readInteger l
 integer-text-only = text-read
 
 -- The words of a command are read back, and a command that is read is the array of its words.
-pub words-read-back : (ws : List Word) → 1 ≤ length ws → length ws ≤ 64 → wordsOf (respOf ws) ≡ some ws
+pub words-read-back : (ws : List Word) → 1 ≤ length ws → length ws ≤ wordsMost → wordsOf (respOf ws) ≡ some ws
 words-read-back = words-respOf
 
 pub words-array-only : (s : List ℕ) (ws : List Word) → wordsOf s ≡ some ws → s ≡ respOf ws

@@ -23,32 +23,32 @@ unfoldable pub emptyAt : ℕ → List ℕ
 emptyAt clock = encode (record { clock = clock; slots = none ∷ [] })
 
 -- a stream on an empty store of one slot, and what it comes to
-pub record Row : Type 0 where
+pub record StreamCase : Type 0 where
   pub name : String
   pub stream : List ℕ
   pub outcome : Meaning
 
-abbrev pub row : String → List ℕ → Meaning → Row
-row n s m = record { name = n; stream = s; outcome = m }
+abbrev pub streamCase : String → List ℕ → Meaning → StreamCase
+streamCase n s m = record { name = n; stream = s; outcome = m }
 
 abbrev pub told : List ℕ → ℕ → List ℕ → ℕ → Meaning
 told replies skipped rest clock = record { replies = replies; skipped = skipped; rest = rest; store = emptyAt clock }
 
-unfoldable pub given : Row → Meaning
+unfoldable pub given : StreamCase → Meaning
 given r = meaning (r .stream) (emptyAt 0)
 
-unfoldable pub expected : Row → Meaning
+unfoldable pub expected : StreamCase → Meaning
 expected r = r .outcome
 
-unfoldable pub workedStreams : List Row
+unfoldable pub workedStreams : List StreamCase
 workedStreams =
-    row "Whole example: from an empty store the reply is nil" wholeExample (told (text "$-1\r\n") 0 [] 1000)
-    ∷ row "45 45 57: one byte is skipped, and the mark is not lost" (0x45 ∷ wholeExample) (told (text "$-1\r\n") 1 [] 1000)
-    ∷ row "L out of range: only the 45 is skipped, and what follows is read again"
+    streamCase "Whole example: from an empty store the reply is nil" wholeExample (told (text "$-1\r\n") 0 [] 1000)
+    ∷ streamCase "45 45 57: one byte is skipped, and the mark is not lost" (0x45 ∷ wholeExample) (told (text "$-1\r\n") 1 [] 1000)
+    ∷ streamCase "L out of range: only the 45 is skipped, and what follows is read again"
     ((0x45 ∷ 0x57 ∷ 0 ∷ 0 ∷ 0 ∷ 0 ∷ 0 ∷ 0 ∷ 0 ∷ 0 ∷ 0 ∷ 0 ∷ []) ++ wholeExample)
     (told (text "$-1\r\n") 12 [] 1000)
-    ∷ row "A record that is cut short waits" (wholeExample ++ (0x45 ∷ 0x57 ∷ 7 ∷ [])) (told (text "$-1\r\n") 0 (0x45 ∷ 0x57 ∷ 7 ∷ []) 1000)
-    ∷ row "A refused command is a record too: its error line is its reply"
+    ∷ streamCase "A record that is cut short waits" (wholeExample ++ (0x45 ∷ 0x57 ∷ 7 ∷ [])) (told (text "$-1\r\n") 0 (0x45 ∷ 0x57 ∷ 7 ∷ []) 1000)
+    ∷ streamCase "A refused command is a record too: its error line is its reply"
     (recordBytes (record { clock = 1000; command = text "*1\r\n$3\r\nGET\r\n" }) ++ wholeExample)
     (told (text "-ERR unknown command\r\n$-1\r\n") 0 [] 1000)
     ∷ []

@@ -1,7 +1,7 @@
 -- Laws of the tests of a slot's bytes, in the forms in which the code makes them.
 use mathlib.Core.Path.{_≡_, refl, sym, ap, _∙_}
 use mathlib.Core.Bool.{Bool, true, false, _&&_, and-true, and-assoc}
-use mathlib.Core.List.{List, [], _∷_, _++_}
+use mathlib.Core.List.{List, [], _∷_}
 use Prim.Native.Nat.{ℕ, zero, suc, _+_, _-_, _*_, _/_, _^_, _≤_}
 use native.Mathlib.Omega.{arith}
 use lib.Bits.{bitOr}
@@ -19,13 +19,6 @@ use Rattle.store.specs.Store.{zeroBeyond, heldWell, slotWell, lengthTest
 use Rattle.store.proofs.Pieces.{take-part}
 
 -- ---- tests in parts
-
--- two lists of tests pass where each passes
-pub every-append : (ts us : List Bool) → every (ts ++ us) ≡ every ts && every us
-unfolding every
-every-append [] us = refl
-every-append (true ∷ ts) us = every-append ts us
-every-append (false ∷ ts) us = refl
 
 -- a test that fails fails them all
 pub every-fails : (ts : List Bool) (i : ℕ) → getD ts i true ≡ false → every ts ≡ false

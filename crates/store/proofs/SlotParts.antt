@@ -18,7 +18,7 @@ use Rattle.store.specs.declared.Expiry.the-variants.{Never, At}
 use Rattle.store.specs.Layout.{stateAt, fieldLengthAt, emptyState, expiringState, expiryAt, expirySize, fieldAt, fieldMost}
 use Rattle.store.specs.Store.{Slot, decodeExpiry, decodeEntry, decodeSlot, slotWell, holds}
 use Rattle.store.specs.Promises.{SlotBytes, HeldBytes, fingerprintOf}
-use Rattle.store.proofs.WellSlot.{Held, held-well, place-padded}
+use Rattle.store.proofs.WellSlot.{HeldTests, held-well, place-padded}
 use Rattle.store.specs.Time.{before, live, liveSlot, deadSlot, emptySlot, ofKey, liveOfKey}
 
 -- n bytes from a place on, as a part up to its end
@@ -86,7 +86,7 @@ live-of-key time k (some e) = turned (same (e .key) k) (live time e)
 -- ---- a held slot's lengths lie in its places
 
 module _ (t : List ℕ) (h : HeldBytes t) where
-  tests : Held t
+  tests : HeldTests t
   unfolding slotWell
   tests = held-well t (rw (ne-eqb (getD t stateAt 0) emptyState (h .held)) at (h .slot .well))
 

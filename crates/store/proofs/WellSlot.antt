@@ -21,7 +21,7 @@ use Rattle.store.proofs.Pieces.{total, cut, flatten-cut, length-part, t
 use Rattle.store.proofs.SlotBytes.{sizes, pieces, encode-pieces}
 
 -- what the tests of a held slot say
-pub record Held (t : List ℕ) : Type 0 where
+pub record HeldTests (t : List ℕ) : Type 0 where
   pub state : getD t stateAt 0 ≤ expiringState
   pub key : getD t keyLengthAt 0 ≤ keyMost
   pub field : getD t fieldLengthAt 0 ≤ fieldMost
@@ -33,7 +33,7 @@ pub record Held (t : List ℕ) : Type 0 where
   pub valueBeyond : zeroBeyond valueAt valueMost (getD t valueLengthAt 0) t ≡ true
 
 -- bytes that pass the tests of a held slot pass each of them
-pub held-well : (t : List ℕ) → heldWell t ≡ true → Held t
+pub held-well : (t : List ℕ) → heldWell t ≡ true → HeldTests t
 unfolding heldWell lengthTests expiryTests placeTests
 held-well t h =
     let lengths : every (lengthTests t) ≡ true = every-at _ h 0 in
@@ -66,7 +66,7 @@ first-four (a ∷ b ∷ []) l = absurd (omega arith)
 first-four (a ∷ b ∷ c ∷ []) l = absurd (omega arith)
 first-four (a ∷ b ∷ c ∷ d ∷ t) l = refl
 
-module _ (t : List ℕ) (l : length t ≡ slotSize) (b : Bytes t) (w : Held t) (n : getD t stateAt 0 ≡ emptyState → ⊥) where
+module _ (t : List ℕ) (l : length t ≡ slotSize) (b : Bytes t) (w : HeldTests t) (n : getD t stateAt 0 ≡ emptyState → ⊥) where
   state-back : stateOf (decodeExpiry t) ≡ getD t stateAt 0
   unfolding decodeExpiry stateOf
   state-back = go (eqb (getD t stateAt 0) expiringState) refl
@@ -140,7 +140,7 @@ module _ (t : List ℕ) (l : length t ≡ slotSize) (b : Bytes t) (w : Held t) (
 
 module _ (t : List ℕ) (l : length t ≡ slotSize) (b : Bytes t) (w : slotWell t ≡ true) where
   -- what holds of an empty slot and of a held one holds of what the slot means
-  slot-either : (P : Slot → Type 0) → (allZero t ≡ true → P none) → (Held t → (getD t stateAt 0 ≡ emptyState → ⊥) → P (some (decodeEntry t))) → P (decodeSlot t)
+  slot-either : (P : Slot → Type 0) → (allZero t ≡ true → P none) → (HeldTests t → (getD t stateAt 0 ≡ emptyState → ⊥) → P (some (decodeEntry t))) → P (decodeSlot t)
   unfolding decodeSlot slotWell
   slot-either P p q = go (eqb (getD t stateAt 0) emptyState) refl w
     where

@@ -1,7 +1,7 @@
 -- What the functions of the store ask and answer, in the terms of the other definitions.
 use mathlib.Core.Path.{_≡_}
 use mathlib.Core.Bool.{Bool, true, false, cond, _&&_}
-use mathlib.Core.List.{List, [], _∷_, map, _++_}
+use mathlib.Core.List.{List, _∷_, map, _++_}
 use mathlib.Core.Option.{Option, none, some, Option·map}
 use Prim.Native.Nat.{ℕ, _+_, _-_, _*_, _/_, _%_, _^_, _≤_, _<_}
 use lib.Bits.{bitOr, bitXor}
@@ -10,11 +10,11 @@ use lib.ListN.{length, drop, getD, set}
 use Rattle.wire.specs.Lists.{every, all, any, orElse}
 use Rattle.wire.specs.Bytes.{Bytes, fromLE, part, toLE}
 use Rattle.store.specs.declared.Expiry.{Expiry}
-use Rattle.store.specs.declared.Expiry.the-variants.{Never, At}
+use Rattle.store.specs.declared.Expiry.the-variants.{At}
 use Rattle.store.specs.declared.Found.{Found}
 use Rattle.store.specs.declared.Found.the-variants as founds
 use Rattle.store.specs.Layout.{headerSize, slotSize, stateAt, keyLengthAt, keyAt, keyMost, fieldAt, fieldMost, emptyState, versionSize, expirySize}
-use Rattle.store.specs.Store.{Entry, entry, withVersion, withExpiry, Slot, Store, withSlots, decodeSlot, slotsIn, decode, slotsWithin, slotCount, slotWell, sizeTests, wellFormed, instantOf, holds, clash, stateOf}
+use Rattle.store.specs.Store.{Entry, blank, withVersion, withExpiry, Slot, Store, withSlots, decodeSlot, slotsIn, decode, slotsWithin, slotCount, slotWell, sizeTests, wellFormed, instantOf, holds, clash, stateOf}
 use Rattle.store.specs.Valid.{Short, Fits}
 use Rattle.store.specs.Time.{lowestSlot, emptySlot}
 
@@ -136,7 +136,7 @@ pub record Held (b : List ℕ) (i : ℕ) : Type 0 where
 
 -- the entry of a slot; an empty one where there is none
 unfoldable pub entryAt : List Slot → ℕ → Entry
-entryAt ss i = orElse (getD ss i none) (entry [] [] [] 0 Never) (λ e. e)
+entryAt ss i = orElse (getD ss i none) blank (λ e. e)
 
 -- bytes are a well-formed store that holds s
 pub record Holds (b : List ℕ) (s : Store) : Type 0 where

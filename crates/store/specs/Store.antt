@@ -25,6 +25,9 @@ pub record Entry : Type 0 where
 abbrev pub entry : List ℕ → List ℕ → List ℕ → ℕ → Expiry → Entry
 entry k f v n x = record { key = k; field = f; value = v; version = n; expiry = x }
 
+abbrev pub blank : Entry
+blank = entry [] [] [] 0 Never
+
 -- an entry with another version
 abbrev pub withVersion : ℕ → Entry → Entry
 withVersion n e = entry (e .key) (e .field) (e .value) n (e .expiry)

@@ -1,6 +1,6 @@
 -- A number read digit by digit: what is left of its text, after those digits that spell n, says the same.
 use mathlib.Core.Path.{_≡_, refl, ap, _∙_}
-use mathlib.Core.Bool.{Bool, true, false, not, _&&_, _||_}
+use mathlib.Core.Bool.{Bool, true, false, not, _&&_, _||_, and-true, and-false}
 use mathlib.Core.List.{List, [], _∷_}
 use mathlib.Core.Option.{Option, none, some, Option·map}
 use Prim.Native.Nat.{ℕ, zero, suc, _+_, _-_, _*_, _≤_, _<_}
@@ -19,15 +19,6 @@ use Rattle.wire.proofs.Lists.{and-both}
 use Rattle.wire.proofs.IntegerDigits.{negated-value}
 
 -- ---- tests
-
--- a test beside one that fails, and beside one that passes
-pub and-false : (a : Bool) → a && false ≡ false
-and-false true = refl
-and-false false = refl
-
-pub and-true : (a : Bool) → a && true ≡ a
-and-true true = refl
-and-true false = refl
 
 -- ---- what is read, with no integers in between
 

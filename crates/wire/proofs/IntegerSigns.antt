@@ -1,7 +1,7 @@
 -- Integers as sign and magnitude: what is read, written, compared and added of them, in plain numbers.
 use mathlib.Core.Path.{_≡_, refl, sym, ap, _∙_}
 use mathlib.Core.Logic.{_≢_}
-use mathlib.Core.Bool.{Bool, true, false, cond, not, _&&_, Bool·beq, true≢false, false≢true}
+use mathlib.Core.Bool.{Bool, true, false, cond, not, _&&_, Bool·beq, true≢false, false≢true, and-false}
 use mathlib.Core.List.{List, [], _∷_}
 use mathlib.Core.Option.{Option, none, some, Option·map}
 use Prim.Native.Nat.{ℕ, zero, suc, _+_, _-_, _≤_, _<_}
@@ -22,7 +22,7 @@ use Rattle.wire.specs.declared.integers.Integer.the-variants as integers
 use Rattle.wire.specs.declared.integers.Signed.{Signed}
 use Rattle.wire.specs.Promises.{naturalFor, integerFor, signedFor, integerOf}
 use Rattle.wire.proofs.IntegerDigits.{text-negated, negated-natural, negated-value, text-value}
-use Rattle.wire.proofs.IntegerReading.{and-false, natural-is}
+use Rattle.wire.proofs.IntegerReading.{natural-is}
 
 -- ---- signs
 

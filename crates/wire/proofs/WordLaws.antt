@@ -13,7 +13,7 @@ use lib.ListN.{length, getD, take, drop, length-append, length-map, take-append-
 use Rattle.wire.specs.Lists.{all, onlyIf, orElse, isEmpty}
 use Rattle.wire.specs.Bytes.{Bytes, part, same, text}
 use Rattle.wire.specs.Integers.{isDigit, naturalText, readNatural}
-use Rattle.wire.specs.Words.{Word, Read, crlf, beforeCR, fromCR, readCount, readWord, readWords, wordsOf}
+use Rattle.wire.specs.Words.{wordsMost, Word, Read, crlf, beforeCR, fromCR, readCount, readWord, readWords, wordsOf}
 use Rattle.wire.specs.Replies.{bulk, header, array, respOf}
 use Rattle.wire.proofs.Lists.{and-left, and-right}
 use Rattle.wire.proofs.ByteLaws.{bytes-take, bytes-drop, same-true}
@@ -141,22 +141,22 @@ words-written [] = refl
 words-written (w ∷ ws) = rw (word-written w (flatten (map bulk ws)), words-written ws)
 
 -- A command of 1 to 64 words as they are written has those words.
-pub words-respOf : (ws : List Word) → 1 ≤ length ws → length ws ≤ 64 → wordsOf (respOf ws) ≡ some ws
+pub words-respOf : (ws : List Word) → 1 ≤ length ws → length ws ≤ wordsMost → wordsOf (respOf ws) ≡ some ws
 unfolding wordsOf orElse
-words-respOf ws least most = rw (resp-is ws, count-written 42 64 (length ws) (flatten (map bulk ws)) most, le-leb 1 (length ws) least) (words-written ws)
+words-respOf ws least most = rw (resp-is ws, count-written 42 wordsMost (length ws) (flatten (map bulk ws)) most, le-leb 1 (length ws) least) (words-written ws)
 
 -- what is known of a command that is read
-words-read : (s : List ℕ) (ws : List Word) → wordsOf s ≡ some ws → (1 ≤ length ws) × (length ws ≤ 64) × (s ≡ respOf ws)
+words-read : (s : List ℕ) (ws : List Word) → wordsOf s ≡ some ws → (1 ≤ length ws) × (length ws ≤ wordsMost) × (s ≡ respOf ws)
 unfolding wordsOf
 words-read s ws h =
-    let (n, p, q) = orElse-some (readCount 42 64 s) h in
+    let (n, p, q) = orElse-some (readCount 42 wordsMost s) h in
     let (least, m) = cond-some (leb 1 (n .found)) q in
-    let (most, e) = count-is 42 64 s n p in
+    let (most, e) = count-is 42 wordsMost s n p in
     let (size, all) = words-are (n .found) (n .rest) ws m in
     known (n .found) (n .rest) (leb-true 1 (n .found) least) most e size all
   where
-    known : (n : ℕ) (t : List ℕ) → 1 ≤ n → n ≤ 64 → s ≡ counted 42 n t → length ws ≡ n → t ≡ flatten (map bulk ws)
-        → (1 ≤ length ws) × (length ws ≤ 64) × (s ≡ respOf ws)
+    known : (n : ℕ) (t : List ℕ) → 1 ≤ n → n ≤ wordsMost → s ≡ counted 42 n t → length ws ≡ n → t ≡ flatten (map bulk ws)
+        → (1 ≤ length ws) × (length ws ≤ wordsMost) × (s ≡ respOf ws)
     known n t least most e size all = (omega arith, omega arith, rw (resp-is, size, ← all) e)
 
 -- A command that has words is as they are written.
@@ -164,7 +164,7 @@ pub respOf-words : (s : List ℕ) (ws : List Word) → wordsOf s ≡ some ws →
 respOf-words s ws h = words-read s ws h .2
 
 -- A command has 1 to 64 words.
-pub words-count : (s : List ℕ) (ws : List Word) → wordsOf s ≡ some ws → (1 ≤ length ws) × (length ws ≤ 64)
+pub words-count : (s : List ℕ) (ws : List Word) → wordsOf s ≡ some ws → (1 ≤ length ws) × (length ws ≤ wordsMost)
 words-count s ws h = (words-read s ws h .0, words-read s ws h .1)
 
 -- ---- bytes

@@ -8,14 +8,18 @@ use Rattle.wire.specs.Replies.{line}
 use Rattle.wire.specs.Promises.{wordsIn}
 use Rattle.wire.proofs.WordPlaces.{length-words}
 use Rattle.commands.specs.Execute.{room}
-use Rattle.commands.proofs.FieldDeeds.{known-late, may-refuse}
+use Rattle.wire.specs.Lists.{any}
+use Rattle.commands.specs.Refusal.{table}
+use Rattle.commands.specs.ParsePromises.{isRefusal}
+use Rattle.commands.proofs.FieldDeeds.{may-refuse}
 use Rattle.commands.proofs.PairsDone.{many-over, many-full, many-placing, many-done}
 use borrow.Author.Needs.{needs}
 use Rattle.commands.proofs.pairs.set_many.Statement.{statement}
 use Rattle.commands.proofs.pairs.set_many.Tie as tie
 
 put-error-requires : tie.Need-put-error-requires
-put-error-requires c κs = may-refuse 23 (known-late .3) (omega (arith, c .before .before .before .before .before .before .before .before .before .before .before .before .before .pre .0 .room))
+unfolding isRefusal any table
+put-error-requires c κs = may-refuse 23 refl (omega (arith, c .before .before .before .before .before .before .before .before .before .before .before .before .before .pre .0 .room))
 
 returns : tie.Need-returns
 returns c =
@@ -25,7 +29,8 @@ returns c =
     many-over _ _ ws _ (back10 .sweep-pairs .ensures) few (back6 .survey-pairs .ensures) (back4 .enum-told .given .1) (back2 .put-error .ensures)
 
 put-error-requires-2 : tie.Need-put-error-requires-2
-put-error-requires-2 c κs = may-refuse 24 (known-late .4) (omega (arith, c .before .before .before .before .before .before .before .before .before .before .before .before .before .before .before .before .before .pre .0 .room))
+unfolding isRefusal any table
+put-error-requires-2 c κs = may-refuse 24 refl (omega (arith, c .before .before .before .before .before .before .before .before .before .before .before .before .before .before .before .before .before .pre .0 .room))
 
 returns-2 : tie.Need-returns-2
 unfolding room
