@@ -119,7 +119,7 @@ module _ (P : Word → Type 0) (empty : P []) where
   parse-taken now clock s c h a =
       rw (a .built) at
       (of-build (a .words) (h (a .words) (a .split)) (words-count s (a .words) (a .split) .1) now
-      (Option·getD (givenIn (a .row) (a .words)) [])
+      (Option·getD (scannedOf ((a .row) .form) (a .words)) [])
       (a .row .form))
 
 -- ---- no word is too long
