@@ -57,14 +57,16 @@ later : (now clock : ℕ) (s : Store) → now ≤ s .clock → now ≤ nowAt clo
 unfolding nowAt
 later now clock s h = omega arith
 
+-- An entry dead at the store's own clock is live at no later record, whatever clock that brings.
+pub dead-at-clock : (rs : List Step) (next : Step) (s : Store) (e : Entry) → live (s .clock) e ≡ false
+    → live (nowAt (next .clock) (execAll rs s)) e ≡ false
+dead-at-clock rs next s e d =
+    dead-later (s .clock) (nowAt (next .clock) (execAll rs s)) e (later (s .clock) (next .clock) (execAll rs s) (clock-forward-all rs s)) d
+
 -- An entry dead at the now of a record that passes checks 10 to 18 is never live at a later record, whatever clock that brings.
 pub dead-stays-dead : (r : Step) (rs : List Step) (next : Step) (s : Store) (c : Command) (e : Entry)
     → parse (nowAt (r .clock) s) (r .clock) (r .command) ≡ accepted c → live (nowAt (r .clock) s) e ≡ false
     → live (nowAt (next .clock) (execAll (r ∷ rs) s)) e ≡ false
 unfolding execAll
 dead-stays-dead r rs next s c e p d =
-    dead-later (nowAt (r .clock) s) (nowAt (next .clock) (execAll (r ∷ rs) s)) e
-    (later (nowAt (r .clock) s) (next .clock) (execAll (r ∷ rs) s)
-    (omega
-    (arith, clock-is-now (r .clock) (r .command) s c p, clock-forward-all rs (exec (r .clock) (r .command) s .store))))
-    d
+    dead-at-clock rs next (exec (r .clock) (r .command) s .store) e (rw (clock-is-now (r .clock) (r .command) s c p) d)

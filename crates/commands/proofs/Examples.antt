@@ -4,7 +4,7 @@ use mathlib.Core.List.{map}
 use Rattle.commands.specs.Examples.{given, expected, markedExamples, workedCases}
 use Rattle.commands.proofs.Computing.{computing}
 
--- P1 to P14: each reply, and what the two slots then hold
+-- P1 to P14: each refusal's number and each reply, and what the clock and the two slots then are
 pub marked-examples : map given markedExamples ≡ map expected markedExamples
 unfolding computing
 marked-examples = refl

@@ -2,10 +2,12 @@
 use mathlib.Core.Path.{_≡_, refl, ap, _∙_}
 use mathlib.Core.Bool.{true}
 use mathlib.Core.List.{List}
+use mathlib.Core.Option.{some}
 use Prim.Native.Nat.{ℕ, _<_}
 use lib.ListN.{length}
 use native.Mathlib.Omega.{arith}
 use Rattle.wire.specs.Bytes.{Bytes}
+use Rattle.wire.proofs.Lists.{impossible}
 use Rattle.store.specs.Layout.{timeLimit}
 use Rattle.store.specs.Store.{Store, decode, wellFormed}
 use Rattle.store.specs.Time.{nowAt}
@@ -74,16 +76,34 @@ exec-fits clock command s b h = go (went clock command s)
         (effect-writable (nowAt clock s) c (sweptBy (nowAt clock s) c s) (parse-sound (nowAt clock s) clock command c b p) f (r .bounded))
         f
 
--- Every record leaves a valid store valid, refused or not.
-pub exec-valid : (clock : ℕ) (command : List ℕ) (s : Store) → Bytes command → Valid s → Valid (exec clock command s .store)
-exec-valid clock command s b v =
+-- A refused one does whatever its command's elements are: it writes none of them.
+refused-fits : (clock : ℕ) (command : List ℕ) (s : Store) (n : ℕ) → exec clock command s .refusal ≡ some n → AllFit (s .slots)
+    → AllFit (exec clock command s .store .slots)
+refused-fits clock command s n r h = go (went clock command s) r
+  where
+    go : {o : Outcome} → Went clock command s o → o .refusal ≡ some n → AllFit (o .store .slots)
+    go (early k p) e = h
+    go (late c k p l) e = sweep-fits (nowAt clock s) (keyOf c) (fieldsOf c) (s .slots) h
+    go (done c p l) e = impossible cc
+
+-- A record that leaves slots that fit leaves a valid store valid.
+fits-valid : (clock : ℕ) (command : List ℕ) (s : Store) → AllFit (exec clock command s .store .slots) → Valid s → Valid (exec clock command s .store)
+fits-valid clock command s h v =
     record {
       clock = exec-clock clock command s (v .clock);
       least = omega (arith, exec-count clock command s, v .least);
       most = omega (arith, exec-count clock command s, v .most);
-      fits = exec-fits clock command s b (v .fits);
+      fits = h;
       apart = exec-apart clock command s (v .apart);
     }
+
+-- Every record leaves a valid store valid, refused or not.
+pub exec-valid : (clock : ℕ) (command : List ℕ) (s : Store) → Bytes command → Valid s → Valid (exec clock command s .store)
+exec-valid clock command s b v = fits-valid clock command s (exec-fits clock command s b (v .fits)) v
+
+pub refused-valid : (clock : ℕ) (command : List ℕ) (s : Store) (n : ℕ) → exec clock command s .refusal ≡ some n → Valid s
+    → Valid (exec clock command s .store)
+refused-valid clock command s n r v = fits-valid clock command s (refused-fits clock command s n r (v .fits)) v
 
 module _ (clock : ℕ) (command b : List ℕ) (h : Bytes command) (w : wellFormed b ≡ true) where
   after-valid : Valid (exec clock command (decode b) .store)

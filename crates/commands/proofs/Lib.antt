@@ -14,6 +14,7 @@ pub mod Writes
 pub mod Keeps
 pub mod Replies
 pub mod Fit
+pub mod SomeReply
 -- ---- an EXHMSET writes all of its pairs or none
 pub mod Names
 pub mod Ready

@@ -8,7 +8,7 @@ use lib.Dec.{ltb}
 use lib.ListN.{getD}
 use native.Mathlib.Omega.{arith}
 use borrow.Author.Tests.{lt-ltb, le-ltb}
-use Rattle.wire.specs.Lists.{any, all, orElse}
+use Rattle.wire.specs.Lists.{any, orElse}
 use Rattle.wire.specs.Integers.{lowest64, highest64, within}
 use Rattle.wire.specs.Replies.{integer}
 use Rattle.wire.specs.declared.integers.Signed.{Signed}
@@ -26,13 +26,14 @@ use Rattle.commands.specs.declared.field.WriteOutcome.{WriteOutcome}
 use Rattle.commands.specs.declared.field.WriteOutcome.the-variants as writes
 use Rattle.commands.specs.declared.field.Settled.{Settled}
 use Rattle.commands.specs.declared.field.Settled.the-variants as settleds
-use Rattle.commands.specs.Refusal.{_when_, table, lowest}
+use Rattle.commands.specs.Refusal.{_when_, lowest}
 use Rattle.commands.specs.Effect.{Effect, answer, writing, change, changeAll}
 use Rattle.commands.specs.Effect.Change.{write}
 use Rattle.commands.specs.Execute.{Outcome, refusedWith, doneWith, settle, passes, adds, added, room, lateChecks}
 use Rattle.commands.specs.ParsePromises.{isRefusal}
 use Rattle.commands.specs.Promises.{Does, Wrote, Settles, Changes, settledReply, tellable, writeSettled, lookFor, versioned, outcomeFor}
-use Rattle.commands.proofs.ParseChecks.{lowest-number, check-applies, check-passed}
+use Rattle.commands.proofs.ParseChecks.{check-applies, check-passed}
+use Rattle.commands.proofs.Refused.{late-known}
 use Rattle.commands.proofs.Room.{keep-set-less, slot-none}
 use Rattle.commands.proofs.Acts.{holds-self}
 
@@ -55,11 +56,6 @@ pub changes-as : (time : ℕ) {E D : Effect} {b after : List ℕ} {r : Settled} 
 changes-as time h w = rw h w
 
 -- ---- refused, or nothing to change
-
--- 20 to 24 have lines.
-pub late-known : (time : ℕ) (E : Effect) (ss : List Slot) (n : ℕ) → lowest (lateChecks time E ss) ≡ some n → isRefusal n ≡ true
-unfolding lateChecks isRefusal any table all
-late-known time E ss n h = lowest-number isRefusal (lateChecks time E ss) n refl h
 
 module _ (time : ℕ) (E : Effect) {b : List ℕ} (w : wellFormed b ≡ true) where
   changes-refused : (n : ℕ) → lowest (lateChecks time E (decode b .slots)) ≡ some n → Changes time E b b (settleds.Refused n)

@@ -34,12 +34,15 @@ table =
     ∷ 24 says "-ERR store is full"
     ∷ []
 
--- "10 to 18 use the record and leave the whole store. 20 to 24 set the clock and remove named dead entries only.": the first of all, and the last of each
+-- "10 to 18 use the record and leave the whole store. 20 to 24 set the clock and remove named dead entries only.": the first and the last of each
 abbrev pub earlyLeast : ℕ
 earlyLeast = 10
 
 abbrev pub earlyMost : ℕ
 earlyMost = 18
+
+abbrev pub lateLeast : ℕ
+lateLeast = 20
 
 abbrev pub lateMost : ℕ
 lateMost = 24
