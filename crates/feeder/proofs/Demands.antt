@@ -1,18 +1,20 @@
 -- The customer's three demands over the definitions: the page to open first. Each theorem has one plain sentence above it; the proofs are laws
 -- of the other files. `exec` is one record on what a store holds, `execBytes` the same on its bytes, `meaning` demand 3's definition of a whole
--- stream, `absorb` the bytes that one call takes, `feed` one feeding call.
+-- stream, `absorb` the bytes that one call takes, `feed` one feeding call. The definitions speak of lists of numbers: where a theorem asks for
+-- `Bytes` or `AllBytes`, the numbers are below 256, as the elements of the code's slices always are.
 use mathlib.Core.Path.{_≡_, sym, ap, _∙_}
-use mathlib.Core.Logic.{_≢_, _↔_}
+use mathlib.Core.Logic.{_≢_, _⊎_, _↔_}
 use mathlib.Core.Bool.{true, false}
-use mathlib.Core.List.{List, [], _∷_, map, flatten}
+use mathlib.Core.List.{List, [], _∷_, _++_, map, flatten, flatMap, List·Mem}
 use mathlib.Core.Option.{none, some}
-use Prim.Native.Nat.{ℕ, _+_, _*_, _≤_, _<_}
+use Prim.Native.Nat.{ℕ, _+_, _*_, _≤_, _<_, zero-le}
 use lib.IntN.{ℤ}
 use lib.ListN.{length, getD}
-use Rattle.wire.specs.Bytes.{Bytes, part}
+use Rattle.wire.specs.Lists.{keep}
+use Rattle.wire.specs.Bytes.{Bytes, part, text}
 use Rattle.wire.specs.Integers.{within, readInteger, integerText}
-use Rattle.wire.specs.Words.{Word, wordsMost, wordsOf}
-use Rattle.wire.specs.Replies.{respOf}
+use Rattle.wire.specs.Words.{Word, wordsMost, wordsOf, crlf}
+use Rattle.wire.specs.Replies.{line, respOf, laidOver}
 use Rattle.wire.proofs.IntegerLaws.{read-text, text-read}
 use Rattle.wire.proofs.WordLaws.{words-respOf, respOf-words}
 use Rattle.store.specs.Layout.{headerSize, slotSize}
@@ -20,7 +22,7 @@ use Rattle.store.specs.Store.{Entry, Slot, Store, withClock, decode, encode, we
 use Rattle.store.specs.Time.{nowAt, live}
 use Rattle.store.specs.Valid.{Valid}
 use Rattle.store.proofs.Encode.{decode-encode, encode-decode, encode-well, decode-valid}
-use Rattle.commands.specs.Refusal.{errorLine, bufferLeast, earlyMost, lateMost}
+use Rattle.commands.specs.Refusal.{RefusalRow, table, errorLine, bufferLeast, earlyLeast, earlyMost, lateLeast, lateMost}
 use Rattle.commands.specs.Command.{Command, Pair, keyOf, fieldsOf}
 use Rattle.commands.specs.Command.Command.{setMany}
 use Rattle.commands.specs.Parse.{parse}
@@ -30,33 +32,71 @@ use Rattle.commands.specs.Execute.{sweep, swept, room, added, exec, execBytes}
 use Rattle.commands.specs.Claims.{Proper, names, lastOf, Written, Step, execAll}
 use Rattle.commands.specs.Examples.{given, expected, markedExamples}
 use Rattle.commands.proofs.Examples as commandExamples
-use Rattle.commands.proofs.Refused.{refused-reply, late-refusal, refused-keeps-live}
+use Rattle.commands.proofs.Refused.{protocol-exactly, refusal-number, refusal-row, refused-reply, late-refusal, refused-keeps-live}
 use Rattle.commands.proofs.Sweep.{room-sweep}
 use Rattle.commands.proofs.Others.{others-kept}
 use Rattle.commands.proofs.AllOrNone.{all-set}
-use Rattle.commands.proofs.Clock.{clock-is-now, clock-forward-all, dead-stays-dead}
+use Rattle.commands.proofs.Clock.{clock-is-now, clock-forward-all, dead-at-clock, dead-stays-dead}
 use Rattle.commands.proofs.Full.{full-exactly, full-accepted, done-exactly}
+use Rattle.commands.proofs.SomeReply.{exec-some}
 use Rattle.commands.proofs.Keeps.{execBytes-well, execBytes-means, execBytes-length}
 use Rattle.feeder.specs.declared.Feeder.{Feeder}
+use Rattle.feeder.specs.Record.{Record}
 use Rattle.feeder.specs.Stream.{divide, doAll}
-use Rattle.feeder.specs.State.{fresh}
+use Rattle.feeder.specs.Parts.{parts, partBytes, recordsOf, isStray, recordSizes}
+use Rattle.feeder.specs.State.{fresh, waitingIn, isLeft}
+use Rattle.feeder.specs.Absorb.{absorb}
 use Rattle.feeder.specs.Pieces.{untaken, next, absorbAll, Uses}
 use Rattle.feeder.specs.Feed.{feed}
 use Rattle.feeder.specs.Calls.{Call, AllBytes, Total, Ran, begin, callAll, answerTo, acceptedPieces, doneFor, uncut, Untouched, Answered, offeringAll}
+use Rattle.feeder.proofs.StreamParts as streamParts
 use Rattle.feeder.proofs.Refusals as refusals
 use Rattle.feeder.proofs.ListOfPieces as pieces
 use Rattle.feeder.proofs.ListOfCalls as calls
 
 -- ════ Demand 1: refusals
 
+-- That nothing traps is no theorem here: `Feeder::feed` and every exported function (crates/exhash) have no `requires`, and the checker proves of
+-- each function that it returns, with no index out of range and no sum that wraps.
+
+-- A call is refused with 1 exactly if its state is none that feeding leaves, with 2 exactly if it is one and the store is not well formed, with 3
+-- exactly if both are fine and the buffer is under 56,000 bytes; otherwise the answer is 0.
+pub refused-exactly : (f : Feeder) (piece b buffer : List ℕ)
+    → let n = feed f piece b buffer .fed .refusal in
+    ((n ≡ 1) ↔ (isLeft f ≡ false))
+    × ((n ≡ 2) ↔ ((isLeft f ≡ true) × (wellFormed b ≡ false)))
+    × ((n ≡ 3) ↔ ((isLeft f ≡ true) × (wellFormed b ≡ true) × (length buffer < bufferLeast)))
+    × ((n ≡ 0) ↔ ((isLeft f ≡ true) × (wellFormed b ≡ true) × (bufferLeast ≤ length buffer)))
+refused-exactly = refusals.refused-exactly
+
 -- A refused call uses no byte, skips none, replies nothing, hands its state back and changes no lent memory, whatever it got.
 pub refused-call : (f : Feeder) (piece b buffer : List ℕ) → feed f piece b buffer .fed .refusal ≢ 0 → Untouched f b buffer (feed f piece b buffer)
 refused-call = refusals.refused-call
+
+-- A record is refused with 10 exactly if its command is not RESP.
+pub protocol-exactly-if : (clock : ℕ) (command : List ℕ) (s : Store) → (exec clock command s .refusal ≡ some 10) ↔ (wordsOf command ≡ none)
+protocol-exactly-if = protocol-exactly
+
+-- The number of a refused command is one of 10 to 18 or of 20 to 24, and a row of the table has it; its line is the row's text and CR LF.
+pub refusal-numbered : (clock : ℕ) (command : List ℕ) (s : Store) (n : ℕ) → exec clock command s .refusal ≡ some n
+    → ((earlyLeast ≤ n) × (n ≤ earlyMost)) ⊎ ((lateLeast ≤ n) × (n ≤ lateMost))
+refusal-numbered = refusal-number
+
+pub refusal-in-table : (clock : ℕ) (command : List ℕ) (s : Store) (n : ℕ) → exec clock command s .refusal ≡ some n
+    → (r : RefusalRow) × List·Mem r table × (r .number ≡ n) × (errorLine n ≡ text (r .reply) ++ crlf)
+unfolding line
+refusal-in-table = refusal-row
 
 -- The reply of a refused command is its line alone.
 pub refused-line : (clock : ℕ) (command : List ℕ) (s : Store) (n : ℕ) → exec clock command s .refusal ≡ some n
     → exec clock command s .reply ≡ errorLine n
 refused-line = refused-reply
+
+-- After a call whose record is refused with n the reply buffer is n's line laid over what it held, and the reply is as long as the line.
+pub refused-buffer : (f : Feeder) (piece b buffer : List ℕ) → feed f piece b buffer .fed .refusal ≡ 0
+    → (r : Record) → absorb (waitingIn f) piece .completed ≡ some r → (n : ℕ) → exec (r .clock) (r .command) (decode b) .refusal ≡ some n
+    → (feed f piece b buffer .buffer ≡ laidOver (errorLine n) buffer) × (feed f piece b buffer .fed .replied ≡ length (errorLine n))
+refused-buffer = refusals.refused-writes
 
 -- A command refused by 10 to 18 leaves the store byte for byte, its clock too.
 pub early-refusal-leaves : (clock : ℕ) (command b : List ℕ) (n : ℕ) → wellFormed b ≡ true → exec clock command (decode b) .refusal ≡ some n
@@ -68,7 +108,7 @@ pub late-refusal-leaves : (clock : ℕ) (command : List ℕ) (s : Store) (n : �
     → (c : Command)
     × (parse (nowAt clock s) clock command ≡ accepted c)
     × (exec clock command s .store ≡ swept (nowAt clock s) (keyOf c) (fieldsOf c) (withClock (nowAt clock s) s))
-    × (20 ≤ n)
+    × (lateLeast ≤ n)
     × (n ≤ lateMost)
 late-refusal-leaves = late-refusal
 
@@ -78,11 +118,28 @@ pub refused-keeps : (clock : ℕ) (command : List ℕ) (s : Store) (n : ℕ) →
     → getD (exec clock command s .store .slots) i none ≡ some e
 refused-keeps = refused-keeps-live
 
-pub refused-keeps-bytes : (clock : ℕ) (command b : List ℕ) (n : ℕ) → Bytes command → wellFormed b ≡ true
-    → exec clock command (decode b) .refusal ≡ some n
+pub refused-keeps-bytes : (clock : ℕ) (command b : List ℕ) (n : ℕ) → wellFormed b ≡ true → exec clock command (decode b) .refusal ≡ some n
     → (i : ℕ) (e : Entry) → i < slotCount b → getD (decode b .slots) i none ≡ some e → live (nowAt clock (decode b)) e ≡ true
     → part (headerSize + slotSize * i) slotSize (execBytes clock command b .store) ≡ part (headerSize + slotSize * i) slotSize b
 refused-keeps-bytes = refusals.live-bytes
+
+-- A stray byte is skipped and counted. A stream is as long as the bytes skipped, 12 and its command's length for each record, and the rest.
+pub every-byte-counted : (s : List ℕ) → length s ≡ divide s .skipped + recordSizes (divide s .records) + length (divide s .rest)
+every-byte-counted = streamParts.every-counted
+
+-- A stream of bytes is its parts joined in order, each one skipped byte or the bytes of one record, and then the rest; the single bytes number
+-- `skipped`, and the records among the parts are `records`.
+pub stream-in-parts : (s : List ℕ) → Bytes s → flatMap partBytes (parts s) ++ divide s .rest ≡ s
+unfolding parts divide
+stream-in-parts s = streamParts.parts-joined 0 s zero-le
+
+pub strays-are-skipped : (s : List ℕ) → length (keep isStray (parts s)) ≡ divide s .skipped
+unfolding parts divide
+strays-are-skipped = streamParts.parts-skipped 0
+
+pub records-are-parts : (s : List ℕ) → flatMap recordsOf (parts s) ≡ divide s .records
+unfolding parts divide
+records-are-parts = streamParts.parts-records 0
 
 -- ════ Demand 2: commands
 
@@ -149,6 +206,19 @@ pub dead-for-good : (r : Step) (rs : List Step) (next : Step) (s : Store) (c : C
     → live (nowAt (next .clock) (execAll (r ∷ rs) s)) e ≡ false
 dead-for-good = dead-stays-dead
 
+-- An entry that is dead at the store's own clock is live at no later record, whatever clock that record brings: a slow handset cannot wake it.
+pub dead-stays : (rs : List Step) (next : Step) (s : Store) (e : Entry) → live (s .clock) e ≡ false
+    → live (nowAt (next .clock) (execAll rs s)) e ≡ false
+dead-stays = dead-at-clock
+
+-- No reply is empty, so a call that is not refused has reply length 0 exactly if it completes no record.
+pub reply-not-empty : (clock : ℕ) (command : List ℕ) (s : Store) → 1 ≤ length (exec clock command s .reply)
+reply-not-empty = exec-some
+
+pub replied-exactly-if : (f : Feeder) (piece b buffer : List ℕ) → feed f piece b buffer .fed .refusal ≡ 0
+    → (feed f piece b buffer .fed .replied ≡ 0) ↔ (absorb (waitingIn f) piece .completed ≡ none)
+replied-exactly-if = refusals.replied-exactly
+
 -- No reply on a well-formed store is longer than 56,000 bytes, so a call's reply lies in its buffer.
 pub reply-fits : (clock : ℕ) (command b : List ℕ) → wellFormed b ≡ true → length (execBytes clock command b .reply) ≤ bufferLeast
 reply-fits = refusals.reply-short
@@ -187,10 +257,10 @@ module _ (b : List ℕ) (well : wellFormed b ≡ true) where
       (unfold doneFor in calls.halves-uncut b well (absorbAll untaken (acceptedPieces cs)) (demand-3-stream (acceptedPieces cs)))
 
   -- "For every list of feeding calls from there, refused ones included, whatever piece and whatever reply buffer each brings, this holds after
-  -- it." The same of the code: whatever calls of `Feeder::feed` a program makes, each with the state that the last one handed back and the store
-  -- as it left it, the joined replies, the total skipped, the bytes left waiting and the whole store are those of the definition.
-  pub demand-3-code : {cs : List Call} {t : Total} → AllBytes cs → Ran (begin b) cs t → t ≡ uncut (t .used) b
-  demand-3-code {cs} bytes r =
+  -- it." The same of whatever a program does with calls whose answers meet the promise of `Feeder::feed` (its `ensures`, crates/feeder/src/feed.rt,
+  -- which the checker ties to the code), each with the state that the last one handed back and the store as it left it.
+  pub demand-3-promised : {cs : List Call} {t : Total} → AllBytes cs → Ran (begin b) cs t → t ≡ uncut (t .used) b
+  demand-3-promised {cs} bytes r =
       let e = calls.ran-as-called r in
       e ∙ demand-3 cs bytes ∙ ap (λ (u : Total). uncut (u .used) b) (sym e)
 
@@ -201,13 +271,14 @@ module _ (b : List ℕ) (well : wellFormed b ≡ true) where
       rw (demand-3-records cs bytes)
       (calls.call-answered b well (absorbAll untaken (acceptedPieces cs)) (calls.end-reached b well cs bytes) c)
 
-  -- Cutting a stream anywhere and offering each piece until it is used up uses the whole stream, so it gives the uncut answer.
-  pub demand-3-cut : (buffer : List ℕ) → bufferLeast ≤ length buffer → (pieces : List (List ℕ)) → ((i : ℕ) → Bytes (getD pieces i []))
-      → callAll (begin b) (offeringAll buffer pieces (begin b)) ≡ uncut (flatten pieces) b
+  -- Cutting a stream anywhere and offering each piece until it is used up, whatever buffer of at least 56,000 bytes each call brings, uses the whole
+  -- stream, so it gives the uncut answer.
+  pub demand-3-cut : (buffers : ℕ → List ℕ) → ((k : ℕ) → bufferLeast ≤ length (buffers k)) → (pieces : List (List ℕ)) → ((i : ℕ) → Bytes (getD pieces i []))
+      → callAll (begin b) (offeringAll buffers pieces (begin b)) ≡ uncut (flatten pieces) b
   unfolding begin fresh doneFor doAll untaken
-  demand-3-cut buffer large pieces bytes =
-      demand-3 (offeringAll buffer pieces (begin b)) (calls.offeringAll-bytes b well buffer large pieces (begin b) bytes)
-      ∙ ap (λ (s : List ℕ). uncut s b) (calls.offeringAll-used b well buffer large pieces untaken bytes (calls.untaken-reached b well))
+  demand-3-cut buffers large pieces bytes =
+      demand-3 (offeringAll buffers pieces (begin b)) (calls.offeringAll-bytes buffers pieces (begin b) bytes)
+      ∙ ap (λ (s : List ℕ). uncut s b) (calls.offeringAll-used b well buffers large pieces untaken bytes (calls.untaken-reached b well))
 
 -- ════ Round trips
 

@@ -1,8 +1,8 @@
 -- The definitions give every row of the paper's worked streams.
 use mathlib.Core.Path.{_≡_, refl}
 use mathlib.Core.List.{map}
-use Rattle.feeder.specs.Record.{recordOf}
-use Rattle.feeder.specs.Examples.{wholeExample, recordBytes, given, expected, workedStreams}
+use Rattle.feeder.specs.Record.{recordOf, recordBytes}
+use Rattle.feeder.specs.Examples.{wholeExample, given, expected, workedStreams}
 use Rattle.feeder.proofs.Computing.{computing}
 
 -- each stream's replies, bytes skipped, rest and store

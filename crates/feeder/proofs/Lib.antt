@@ -8,6 +8,7 @@ pub mod Examples
 -- The record and a stream's division: what more bytes and fewer bytes do to them.
 pub mod RecordHead
 pub mod StreamDivide
+pub mod StreamParts
 pub mod FirstRecord
 -- States, one absorbing call, and lists of them: the stream's half of demand 3.
 pub mod StateLeft

@@ -88,6 +88,25 @@ join-bytes : (cs ds : List Call) → AllBytes cs → AllBytes ds → AllBytes (c
 join-bytes [] ds p q = q
 join-bytes (c ∷ cs) ds p q = (p .0, join-bytes cs ds (p .1) q)
 
+-- the calls that offer bytes bring bytes
+offering-bytes : (n : ℕ) (buffers : ℕ → List ℕ) (piece : List ℕ) (t : Total) → Bytes piece → AllBytes (offering n buffers piece t)
+unfolding offering
+offering-bytes zero buffers piece t bs = tt
+offering-bytes (suc n) buffers [] t bs = tt
+offering-bytes (suc n) buffers (x ∷ s) t bs =
+    let c : Call = record { piece = x ∷ s; buffer = buffers 0 } in
+    let u : ℕ = answerTo t c .fed .used in
+    (bs, offering-bytes n (λ k. buffers (suc k)) (drop u (x ∷ s)) (tally t c (answerTo t c)) (bytes-drop u (x ∷ s) bs))
+
+pub offeringAll-bytes : (buffers : ℕ → List ℕ) (ps : List (List ℕ)) (t : Total) → ((i : ℕ) → Bytes (getD ps i [])) → AllBytes (offeringAll buffers ps t)
+unfolding offeringAll
+offeringAll-bytes buffers [] t bs = tt
+offeringAll-bytes buffers (p ∷ ps) t bs =
+    let cs : List Call = offering (length p) buffers p t in
+    let later : ℕ → List ℕ = λ k. buffers (length cs + k) in
+    join-bytes cs (offeringAll later ps (callAll t cs)) (offering-bytes (length p) buffers p t (bs 0))
+    (offeringAll-bytes later ps (callAll t cs) (λ i. bs (suc i)))
+
 -- ---- one call after a list of calls
 
 -- a number is not below another and at least it
@@ -218,72 +237,74 @@ module _ (b : List ℕ) (well : wellFormed b ≡ true) where
 
   -- ---- offering pieces until they are used up
 
-  module _ (buffer : List ℕ) (large : bufferLeast ≤ length buffer) where
-    offering-bytes : (n : ℕ) (piece : List ℕ) (t : Total) → Bytes piece → AllBytes (offering n buffer piece t)
-    unfolding offering
-    offering-bytes zero piece t bs = tt
-    offering-bytes (suc n) piece t bs =
-        let c : Call = record { piece = piece; buffer = buffer } in
-        (bs, offering-bytes n (drop (answerTo t c .fed .used) piece) (tally t c (answerTo t c)) (bytes-drop (answerTo t c .fed .used) piece bs))
+  -- n calls use a piece of at most n bytes up
+  abbrev UsedUp : ℕ → (ℕ → List ℕ) → Type 0
+  UsedUp n buffers =
+      (piece : List ℕ) (t : Taken) → length piece ≤ n → Bytes piece → Reached t
+      → callAll (doneFor b t) (offering n buffers piece (doneFor b t)) .used ≡ t .used ++ piece
 
-    -- a piece of at most n bytes is used up by n calls
-    offering-used : (n : ℕ) (piece : List ℕ) (t : Taken) → length piece ≤ n → Bytes piece → Reached t
-        → callAll (doneFor b t) (offering n buffer piece (doneFor b t)) .used ≡ t .used ++ piece
-    unfolding offering callAll
-    offering-used zero piece t l bs r =
-        let e : piece ≡ [] = sym (take-all 0 piece l) in
-        rw e (unfold doneFor in sym (append-nil (t .used)))
-    offering-used (suc n) piece t l bs r =
-        rw (call-done t r c) (offering-used n (drop u piece) (after t c) fewer (bytes-drop u piece bs) (after-reached t c r bs))
-        ∙ added
-        ∙ append-assoc (t .used) (take u piece) (drop u piece)
-        ∙ ap (λ (s : List ℕ). t .used ++ s) (take-append-drop u piece)
-      where
-        c : Call
-        c = record { piece = piece; buffer = buffer }
+  -- one call leaves less of a piece
+  offering-one : (n : ℕ) (buffers : ℕ → List ℕ) → bufferLeast ≤ length (buffers 0) → UsedUp n (λ k. buffers (suc k))
+      → (x : ℕ) (s : List ℕ) (t : Taken) → length s ≤ n → Bytes (x ∷ s) → Reached t
+      → callAll (doneFor b t) (offering (suc n) buffers (x ∷ s) (doneFor b t)) .used ≡ t .used ++ (x ∷ s)
+  unfolding offering callAll
+  offering-one n buffers large later x s t l bs r =
+      rw (call-done t r c) (later (drop u (x ∷ s)) (after t c) fewer (bytes-drop u (x ∷ s) bs) (after-reached t c r bs))
+      ∙ added
+      ∙ append-assoc (t .used) (take u (x ∷ s)) (drop u (x ∷ s))
+      ∙ ap (λ (y : List ℕ). t .used ++ y) (take-append-drop u (x ∷ s))
+    where
+      c : Call
+      c = record { piece = x ∷ s; buffer = buffers 0 }
 
-        u : ℕ
-        u = answerTo (doneFor b t) c .fed .used
+      u : ℕ
+      u = answerTo (doneFor b t) c .fed .used
 
-        added : after t c .used ++ drop u piece ≡ t .used ++ take u piece ++ drop u piece
-        added = unfold doneFor tally in ap (λ (x : Total). x .used ++ drop u piece) (sym (call-done t r c))
+      added : after t c .used ++ drop u (x ∷ s) ≡ t .used ++ take u (x ∷ s) ++ drop u (x ∷ s)
+      added = unfold doneFor tally in ap (λ (y : Total). y .used ++ drop u (x ∷ s)) (sym (call-done t r c))
 
-        fewer : length (drop u piece) ≤ n
-        fewer = go piece refl
-          where
-            go : (s : List ℕ) → piece ≡ s → length (drop u piece) ≤ n
-            go [] e = rw (length-drop, e) (omega arith)
-            go (x ∷ s) e =
-                let some : 1 ≤ u = call-answered t r c .some-used large (rw e (omega arith)) in
-                rw length-drop (omega arith)
+      fewer : length (drop u (x ∷ s)) ≤ n
+      fewer =
+          let some : 1 ≤ u = call-answered t r c .some-used large (omega arith) in
+          rw (length-drop u (x ∷ s)) (omega arith)
 
-    pub offeringAll-bytes : (ps : List (List ℕ)) (t : Total) → ((i : ℕ) → Bytes (getD ps i [])) → AllBytes (offeringAll buffer ps t)
-    unfolding offeringAll
-    offeringAll-bytes [] t bs = tt
-    offeringAll-bytes (p ∷ ps) t bs =
-        let cs : List Call = offering (length p) buffer p t in
-        join-bytes cs (offeringAll buffer ps (callAll t cs)) (offering-bytes (length p) p t (bs 0))
-        (offeringAll-bytes ps (callAll t cs) (λ i. bs (suc i)))
+  offering-used : (n : ℕ) (buffers : ℕ → List ℕ) → ((k : ℕ) → bufferLeast ≤ length (buffers k)) → UsedUp n buffers
+  unfolding offering callAll
+  offering-used zero buffers large piece t l bs r =
+      let e : piece ≡ [] = sym (take-all 0 piece l) in
+      rw e (unfold doneFor in sym (append-nil (t .used)))
+  offering-used (suc n) buffers large piece t l bs r = go piece l bs (offering-used n (λ k. buffers (suc k)) (λ k. large (suc k)))
+    where
+      go : (p : List ℕ) → length p ≤ suc n → Bytes p → UsedUp n (λ k. buffers (suc k))
+          → callAll (doneFor b t) (offering (suc n) buffers p (doneFor b t)) .used ≡ t .used ++ p
+      go [] l bs later = unfold doneFor in sym (append-nil (t .used))
+      go (x ∷ s) l bs later = offering-one n buffers (large 0) later x s t (omega arith) bs r
 
-    -- the pieces of a stream are used up
-    pub offeringAll-used : (ps : List (List ℕ)) (t : Taken) → ((i : ℕ) → Bytes (getD ps i [])) → Reached t
-        → callAll (doneFor b t) (offeringAll buffer ps (doneFor b t)) .used ≡ t .used ++ flatten ps
-    unfolding offeringAll flatten
-    offeringAll-used [] t bs r = unfold callAll doneFor in sym (append-nil (t .used))
-    offeringAll-used (p ∷ ps) t bs r =
-        rw (call-more (doneFor b t) cs (offeringAll buffer ps (callAll (doneFor b t) cs)), first .0)
-        (offeringAll-used ps (absorbAll t (acceptedPieces cs)) (λ i. bs (suc i)) (first .1))
-        ∙ ap (λ (s : List ℕ). s ++ flatten ps) used
-        ∙ append-assoc (t .used) p (flatten ps)
-      where
-        cs : List Call
-        cs = offering (length p) buffer p (doneFor b t)
+  -- the pieces of a stream are used up
+  pub offeringAll-used : (buffers : ℕ → List ℕ) → ((k : ℕ) → bufferLeast ≤ length (buffers k))
+      → (ps : List (List ℕ)) (t : Taken) → ((i : ℕ) → Bytes (getD ps i [])) → Reached t
+      → callAll (doneFor b t) (offeringAll buffers ps (doneFor b t)) .used ≡ t .used ++ flatten ps
+  unfolding offeringAll flatten
+  offeringAll-used buffers large [] t bs r = unfold callAll doneFor in sym (append-nil (t .used))
+  offeringAll-used buffers large (p ∷ ps) t bs r =
+      rw (call-more (doneFor b t) cs (offeringAll later ps (callAll (doneFor b t) cs)), first .0)
+      (offeringAll-used later (λ k. large (length cs + k)) ps (absorbAll t (acceptedPieces cs)) (λ i. bs (suc i)) (first .1))
+      ∙ ap (λ (s : List ℕ). s ++ flatten ps) used
+      ∙ append-assoc (t .used) p (flatten ps)
+    where
+      cs : List Call
+      cs = offering (length p) buffers p (doneFor b t)
 
-        first : (callAll (doneFor b t) cs ≡ doneFor b (absorbAll t (acceptedPieces cs))) × Reached (absorbAll t (acceptedPieces cs))
-        first = all-done t r cs (offering-bytes (length p) p (doneFor b t) (bs 0))
+      later : ℕ → List ℕ
+      later = λ k. buffers (length cs + k)
 
-        used : absorbAll t (acceptedPieces cs) .used ≡ t .used ++ p
-        used = unfold doneFor in ap (λ (x : Total). x .used) (sym (first .0)) ∙ offering-used (length p) p t (omega arith) (bs 0) r
+      first : (callAll (doneFor b t) cs ≡ doneFor b (absorbAll t (acceptedPieces cs))) × Reached (absorbAll t (acceptedPieces cs))
+      first = all-done t r cs (offering-bytes (length p) buffers p (doneFor b t) (bs 0))
+
+      used : absorbAll t (acceptedPieces cs) .used ≡ t .used ++ p
+      used =
+          unfold doneFor in
+          ap (λ (x : Total). x .used) (sym (first .0)) ∙ offering-used (length p) buffers large p t (omega arith) (bs 0) r
 
 -- ---- calls as they ran
 

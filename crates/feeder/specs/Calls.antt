@@ -70,7 +70,9 @@ doneFor b t =
       store = done .store;
     }
 
--- calls as a program made them: each answer is one that `Feeder::feed` promises for the state, the piece, the store and the buffer that it got
+-- What a program may have done: a list of calls, each with the state and the store that the one before left, whose answers are any that meet the
+-- promise of `Feeder::feed`. That promise, the `ensures` of `Feeder::feed` in src/feed.rt, is the equation asked for here; so what `feed` answers
+-- is such an answer.
 pub data Ran : Total → List Call → Total → Type 0 where
   ended : {t : Total} → Ran t [] t
   called : {t u : Total} {c : Call} {cs : List Call} (a : Answer) → a ≡ feed (t .feeder) (c .piece) (t .store) (c .buffer)
@@ -103,16 +105,17 @@ pub record Answered (t : Total) (c : Call) (a : Answer) : Type 0 where
 
 -- ---- "Cutting a stream anywhere and offering each piece until it is used up is one such list."
 
--- n calls, each with what the one before left of a piece
-unfoldable pub offering : ℕ → List ℕ → List ℕ → Total → List Call
-offering zero buffer piece t = []
-offering (suc n) buffer piece t =
-    let c : Call = record { piece = piece; buffer = buffer } in
-    c ∷ offering n buffer (drop (answerTo t c .fed .used) piece) (tally t c (answerTo t c))
+-- What is left of a piece is offered until it is used up, in at most n calls; the buffers are those of the calls, in order.
+unfoldable pub offering : ℕ → (ℕ → List ℕ) → List ℕ → Total → List Call
+offering zero buffers piece t = []
+offering (suc n) buffers [] t = []
+offering (suc n) buffers (b ∷ s) t =
+    let c : Call = record { piece = b ∷ s; buffer = buffers 0 } in
+    c ∷ offering n (λ k. buffers (suc k)) (drop (answerTo t c .fed .used) (b ∷ s)) (tally t c (answerTo t c))
 
--- the pieces of a stream in order, each offered until it is used up: as many calls as it has bytes are enough
-unfoldable pub offeringAll : List ℕ → List (List ℕ) → Total → List Call
-offeringAll buffer [] t = []
-offeringAll buffer (p ∷ ps) t =
-    let cs : List Call = offering (length p) buffer p t in
-    cs ++ offeringAll buffer ps (callAll t cs)
+-- the pieces of a stream in order: as many calls as a piece has bytes are enough for it
+unfoldable pub offeringAll : (ℕ → List ℕ) → List (List ℕ) → Total → List Call
+offeringAll buffers [] t = []
+offeringAll buffers (p ∷ ps) t =
+    let cs : List Call = offering (length p) buffers p t in
+    cs ++ offeringAll (λ k. buffers (length cs + k)) ps (callAll t cs)

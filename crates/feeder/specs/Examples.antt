@@ -3,10 +3,9 @@ use mathlib.Core.List.{List, [], _∷_, _++_}
 use mathlib.Core.Option.{none}
 use Prim.Native.Nat.{ℕ}
 use Prim.Native.String.{String}
-use lib.ListN.{length}
-use Rattle.wire.specs.Bytes.{text, toLE}
+use Rattle.wire.specs.Bytes.{text}
 use Rattle.store.specs.Store.{encode}
-use Rattle.feeder.specs.Record.{Record, firstMark, secondMark}
+use Rattle.feeder.specs.Record.{recordBytes}
 use Rattle.feeder.specs.Stream.{Meaning, meaning}
 
 -- "clock 1000, `EXHGET m t1`: 45 57 E8 03 00 00 00 00 00 00 1F 00, then the 31 bytes"
@@ -14,10 +13,6 @@ unfoldable pub wholeExample : List ℕ
 wholeExample =
     (0x45 ∷ 0x57 ∷ 0xe8 ∷ 0x03 ∷ 0x00 ∷ 0x00 ∷ 0x00 ∷ 0x00 ∷ 0x00 ∷ 0x00 ∷ 0x1f ∷ 0x00 ∷ [])
     ++ text "*3\r\n$6\r\nEXHGET\r\n$1\r\nm\r\n$2\r\nt1\r\n"
-
--- a record as it is sent
-unfoldable pub recordBytes : Record → List ℕ
-recordBytes r = (firstMark ∷ secondMark ∷ []) ++ toLE 8 (r .clock) ++ toLE 2 (length (r .command)) ++ r .command
 
 unfoldable pub emptyAt : ℕ → List ℕ
 emptyAt clock = encode (record { clock = clock; slots = none ∷ [] })

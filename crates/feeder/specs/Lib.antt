@@ -1,7 +1,8 @@
--- The feeder: the record, a stream's division and its whole meaning, the state, absorbing, lists of absorbing calls, one feeding call, lists
+-- The feeder: the record, a stream's division, its whole meaning and its parts, the state, absorbing, lists of absorbing calls, one feeding call, lists
 -- of feeding calls; then what the functions promise, and worked streams.
 pub mod Record
 pub mod Stream
+pub mod Parts
 pub mod State
 pub mod Absorb
 pub mod Pieces

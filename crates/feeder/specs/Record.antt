@@ -1,11 +1,11 @@
 -- The record (01, "The record"): "Mark 45 57 (hexadecimal), then the clock in ms (8 bytes, low first), then L (2 bytes, low first), then L
 -- bytes of command. L is 1 to 1,024."
 use mathlib.Core.Bool.{cond, not, _||_}
-use mathlib.Core.List.{List}
+use mathlib.Core.List.{List, [], _∷_, _++_}
 use Prim.Native.Nat.{ℕ, _+_}
 use lib.Dec.{ltb, eqb}
 use lib.ListN.{length, getD}
-use Rattle.wire.specs.Bytes.{fromLE, part}
+use Rattle.wire.specs.Bytes.{fromLE, toLE, part}
 
 abbrev pub firstMark : ℕ
 firstMark = 0x45
@@ -56,3 +56,7 @@ headOf s =
 -- the record at the start of bytes, with a command of n bytes
 unfoldable pub recordOf : ℕ → List ℕ → Record
 recordOf n s = record { clock = fromLE (part clockAt 8 s); command = part commandAt n s }
+
+-- a record as it is sent
+unfoldable pub recordBytes : Record → List ℕ
+recordBytes r = (firstMark ∷ secondMark ∷ []) ++ toLE 8 (r .clock) ++ toLE 2 (length (r .command)) ++ r .command
