@@ -81,7 +81,7 @@ typedef struct {
     uint32_t refusal;  /* 0, or 1 to 3 */
     size_t used;       /* bytes used, from the piece's start */
     size_t skipped;    /* bytes told in this call to be in no record, also those that waited: it can exceed used */
-    size_t reply_len;  /* bytes of reply at the buffer's start; 0 if no record was completed */
+    size_t reply_len;  /* bytes of reply at the buffer's start; 0 exactly if no record was completed */
     exh_feeder feeder; /* the state for the next call */
 } exh_fed;
 
@@ -95,7 +95,8 @@ exh_feeder exh_feeder_fresh(void);
  *
  * With a record completed, its reply stands at the start of the reply buffer and the bytes after it are as they were. A
  * command that is refused is a completed record too: refusal is 0, and the reply is its error line ("-ERR ...\r\n").
- * With no record completed, store and reply buffer are as they were.
+ * With no record completed, store and reply buffer are as they were. No reply is empty: reply_len is 0 exactly if no
+ * record was completed.
  *
  * The three refusals are looked for first, also for an empty piece. A refused call uses and skips no byte, changes
  * neither store nor reply buffer and hands the state back as it came, so it can be made again with what was wrong put

@@ -1,4 +1,4 @@
-// The C interface: thin exported functions, no logic.
+// The C interface: thin exported functions, no logic. None has a `requires`: each answers and never traps, whatever bytes it gets.
 use feeder::Fed;
 use feeder::Feeder;
 ghost use mathlib.Core.Path.{_≡_};

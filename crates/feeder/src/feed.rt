@@ -79,7 +79,8 @@ fn reply_to(
 }
 
 impl Feeder {
-    // One call: takes bytes of a piece, and does the record that they complete.
+    // One call: takes bytes of a piece, and does the record that they complete. It asks nothing, so it answers and never traps, whatever state, piece,
+    // store and buffer it gets: damage is refused by number.
     pub fn feed(mut self, piece: &[u8], store: &mut [u8], reply: &mut [u8]) -> Fed
         ensures { λ r.
             ⌜ record { fed = r; store = now (store .exit); buffer = now (reply .exit) }
