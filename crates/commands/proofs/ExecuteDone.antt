@@ -21,7 +21,6 @@ use Rattle.store.specs.Time.{nowAt}
 use Rattle.store.specs.Promises.{Holds}
 use Rattle.store.proofs.Encode.{encode-decode, decode-valid}
 use Rattle.commands.specs.declared.FieldDeed.{FieldDeed}
-use Rattle.commands.specs.declared.FieldDeed.the-variants as fieldDeeds
 use Rattle.commands.specs.declared.KeyDeed.{KeyDeed}
 use Rattle.commands.specs.declared.Parsed.{Parsed}
 use Rattle.commands.specs.declared.Parsed.the-variants as parses
@@ -34,12 +33,11 @@ use Rattle.commands.specs.Parse.Parsed.{refused, accepted}
 use Rattle.commands.specs.Execute.{runOn, run, perform, exec, execBytes}
 use Rattle.commands.specs.TablePromises.{leastOf}
 use Rattle.commands.specs.ParsePromises.{Divided, meant, deedOf, commandFor, isRefusal}
-use Rattle.commands.specs.Promises.{Does, Replied, Opened, WithinLimits, amountFits}
+use Rattle.commands.specs.Promises.{Does, Replied, Opened, WithinLimits}
 use Rattle.commands.proofs.Acts.{holds-self}
 use Rattle.commands.proofs.ParseChecks.{checks-clear, scannedOf, saidBy, parse-known, parse-accepted}
 use Rattle.commands.proofs.Sound.{parse-clock}
 use Rattle.commands.proofs.Keeps.{now-early}
-use Rattle.commands.proofs.ParseFromBytes.{parse-amount}
 
 -- what is done on what the bytes mean is done on the bytes
 pub does-exec : (clock : ℕ) (command b : List ℕ) {after d x : List ℕ} {r : ℕ} → Does (exec clock command (decode b)) after d x r
@@ -149,18 +147,6 @@ module _ (clock : ℕ) (command b : List ℕ) (w : wellFormed b ≡ true) (ws : 
 
     pub field-opened : {o : List ℕ} → bufferLeast ≤ length o → Opened time b o
     field-opened l = record { well = w; soon = accepted-time clock command b w t fieldCommand on-field; room = l }
-
-    pub field-amount : amountFits d ≡ true
-    unfolding amountFits deedOf
-    field-amount = go d on-field
-      where
-        go : (g : FieldDeed) → parse time clock command ≡ accepted (onField (wordAt 1 ws) (wordAt 2 ws) (deedOf (wordAt 3 ws) g)) → amountFits g ≡ true
-        go (fieldDeeds.Assign c n l) h = refl
-        go (fieldDeeds.Increment s n l) h = parse-amount time clock command h
-        go (fieldDeeds.Expire i n) h = refl
-        go fieldDeeds.Persist h = refl
-        go (fieldDeeds.Renumber n) h = refl
-        go (fieldDeeds.Ask a) h = refl
 
     pub field-done : {after o x : List ℕ} {r : ℕ} → Does (run time fieldCommand (decode b)) after o x r → Does (exec clock command (decode b)) after o x r
     field-done h = accepted-done clock command b w t fieldCommand on-field h

@@ -5,7 +5,7 @@ use mathlib.Core.List.{List, []}
 use mathlib.Core.Option.{Option, none, some}
 use Prim.Native.Nat.{ℕ, _≤_, _<_}
 use native.Mathlib.Omega.{arith}
-use lib.IntN.{ℤ, pos, _+ℤ_}
+use lib.IntN.{ℤ, _+ℤ_}
 use lib.Signed.{leZ}
 use lib.ListN.{length, take, getD}
 use borrow.Author.Tests.{not-true, not-false}
@@ -17,7 +17,7 @@ use Rattle.wire.specs.declared.integers.Signed.{Signed}
 use Rattle.wire.specs.declared.integers.Integer.{Integer}
 use Rattle.wire.specs.declared.integers.Integer.the-variants as integers
 use Rattle.wire.specs.Promises.{signedFor, integerFor, integerOf, Laid}
-use Rattle.wire.proofs.IntegerLaws.{read-within, length-integerText}
+use Rattle.wire.proofs.IntegerLaws.{length-integerText}
 use Rattle.wire.proofs.IntegerSigns.{sign-said}
 use Rattle.wire.proofs.ReplyLaws.{length-integer64}
 use Rattle.wire.proofs.ReplyLaying.{take-laid, laid-length, laid-within}
@@ -353,16 +353,6 @@ module _ (ss : List Slot) {found : Found} where
   pub stored-none : found ≡ founds.Nothing → integers.Value (record { negative = false; magnitude = 0 }) ≡ integerFor (counted (entryFor ss found))
   unfolding counted entryFor orElse integerFor signedFor
   stored-none h = rw h refl
-
--- is of 64 bits.
-counted-within : (o : Option Entry) (z : ℤ) → counted o ≡ some z → within lowest64 highest64 z ≡ true
-unfolding counted orElse within
-counted-within none z h = let e : pos 0 ≡ z = cc in rw (← e) refl
-counted-within (some e) z h = read-within lowest64 highest64 (e .value) z h
-
-pub stored-within : (ss : List Slot) (found : Found) {z : Signed} {r : Integer} → r ≡ integerFor (counted (entryFor ss found)) → r ≡ integers.Value z
-    → within lowest64 highest64 (integerOf z) ≡ true
-stored-within ss found {z} h q = counted-within (entryFor ss found) (integerOf z) (read-as (counted (entryFor ss found)) (sym q ∙ h))
 
 -- A sum and its bounds
 module _ (start : ℤ) (sum : Sum) where

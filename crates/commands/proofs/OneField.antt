@@ -9,7 +9,7 @@ use lib.Dec.{ltb}
 use lib.ListN.{length}
 use borrow.Author.Tests.{ltb-false}
 use Rattle.wire.specs.Lists.{any}
-use Rattle.wire.specs.Integers.{lowest64, highest64, within}
+use Rattle.wire.specs.Integers.{within}
 use Rattle.wire.specs.Replies.{integer}
 use Rattle.wire.specs.declared.integers.Signed.{Signed}
 use Rattle.wire.specs.Promises.{integerOf, Laid}
@@ -36,7 +36,7 @@ use Rattle.commands.specs.Parse.{tooLong, beyond, deedLifetime, onDeed}
 use Rattle.commands.specs.Effect.{Effect, barred, setEffect, incrementEffect, expireEffect, persistEffect, renumberEffect, deedEffect, effect}
 use Rattle.commands.specs.Execute.{settle, runOn, swept}
 use Rattle.commands.specs.ParsePromises.{deedOf, isRefusal}
-use Rattle.commands.specs.Promises.{Looked, Sought, Storable, WithinLimits, Does, Settles, Changes, answerMost, answerAbout, answersAbout, amountFits, entryFor, settledReply, tellable}
+use Rattle.commands.specs.Promises.{Looked, Sought, Storable, WithinLimits, Does, Settles, Changes, answerMost, answerAbout, answersAbout, entryFor, settledReply, tellable}
 use Rattle.commands.proofs.Acts.{holds-self}
 use Rattle.commands.proofs.VersionPlans.{barred-is}
 use Rattle.commands.proofs.Settling.{answer-settle, changes-as, changes-answer}
@@ -82,11 +82,6 @@ module _ {k f : List ℕ} (v : List ℕ) {deed : FieldDeed} (p : WithinLimits (o
   limits-expire {t} {n} e =
       let q : WithinLimits (onField k f (expire t n)) = rw e at p in
       ltb-false timeLimit t (q .timed)
-
-pub amount-within : {deed : FieldDeed} {u : Sum} {n : Versioning} {t : Lifetime} → amountFits deed ≡ true → deed ≡ deeds.Increment u n t
-    → within lowest64 highest64 (integerOf (u .amount)) ≡ true
-unfolding amountFits
-amount-within h e = rw e at h
 
 -- ---- the deed
 

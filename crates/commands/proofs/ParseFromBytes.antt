@@ -1,39 +1,30 @@
--- From a command's bytes to the checks of its row; what an accepted EXHINCRBY adds.
-use mathlib.Core.Path.{_≡_, refl, sym, ap, _∙_}
-use mathlib.Core.Bool.{Bool, true, false, cond, not}
+-- From a command's bytes to the checks of its row.
+use mathlib.Core.Path.{_≡_, sym, ap, _∙_}
+use mathlib.Core.Bool.{Bool, true, false, not}
 use mathlib.Core.List.{List}
-use mathlib.Core.Option.{Option, none, some, Option·getD}
+use mathlib.Core.Option.{Option, none, some}
 use Prim.Native.Nat.{ℕ, _≤_, _<_}
 use borrow.Author.Tests.{not-true, not-false, le-leb, lt-leb, ne-eqb}
-use lib.IntN.{ℤ, pos}
 use lib.ListN.{length}
 use Rattle.wire.specs.declared.names.RowFound.{RowFound}
 use Rattle.wire.specs.declared.names.RowFound.the-variants as rows
-use Rattle.wire.specs.Lists.{isSome, orElse}
-use Rattle.wire.specs.Integers.{readInteger, lowest64, highest64, within}
+use Rattle.wire.specs.Lists.{orElse}
 use Rattle.wire.specs.Words.{Word, wordsOf, wordAt}
 use Rattle.wire.specs.Promises.{wordsIn, rowFor, rowNamed}
-use Rattle.wire.proofs.Lists.{impossible}
 use Rattle.wire.proofs.NameRows.{row-nothing, row-at}
 use Rattle.wire.proofs.WordPlaces.{length-words}
-use Rattle.wire.proofs.IntegerLaws.{read-within}
 use Rattle.store.specs.Layout.{timeLimit}
 use Rattle.commands.specs.declared.Parsed.{Parsed}
 use Rattle.commands.specs.declared.Parsed.the-variants as parses
-use Rattle.commands.specs.declared.Versioning.{Versioning}
-use Rattle.commands.specs.declared.Lifetime.{Lifetime}
 use Rattle.commands.specs.Refusal.{lowest}
 use Rattle.commands.specs.Command.{Command}
-use Rattle.commands.specs.Command.Deed.{increment}
-use Rattle.commands.specs.Command.Command.{onField, countLive, countHeld}
-use Rattle.commands.specs.Options.{signed64, noExpGroup, Given, givenOf, readIn, numberIn}
+use Rattle.commands.specs.Options.{Given}
 use Rattle.commands.specs.Parse as P
-use Rattle.commands.specs.Parse.{Form, commands, commandNamed, countFits, build, tooLong, laterChecks, checks, parseWords}
-use Rattle.commands.specs.Parse.Form.{setForm, setManyForm, incrementForm, expireForm, persistForm, renumberForm, askForm, getManyForm, deleteForm, countForm, listForm}
-use Rattle.commands.specs.Parse.Parsed.{refused, accepted}
+use Rattle.commands.specs.Parse.{commands, commandNamed, countFits, build, tooLong, laterChecks, checks, parseWords}
+use Rattle.commands.specs.Parse.Parsed.{refused}
 use Rattle.commands.specs.TablePromises.{commandTable, commandOf}
 use Rattle.commands.specs.ParsePromises.{Divided, parseRest, meant}
-use Rattle.commands.proofs.ParseChecks.{check-applies, check-passed, parse-accepted, scannedOf, saidBy}
+use Rattle.commands.proofs.ParseChecks.{check-applies, check-passed, scannedOf, saidBy}
 use Rattle.commands.proofs.TableRows.{command-row}
 use Rattle.commands.proofs.Parsing.{givenIn}
 
@@ -119,41 +110,3 @@ module _ {s : List ℕ} {places : List (List ℕ)} (p : Divided s places) (time 
 
           pub parse-rest : d ≡ false → (x : Parsed) → meant words x ≡ parseRest time (commandOf i .form) words → meant words x ≡ P.parse time clock s
           parse-rest q x e = e ∙ sym (known ∙ words-rest time i words fits (sym (ed time (givenIn (commandOf i .form) words)) ∙ q))
-
--- ---- what EXHINCRBY adds
-
-number-within : (w : Word) → within lowest64 highest64 (numberIn signed64 w) ≡ true
-unfolding numberIn readIn within
-number-within w = go (readInteger lowest64 highest64 w) refl
-  where
-    go : (o : Option ℤ) → readInteger lowest64 highest64 w ≡ o → within lowest64 highest64 (Option·getD o (pos 0)) ≡ true
-    go none e = refl
-    go (some z) e = read-within lowest64 highest64 w z e
-
-built-amount : (time : ℕ) (form : Form) (ws : List Word) (gs : List Given) {k f : Word} {a l g : ℤ} {n : Versioning} {t : Lifetime}
-    → build time form ws gs ≡ onField k f (increment a l g n t) → within lowest64 highest64 a ≡ true
-unfolding build
-built-amount time setForm ws gs e = impossible cc
-built-amount time setManyForm ws gs e = impossible cc
-built-amount time incrementForm ws gs {a = a} e =
-    let q : numberIn signed64 (wordAt 3 ws) ≡ a = cc in
-    rw (← q) (number-within (wordAt 3 ws))
-built-amount time (expireForm u) ws gs e = impossible cc
-built-amount time persistForm ws gs e = impossible cc
-built-amount time renumberForm ws gs e = impossible cc
-built-amount time (askForm q) ws gs e = impossible cc
-built-amount time (getManyForm q) ws gs e = impossible cc
-built-amount time deleteForm ws gs e = impossible cc
-built-amount time countForm ws gs {k} {f} {a} {l} {g} {n} {t} e = go (isSome (givenOf noExpGroup gs)) e
-  where
-    go : (b : Bool) → cond b (countLive (wordAt 1 ws)) (countHeld (wordAt 1 ws)) ≡ onField k f (increment a l g n t) → within lowest64 highest64 a ≡ true
-    go true e = impossible cc
-    go false e = impossible cc
-built-amount time (listForm q) ws gs e = impossible cc
-
--- What an accepted EXHINCRBY adds is an integer of signed 64 bits.
-pub parse-amount : (time clock : ℕ) (s : List ℕ) {k f : Word} {a l g : ℤ} {n : Versioning} {t : Lifetime}
-    → P.parse time clock s ≡ accepted (onField k f (increment a l g n t)) → within lowest64 highest64 a ≡ true
-parse-amount time clock s {k} {f} {a} {l} {g} {n} {t} e =
-    let h = parse-accepted time clock s (onField k f (increment a l g n t)) e in
-    built-amount time (h .row .form) (h .words) _ (h .built)

@@ -23,8 +23,6 @@ use Rattle.store.specs.Store.{Entry, blank, withVersion, withExpiry, Slot, Stor
 use Rattle.store.specs.Time.{keyExists, liveOfKey, lowestSlot, entryOf, slotFor, put, emptySlot, deadSlot}
 use Rattle.store.specs.Valid.{Short}
 use Rattle.store.specs.Promises.{foundFor, entryAt, Held, Holds}
-use Rattle.commands.specs.declared.FieldDeed.{FieldDeed}
-use Rattle.commands.specs.declared.FieldDeed.the-variants as fieldDeeds
 use Rattle.commands.specs.declared.Lifetime.{Lifetime}
 use Rattle.commands.specs.declared.Lifetime.the-variants.{Clear}
 use Rattle.commands.specs.declared.Versioning.the-variants.{Next}
@@ -248,15 +246,6 @@ pub record Storable (k f v : List ℕ) (t : Lifetime) : Type 0 where
 -- the entry that is written where one was looked for
 abbrev pub writtenAt : Sight → Stamping → Word → Word → Word → List Slot → Entry
 writtenAt sight stamping k f v ss = written k f v (stamping .versioning) (stamping .lifetime) (entryFor ss (sight .found))
-
--- the amount that a deed adds is of signed 64 bits
-unfoldable pub amountFits : FieldDeed → Bool
-amountFits (fieldDeeds.Assign c n t) = true
-amountFits (fieldDeeds.Increment s n t) = within lowest64 highest64 (integerOf (s .amount))
-amountFits (fieldDeeds.Expire t n) = true
-amountFits fieldDeeds.Persist = true
-amountFits (fieldDeeds.Renumber n) = true
-amountFits (fieldDeeds.Ask q) = true
 
 -- EXHINCRBY
 abbrev pub incremented : Sum → Stamping → Word → Word → Option Entry → Effect

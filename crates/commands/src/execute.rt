@@ -23,7 +23,7 @@ ghost use Rattle.commands.specs.Refusal.{bufferLeast};
 ghost use Rattle.commands.specs.Command.Command.{onField};
 ghost use Rattle.commands.specs.Execute.{run, exec, execBytes};
 ghost use Rattle.commands.specs.ParsePromises.{Divided, deedOf, commandFor};
-ghost use Rattle.commands.specs.Promises.{WithinLimits, Opened, Does, Replied, amountFits};
+ghost use Rattle.commands.specs.Promises.{WithinLimits, Opened, Does, Replied};
 
 // The least buffer for a reply.
 pub const BUFFER_LEAST: usize = 56000;
@@ -39,7 +39,7 @@ fn run_on_field(
 ) -> usize
     requires { let ws = wordsIn (now command) (now places) in
         let c = onField (wordAt 1 ws) (wordAt 2 ws) (deedOf (wordAt 3 ws) deed) in
-        ⌜ (Inside (now command) (now places)) × (Opened time (now bytes) (now out)) × (WithinLimits c) × (amountFits deed ≡ true) ⌝ }
+        ⌜ (Inside (now command) (now places)) × (Opened time (now bytes) (now out)) × (WithinLimits c) ⌝ }
     ensures { λ r.
         let ws = wordsIn (now (command .entry)) (now (places .entry)) in
         let c = onField (wordAt 1 ws) (wordAt 2 ws) (deedOf (wordAt 3 ws) deed) in

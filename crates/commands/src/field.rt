@@ -44,7 +44,7 @@ ghost use Rattle.commands.specs.Command.Command.{onField};
 ghost use Rattle.commands.specs.Effect.{writing, counted, setEffect, expireEffect, persistEffect, renumberEffect, effect};
 ghost use Rattle.commands.specs.Execute.{settle, runOn};
 ghost use Rattle.commands.specs.ParsePromises.{deedOf};
-ghost use Rattle.commands.specs.Promises.{HeldAt, FoundIn, Sought, Storable, WithinLimits, Wrote, Changes, Settles, Does, answerMost, entryFor, writtenAt, heldVersion, heldExpiry, amountFits, boundedSum, incremented, fieldsAdded, writeSettled, settledReply, tellable, answersAbout};
+ghost use Rattle.commands.specs.Promises.{HeldAt, FoundIn, Sought, Storable, WithinLimits, Wrote, Changes, Settles, Does, answerMost, entryFor, writtenAt, heldVersion, heldExpiry, boundedSum, incremented, fieldsAdded, writeSettled, settledReply, tellable, answersAbout};
 ghost use Rattle.commands.specs.declared.field.Settled.the-variants.{Asked};
 
 // An entry was written in its place, or the number of its refusal.
@@ -184,7 +184,6 @@ fn stored(bytes: &[u8], found: Found) -> Integer
 
 // The sum of an integer and an amount, refused outside signed 64 bits and outside its bounds.
 fn bounded_sum(start: Signed, sum: Sum) -> Integer
-    requires { ⌜ (within lowest64 highest64 (integerOf start) ≡ true) × (within lowest64 highest64 (integerOf (sum .amount)) ≡ true) ⌝ }
     ensures { λ r. ⌜ r ≡ integerFor (boundedSum (integerOf start) sum) ⌝ }
 {
     let total = add(start, sum.amount);
@@ -234,8 +233,7 @@ fn increment(
     stamping: Stamping,
 ) -> Settled
     requires { ⌜ (Sought (now bytes) (now key) (now field) (sight .found))
-        × (Storable (now key) (now field) [] (stamping .lifetime))
-        × (within lowest64 highest64 (integerOf (sum .amount)) ≡ true) ⌝ }
+        × (Storable (now key) (now field) [] (stamping .lifetime)) ⌝ }
     ensures { λ r.
         let b = now (bytes .entry) in
         let found = entryFor (decode b .slots) (sight .found) in
@@ -349,7 +347,7 @@ fn settle_deed(
     sight: Sight,
 ) -> Settled
     requires { let c = onField (now key) (now field) (deedOf (now value) deed) in
-        ⌜ (Sought (now bytes) (now key) (now field) (sight .found)) × (WithinLimits c) × (amountFits deed ≡ true) ⌝ }
+        ⌜ (Sought (now bytes) (now key) (now field) (sight .found)) × (WithinLimits c) ⌝ }
     ensures { λ r.
         let b = now (bytes .entry) in
         let k = now (key .entry) in
@@ -420,7 +418,7 @@ pub fn on_field(
     out: &mut [u8],
 ) -> usize
     requires { let c = onField (now key) (now field) (deedOf (now value) deed) in
-        ⌜ (wellFormed (now bytes) ≡ true) × (WithinLimits c) × (amountFits deed ≡ true) × (bufferLeast ≤ length (now out)) ⌝ }
+        ⌜ (wellFormed (now bytes) ≡ true) × (WithinLimits c) × (bufferLeast ≤ length (now out)) ⌝ }
     ensures { λ r.
         let c = onField (now (key .entry)) (now (field .entry)) (deedOf (now (value .entry)) deed) in
         ⌜ Does (runOn time c (decode (now (bytes .entry)))) (now (bytes .exit)) (now (out .entry)) (now (out .exit)) r ⌝ }

@@ -226,16 +226,6 @@ answer-above n l = rw (within-plain, lt-leb n 0x7fff_ffff_ffff_ffff l)
 
 -- ---- add
 
--- An integer of signed 64 bits has a magnitude of at most 2^63.
-pub magnitude-most : (z : Signed) → within lowest64 highest64 (integerOf z) ≡ true → z .magnitude ≤ 0x8000_0000_0000_0000
-unfolding integerOf
-magnitude-most z h = go (z .negative) (z .magnitude) h
-  where
-    go : (t : Bool) (n : ℕ) → within lowest64 highest64 (signed t n) ≡ true → n ≤ 0x8000_0000_0000_0000
-    go false n h = omega (arith, leb-true n 0x7fff_ffff_ffff_ffff (rw within-plain at h))
-    go true zero h = omega arith
-    go true (suc n) h = leb-true (suc n) 0x8000_0000_0000_0000 (rw within-minus at h)
-
 -- integers of one sign
 sum-same : (t : Bool) (m n : ℕ) → signed t m +ℤ signed t n ≡ signed t (m + n)
 sum-same false m n = refl

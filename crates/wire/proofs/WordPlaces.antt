@@ -22,8 +22,8 @@ use Rattle.wire.specs.Lists.{onlyIf, orElse, isEmpty}
 use Rattle.wire.specs.Bytes.{part, same, text}
 use Rattle.wire.specs.Integers.{naturalText, readNatural}
 use Rattle.wire.specs.Words.{Word, Read, crlf, beforeCR, fromCR, readCount, readWord, readWords, wordsOf, wordsMost, wordAt}
-use Rattle.wire.specs.Replies.{bulk}
-use Rattle.wire.specs.Promises.{naturalFor, countedFor, placedFor, wordIn, wordsIn, placeEnd, Inside, Places, nextOf}
+use Rattle.wire.specs.Replies.{bulk, header}
+use Rattle.wire.specs.Promises.{naturalFor, countedFor, placedFor, wordIn, wordsIn, placeEnd, placesFrom, placesOf, Inside, Places, nextOf}
 use Rattle.wire.proofs.WordLaws.{split-CR, count-is, word-is}
 
 -- ---- lines
@@ -271,6 +271,24 @@ module _ (s : List ℕ) (at : ℕ) where
           let found : take size (drop start s) ≡ w .found = rw (rw begin at (suffix s head tail at l cut)) (take-at (w .found) (crlf ++ w .rest) size q) in
           (e ∙ ap some (λ i. record { found = sym found i; rest = sym rest i }), omega (arith, suffix-inside s head tail at cut), omega arith)
 
+  -- where it and the next stand, by the word
+  word-stands : (start size next : ℕ) → at ≤ length s → placed.Word start size next ≡ placedFor (length s) (readWord (drop at s))
+      → (ws : List Word) → placesFrom at (part start size s ∷ ws) ≡ (start ∷ size ∷ []) ∷ placesFrom next ws
+  unfolding placesFrom placedFor bulk
+  word-stands start size next l h ws =
+      let w = part start size s in
+      let head = text "$" ++ naturalText (length w) ++ crlf in
+      let (e, inside, within) = word-some start size next l h in
+      let said : placed.Word start size next ≡ placed.Word (length s - (length w + 2 + length (drop next s))) (length w) (length s - length (drop next s)) = rw e at h in
+      let p : start ≡ length s - (length w + 2 + length (drop next s)) = cc in
+      let q : length w ≡ size = cc in
+      let all : length s - at ≡ length (bulk w) + length (drop next s) = sym (length-drop at s) ∙ ap length (word-is (drop at s) _ e) ∙ length-append (bulk w) (drop next s) in
+      let one : length (bulk w) ≡ length head + length w + 2 = length-append (head ++ w) crlf ∙ ap (λ (n : ℕ). n + 2) (length-append head w) in
+      let rest : length (drop next s) ≡ length s - next = length-drop next s in
+      let here : at + length head ≡ start = omega arith in
+      let on : at + length (bulk w) ≡ next = omega arith in
+      rw (here, on, q)
+
   -- and where none was answered
   pub word-none : placed.Damaged ≡ placedFor (length s) (readWord (drop at s)) → readWord (drop at s) ≡ none
   unfolding placedFor
@@ -282,15 +300,21 @@ module _ (s : List ℕ) (at : ℕ) where
 
 -- ---- the words of a command
 
+-- there are as many words as places
+pub length-words : (s : List ℕ) (places : List (List ℕ)) → length (wordsIn s places) ≡ length places
+unfolding wordsIn
+length-words s places = length-map places (wordIn s)
+
 -- a word more, stored behind those found so far
 words-more : (s : List ℕ) (i a b : ℕ) (places : List (List ℕ)) → i < length places
     → wordsIn s (take (suc i) (set places i (a ∷ b ∷ []))) ≡ wordsIn s (take i places) ++ (part a b s ∷ [])
 unfolding wordsIn wordIn
 words-more s i a b places l = rw (take-suc-set places i (a ∷ b ∷ []) l) (map-append (wordIn s) (take i places) ((a ∷ b ∷ []) ∷ []))
 
--- what is known of a command between two words: what was found and what is left are its words, and the places found lie in it
+-- what is known of a command between two words: what was found and what is left are its words, and so are their places; those found lie in it
 pub record Progress (s : List ℕ) (places : List (List ℕ)) (count first at i : ℕ) : Type 0 where
   pub left : Option·map (λ ws. wordsIn s (take i places) ++ ws) (readWords (count - i) (drop at s)) ≡ readWords count (drop first s)
+  pub stand : Option·map (λ ws. take i places ++ placesFrom at ws) (readWords (count - i) (drop at s)) ≡ Option·map (placesFrom first) (readWords count (drop first s))
   pub inside : (j : ℕ) → j < i → placeEnd (getD places j []) ≤ length s
   pub within : at ≤ length s
   pub passed : i ≤ count
@@ -304,6 +328,7 @@ progress-begins {s} {places} {count} {first} head =
     let known = count-some s 0 42 wordsMost count first (omega arith) head in
     record {
       left = rw sub-zero (same-words (readWords count (drop first s)));
+      stand = rw sub-zero refl;
       inside = λ j h. absurd (not-suc-le-zero h);
       within = known .1;
       passed = omega arith;
@@ -314,20 +339,18 @@ progress-begins {s} {places} {count} {first} head =
     same-words none = refl
     same-words (some ws) = refl
 
--- words before a word and words after it
-map-snoc : (xs : List Word) (x : Word) (o : Option (List Word))
-    → Option·map (λ ws. xs ++ (x ∷ []) ++ ws) o ≡ Option·map (λ ws. xs ++ ws) (Option·map (λ ws. x ∷ ws) o)
-map-snoc xs x none = refl
-map-snoc xs x (some ws) = ap some (append-snoc xs x ws)
+-- what is found before a word, and f of the words after it, is g of them with the word
+map-snoc : {A : Type 0} (f g : List Word → List A) (xs : List A) (x : A) (w : Word) → ((ws : List Word) → g (w ∷ ws) ≡ x ∷ f ws) → (o : Option (List Word))
+    → Option·map (λ ws. xs ++ (x ∷ []) ++ f ws) o ≡ Option·map (λ ws. xs ++ g ws) (Option·map (λ ws. w ∷ ws) o)
+map-snoc f g xs x w h none = refl
+map-snoc f g xs x w h (some ws) = ap some (append-snoc xs x (f ws) ∙ rw (h ws))
 
 module _ {s : List ℕ} {places : List (List ℕ)} {count first at i : ℕ} (now : Progress s places count first at i) where
   -- a word is left
-  left-on : i < count → Option·map (λ ws. wordsIn s (take i places) ++ ws)
-      (orElse (readWord (drop at s)) none (λ w. Option·map (λ ws. w .found ∷ ws) (readWords (count - (i + 1)) (w .rest)))) ≡ readWords count (drop first s)
+  left-is : i < count → readWords (count - i) (drop at s)
+      ≡ orElse (readWord (drop at s)) none (λ w. Option·map (λ ws. w .found ∷ ws) (readWords (count - (i + 1)) (w .rest)))
   unfolding readWords
-  left-on l =
-      let e : count - i ≡ suc (count - (i + 1)) = omega arith in
-      rw e at (now .left)
+  left-is l = let e : count - i ≡ suc (count - (i + 1)) = omega arith in rw e
 
   -- a word was found
   pub progress-goes-on : {start size next : ℕ} → i < count → i < length places
@@ -336,10 +359,17 @@ module _ {s : List ℕ} {places : List (List ℕ)} {count first at i : ℕ} (now
   unfolding orElse
   progress-goes-on {start} {size} {next} l p h =
       let word = word-some s at start size next (now .within) h in
+      let rest = readWords (count - suc i) (drop next s) in
+      let found = take i places in
+      let more : readWords (count - i) (drop at s) ≡ Option·map (λ ws. part start size s ∷ ws) rest = left-is l ∙ rw (word .0, add-one i) in
       record {
         left =
             rw (add-one i, words-more s i start size places p)
-            (map-snoc (wordsIn s (take i places)) (part start size s) (readWords (count - suc i) (drop next s)) ∙ rw (word .0, add-one i) at (left-on l));
+            (map-snoc (λ ws. ws) (λ ws. ws) (wordsIn s found) (part start size s) (part start size s) (λ ws. refl) rest ∙ rw more at (now .left));
+        stand =
+            rw (add-one i, take-suc-set places i (start ∷ size ∷ []) p)
+            (map-snoc (placesFrom next) (placesFrom at) found (start ∷ size ∷ []) (part start size s) (word-stands s at start size next (now .within) h) rest
+            ∙ rw more at (now .stand));
         inside = below-more (λ j. placeEnd (getD (set places i (start ∷ size ∷ [])) j []) ≤ length s) i
             (λ j m. rw (getD-set-other places i j (start ∷ size ∷ []) [] (omega arith)) (now .inside j m))
             (rw (getD-set-same places i (start ∷ size ∷ []) [] p) (word .1));
@@ -351,7 +381,7 @@ module _ {s : List ℕ} {places : List (List ℕ)} {count first at i : ℕ} (now
   -- a word is damaged
   pub progress-damaged : i < count → placed.Damaged ≡ placedFor (length s) (readWord (drop at s)) → readWords count (drop first s) ≡ none
   unfolding orElse
-  progress-damaged l h = sym (rw (word-none s at h) at (left-on l))
+  progress-damaged l h = sym (rw (left-is l, word-none s at h) at (now .left))
 
   -- something stands after the last word
   pub progress-after : count ≤ i → (at ≡ length s → ⊥) → readWords count (drop first s) ≡ none
@@ -369,6 +399,16 @@ module _ {s : List ℕ} {places : List (List ℕ)} {count first at i : ℕ} (now
       let n : i ≡ count = omega (arith, now .passed) in
       sym (rw (e, h, drop-length s, n, append-nil) at (now .left))
 
+  -- and then the places found are those of the words
+  progress-stands : count ≤ i → at ≡ length s → take count places ≡ placesFrom first (wordsIn s (take count places))
+  unfolding readWords onlyIf isEmpty placesFrom
+  progress-stands l h =
+      let e : count - i ≡ 0 = omega arith in
+      let n : i ≡ count = omega (arith, now .passed) in
+      let found : some (take count places) ≡ some (placesFrom first (wordsIn s (take count places))) =
+      rw (progress-ends l h, e, h, drop-length s, n, append-nil) at (now .stand) in
+      cc
+
 -- ---- the answer
 
 -- no places are inside
@@ -379,7 +419,8 @@ none-inside s places = record { most = omega arith; inside = λ i l. absurd (not
 pub places-headless : {s : List ℕ} {places : List (List ℕ)} → counts.Damaged ≡ countedFor (length s) (readCount 42 wordsMost (drop 0 s)) → Places s places 0
 unfolding wordsOf orElse
 places-headless {s} {places} h =
-    record { words = rw (count-none s 0 42 wordsMost h); room = omega arith; within = none-inside s places }
+    let none-read = count-none s 0 42 wordsMost h in
+    record { stands = rw none-read; words = rw none-read; room = omega arith; within = none-inside s places }
 
 -- the words behind the count
 words-at : (s : List ℕ) (count first : ℕ) → counts.Count count first ≡ countedFor (length s) (readCount 42 wordsMost (drop 0 s))
@@ -387,22 +428,39 @@ words-at : (s : List ℕ) (count first : ℕ) → counts.Count count first ≡ c
 unfolding wordsOf orElse
 words-at s count first head = rw (count-some s 0 42 wordsMost count first (omega arith) head .0)
 
+-- they begin behind the header
+first-is : (s : List ℕ) (count first : ℕ) → counts.Count count first ≡ countedFor (length s) (readCount 42 wordsMost (drop 0 s)) → first ≡ length (header count)
+unfolding header text
+first-is s count first head =
+    let (e, inside, most) = count-some s 0 42 wordsMost count first (omega arith) head in
+    let all = simp (length-append, length-drop) at (ap length (count-is 42 wordsMost s _ e .1)) in
+    simp length-append (omega arith)
+
 module _ {s : List ℕ} {places : List (List ℕ)} {count first : ℕ} (head : counts.Count count first ≡ countedFor (length s) (readCount 42 wordsMost (drop 0 s))) where
   -- a command whose words are damaged
   pub places-none : readWords count (drop first s) ≡ none → Places s places 0
-  places-none h = record { words = words-at s count first head ∙ rw h (either (leb 1 count)); room = omega arith; within = none-inside s places }
+  unfolding orElse
+  places-none h = record { stands = rw none-read; words = none-read; room = omega arith; within = none-inside s places }
     where
       either : (t : Bool) → cond {A = Option (List Word)} t none none ≡ none
       either true = refl
       either false = refl
 
+      none-read : wordsOf s ≡ none
+      none-read = words-at s count first head ∙ rw h (either (leb 1 count))
+
   -- a command that was read whole
   pub places-all : {at i : ℕ} → Progress s places count first at i → wordsMost ≤ length places → count ≤ i → at ≡ length s → Places s places count
+  unfolding placesOf orElse
   places-all now room l e =
       let fits : count ≤ length places = omega (arith, now .most) in
       let size : length (take count places) ≡ count = length-take-le count places fits in
+      let ws = wordsIn s (take count places) in
+      let read : wordsOf s ≡ cond (leb 1 count) (some ws) none = words-at s count first head ∙ rw (progress-ends now l e) in
+      let first-place : first ≡ length (header (length ws)) = first-is s count first head ∙ rw (length-words s (take count places), size) in
       record {
-        words = words-at s count first head ∙ rw (progress-ends now l e) (least count (wordsIn s (take count places)));
+        stands = rw read (standing count ws (rw first-place at (progress-stands now l e)));
+        words = read ∙ least count ws;
         room = fits;
         within = record {
           most = omega (arith, size, now .most);
@@ -410,16 +468,15 @@ module _ {s : List ℕ} {places : List (List ℕ)} {count first : ℕ} (head : c
         };
       }
     where
+      standing : (n : ℕ) (ws : List Word) → take n places ≡ placesOf ws → take n places ≡ orElse (cond (leb 1 n) (some ws) none) [] placesOf
+      standing zero ws h = refl
+      standing (suc n) ws h = rw (le-leb 1 (suc n) (omega arith)) h
+
       least : (n : ℕ) (ws : List Word) → cond (leb 1 n) (some ws) none ≡ cond (eqb n 0) none (some ws)
       least zero ws = refl
       least (suc n) ws = rw (le-leb 1 (suc n) (omega arith), ne-eqb (suc n) 0 (omega arith))
 
 -- ---- words by their places
-
--- there are as many words as places
-pub length-words : (s : List ℕ) (places : List (List ℕ)) → length (wordsIn s places) ≡ length places
-unfolding wordsIn
-length-words s places = length-map places (wordIn s)
 
 -- a word is the part of its place; past the places there are no bytes
 pub word-of-place : (s : List ℕ) (places : List (List ℕ)) (i : ℕ) → wordAt i (wordsIn s places) ≡ wordIn s (getD places i [])

@@ -1,7 +1,7 @@
 -- What the functions of wire answer, in the terms of the other definitions.
 use mathlib.Core.Path.{_≡_}
 use mathlib.Core.Bool.{true, false, cond}
-use mathlib.Core.List.{List, [], map}
+use mathlib.Core.List.{List, [], _∷_, _++_, map}
 use mathlib.Core.Option.{Option, none, some}
 use Prim.Native.Nat.{ℕ, zero, suc, _+_, _-_, _*_, _/_, _≤_, _<_}
 use lib.Dec.{ltb, eqb}
@@ -20,9 +20,11 @@ use Rattle.wire.specs.declared.words.Counted.{Counted}
 use Rattle.wire.specs.declared.words.Counted.the-variants as counts
 use Rattle.wire.specs.declared.words.Placed.{Placed}
 use Rattle.wire.specs.declared.words.Placed.the-variants as placed
-use Rattle.wire.specs.Bytes.{part, same, upper}
-use Rattle.wire.specs.Words.{Word, Read, wordsMost, wordsOf}
-use Rattle.wire.specs.Replies.{laidOver}
+use Rattle.wire.specs.Lists.{orElse}
+use Rattle.wire.specs.Bytes.{part, same, text, upper}
+use Rattle.wire.specs.Integers.{naturalText}
+use Rattle.wire.specs.Words.{Word, Read, wordsMost, wordsOf, crlf}
+use Rattle.wire.specs.Replies.{bulk, header, laidOver}
 
 -- ---- integers
 
@@ -74,8 +76,20 @@ pub record Inside (s : List ℕ) (places : List (List ℕ)) : Type 0 where
   pub most : length places ≤ wordsMost
   pub inside : (i : ℕ) → i < length places → placeEnd (getD places i []) ≤ length s
 
--- a count and places say what words a command has, a count of 0 that it is damaged. Places from the count on, and all where it is 0, are left free.
+-- the places of words that stand one after the other from a place on, each behind its `$len\r\n`
+unfoldable pub placesFrom : ℕ → List Word → List (List ℕ)
+placesFrom at [] = []
+placesFrom at (w ∷ ws) =
+    ((at + length (text "$" ++ naturalText (length w) ++ crlf)) ∷ length w ∷ []) ∷ placesFrom (at + length (bulk w)) ws
+
+-- the places of the words of a command, which stand behind its `*n\r\n`
+unfoldable pub placesOf : List Word → List (List ℕ)
+placesOf ws = placesFrom (length (header (length ws))) ws
+
+-- A count and places say what words a command has and where each stands, a count of 0 that it is damaged. Places from the count on, and all
+-- where it is 0, are left free. `stands` and `room` say all of it; the other two are what callers lean on.
 pub record Places (s : List ℕ) (places : List (List ℕ)) (count : ℕ) : Type 0 where
+  pub stands : take count places ≡ orElse (wordsOf s) [] placesOf
   pub words : wordsOf s ≡ cond (eqb count 0) none (some (wordsIn s (take count places)))
   pub room : count ≤ length places
   pub within : Inside s (take count places)

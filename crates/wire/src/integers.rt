@@ -1,6 +1,5 @@
 // Integer text: read and written once for all uses, and signed sums.
 ghost use mathlib.Core.Path.{_≡_};
-ghost use mathlib.Core.Bool.{true};
 ghost use Prim.Native.Nat.{_≤_};
 ghost use lib.ListN.{length};
 ghost use lib.IntN.{_+ℤ_};
@@ -116,14 +115,12 @@ pub fn write_integer(z: Signed, out: &mut [u8]) -> usize
     write_natural(z.magnitude, out)
 }
 
-// The sum of two integers of signed 64 bits, refused where it lies outside them.
+// The sum of two integers, refused where it lies outside signed 64 bits.
 pub fn add(a: Signed, b: Signed) -> Integer
-    requires { ⌜ within lowest64 highest64 (integerOf a) ≡ true ⌝ }
-    requires { ⌜ within lowest64 highest64 (integerOf b) ≡ true ⌝ }
     ensures { λ r. ⌜ r ≡ integerFor (onlyIf (within lowest64 highest64 (integerOf a +ℤ integerOf b)) (integerOf a +ℤ integerOf b)) ⌝ }
 {
     if a.negative == b.negative {
-        if LOWEST - a.magnitude < b.magnitude {
+        if LOWEST < a.magnitude || LOWEST - a.magnitude < b.magnitude {
             return Integer::Refused;
         }
         return bounded(a.negative, a.magnitude + b.magnitude);

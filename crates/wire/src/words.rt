@@ -103,8 +103,8 @@ fn read_word(s: &[u8], at: usize) -> Placed
     Placed::Word(start, size, end + 2)
 }
 
-// Where the words of a command stand: their number, with a place for each, its start and its size, or 0 where the command is damaged. Places from the number on, and all
-// where it is 0, are left free.
+// Where the words of a command stand: their number, and for each in order its place, a start and a size; or 0 where the command is damaged.
+// Places from the number on, and all where it is 0, are left free.
 pub fn split(s: &[u8], places: &mut [[usize; 2]]) -> usize
     requires { ⌜ wordsMost ≤ length (now places) ⌝ }
     ensures { λ r. ⌜ Places (now (s .entry)) (now (places .exit)) r ⌝ }

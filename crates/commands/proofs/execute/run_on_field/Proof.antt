@@ -9,7 +9,7 @@ on-field-requires : tie.Need-on-field-requires
 on-field-requires c κs =
     let back2 = c .before .before in let back3 = back2 .before in let back4 = back3 .before in let back7 = back4 .before .before .before in
     let start = back7 .before .before .before .before .before in
-    (back7 .set-clock .ensures .well, field-requires (start .args .deed) (back4 .word .ensures) (back3 .word2 .ensures) (back2 .word3 .ensures) (start .pre .2), start .pre .3, start .pre .1 .room)
+    (back7 .set-clock .ensures .well, field-requires (start .args .deed) (back4 .word .ensures) (back3 .word2 .ensures) (back2 .word3 .ensures) (start .pre .2), start .pre .1 .room)
 
 returns : tie.Need-returns
 returns c =

@@ -1,7 +1,7 @@
 use denote.Ref.{now}
 use Rattle.commands.proofs.FieldDeeds.{may-refuse}
 use Rattle.commands.proofs.OneField.{reply-room}
-use Rattle.commands.proofs.ExecuteDone.{now-soon, refusal-known, refusal-done, field-opened, field-limits, field-amount, field-done, key-opened, key-words, key-limits, key-done}
+use Rattle.commands.proofs.ExecuteDone.{now-soon, refusal-known, refusal-done, field-opened, field-limits, field-done, key-opened, key-words, key-limits, key-done}
 use borrow.Author.Needs.{needs}
 use Rattle.commands.proofs.execute.run_words.Statement.{statement}
 use Rattle.commands.proofs.execute.run_words.Tie as tie
@@ -19,7 +19,7 @@ run-on-field-requires c κs =
     let back3 = c .before .before .before in let back5 = back3 .before .before in let back6 = back5 .before in
     let start = back6 .before .before .before .before .before in let now-at = back6 .now-at .ensures in let parse = back5 .parse .ensures in
     let parsed2 = back3 .parsed2 .given in
-    (start .pre .0 .within, field-opened (start .args .clock) (now (start .args .command)) (now (start .args .store)) (start .pre .1) _ now-at parse (parsed2 .1) (start .pre .2), field-limits (start .args .clock) (now (start .args .command)) (now (start .args .store)) (start .pre .1) _ now-at parse (parsed2 .1), field-amount (start .args .clock) (now (start .args .command)) (now (start .args .store)) (start .pre .1) _ now-at parse (parsed2 .1))
+    (start .pre .0 .within, field-opened (start .args .clock) (now (start .args .command)) (now (start .args .store)) (start .pre .1) _ now-at parse (parsed2 .1) (start .pre .2), field-limits (start .args .clock) (now (start .args .command)) (now (start .args .store)) (start .pre .1) _ now-at parse (parsed2 .1))
 
 run-on-key-requires : tie.Need-run-on-key-requires
 run-on-key-requires c κs =

@@ -1,6 +1,5 @@
 use denote.Ref.{now}
-use Rattle.store.specs.Store.{decode}
-use Rattle.commands.proofs.FieldDeeds.{sought-held, stored-within, increment-stale, increment-unread, increment-overflow, increment-within, increment-done}
+use Rattle.commands.proofs.FieldDeeds.{sought-held, increment-stale, increment-unread, increment-overflow, increment-within, increment-done}
 use borrow.Author.Needs.{needs}
 use Rattle.commands.proofs.field.increment.Statement.{statement}
 use Rattle.commands.proofs.field.increment.Tie as tie
@@ -21,9 +20,6 @@ returns-2 c =
     let back2 = c .before .before in let back4 = back2 .before .before in let back5 = back4 .before in let back6 = back5 .before in
     let start = back6 .before .before .before .before .before in
     increment-unread (start .args .sight .time) (start .args .sum) (start .args .stamping) (now (start .args .key)) (now (start .args .field)) (now (start .args .bytes)) (start .pre .0 .well) (start .args .sight .found) (back6 .held-version .ensures) (back5 .is-stale .ensures) (back4 .if1 .left) (back2 .stored .ensures) (c .enum-told .given .1)
-
-bounded-sum-requires : tie.Need-bounded-sum-requires
-bounded-sum-requires c κs = let start = c .before .before .before .before .before .before .before .before .before .before .before .before in (stored-within (decode (now (start .args .bytes)) .slots) (start .args .sight .found) (c .before .before .before .stored .ensures) (c .before .before2 .given .1), start .pre .2)
 
 returns-3 : tie.Need-returns-3
 returns-3 c =
@@ -56,7 +52,7 @@ increment-spec =
     (λ c. search needs)
     (λ c. search needs)
     returns-2
-    bounded-sum-requires
+    (λ c κs. search needs)
     (λ c. search needs)
     (λ c. search needs)
     (λ c. search needs)

@@ -6,13 +6,13 @@ use Rattle.commands.proofs.field.on_field.Statement.{statement}
 use Rattle.commands.proofs.field.on_field.Tie as tie
 
 settle-deed-requires : tie.Need-settle-deed-requires
-settle-deed-requires c κs = let start = c .before .before .before .before .before .before .before .before .before .before in let look = c .before .before .before .look .ensures in (looked-sought (look .0) (look .1), start .pre .1, start .pre .2)
+settle-deed-requires c κs = let start = c .before .before .before .before .before .before .before .before .before .before in let look = c .before .before .before .look .ensures in (looked-sought (look .0) (look .1), start .pre .1)
 
 put-settled-requires : tie.Need-put-settled-requires
 put-settled-requires c κs =
     let back4 = c .before .before .before .before in let back8 = back4 .before .before .before .before in let look = back8 .look .ensures in
     let settle-deed = back4 .settle-deed .ensures in
-    (settle-deed .told, (λ q e. still-sought (looked-sought (look .0) (look .1)) (settle-deed .asked q e)), reply-room (back8 .before .before .before .before .before .before .before .pre .3))
+    (settle-deed .told, (λ q e. still-sought (looked-sought (look .0) (look .1)) (settle-deed .asked q e)), reply-room (back8 .before .before .before .before .before .before .before .pre .2))
 
 returns : tie.Need-returns
 returns c =

@@ -1,6 +1,6 @@
 use denote.Ref.{now}
 use Rattle.commands.proofs.FieldDeeds.{sought-found}
-use Rattle.commands.proofs.OneField.{limits-assign, limits-increment, limits-expire, amount-within, settled-barred, settled-assign, settled-increment, settled-expire, settled-persist, settled-renumber, settled-ask}
+use Rattle.commands.proofs.OneField.{limits-assign, limits-increment, limits-expire, settled-barred, settled-assign, settled-increment, settled-expire, settled-persist, settled-renumber, settled-ask}
 use borrow.Author.Needs.{needs}
 use Rattle.commands.proofs.field.settle_deed.Statement.{statement}
 use Rattle.commands.proofs.field.settle_deed.Tie as tie
@@ -12,7 +12,7 @@ assign-requires : tie.Need-assign-requires
 assign-requires c κs = let start = c .before .before .before .before .before .before .before .before .before .before in (start .pre .0, limits-assign (now (start .args .value)) (start .pre .1) (c .before .before .before .before .deed .given .1))
 
 increment-requires : tie.Need-increment-requires
-increment-requires c κs = let start = c .before .before .before .before .before .before .before .before in let deed2 = c .before .before .deed2 .given in (start .pre .0, limits-increment (now (start .args .value)) (start .pre .1) (deed2 .1), amount-within (start .pre .2) (deed2 .1))
+increment-requires c κs = let start = c .before .before .before .before .before .before .before .before in (start .pre .0, limits-increment (now (start .args .value)) (start .pre .1) (c .before .before .deed2 .given .1))
 
 expire-requires : tie.Need-expire-requires
 expire-requires c κs = let start = c .before .before .before .before .before .before .before .before in (sought-found (start .pre .0), limits-expire (now (start .args .value)) (start .pre .1) (c .before .before .deed3 .given .1))

@@ -1,16 +1,24 @@
-use Prim.Native.Nat.{_+_, _*_}
+-- A byte of the table, by its place.
+use mathlib.Core.Path.{refl}
+use Prim.Native.Nat.{ℕ}
 use native.Mathlib.Omega.{arith}
 use borrow.Author.Needs.{needs}
-use Rattle.wire.specs.Promises.{nameSize, rowSize, datumIn}
+use mir.Syntax.{w8, w64}
+use mir.Val.{Fits}
+use Rattle.wire.specs.Promises.{datumIn}
 use Rattle.wire.proofs.names.datum.Statement.{statement}
 use Rattle.wire.proofs.names.datum.Tie as tie
 
+-- a byte fits a wider place
+wider : {n : ℕ} → Fits w8 n → Fits w64 n
+wider h = omega arith
+
 cast-result : tie.Need-cast-result
-cast-result c = omega (arith, c .shared-slice-known .given (rowSize * c .before .args .row + nameSize + c .before .args .k))
+cast-result c = wider (c .shared-slice-known .given _)
 
 returns : tie.Need-returns
 unfolding datumIn
-returns c = search needs
+returns c = refl
 
 pub datum-spec : {M : Type 1} → statement M
 datum-spec =
