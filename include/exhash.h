@@ -23,7 +23,8 @@
  *     }
  *
  * Pointers: none may be null, even with length 0. piece, store and reply must not overlap. During a call nobody else may
- * write piece, nor read or write store and reply, an interrupt or a DMA channel included. Each length is the number of
+ * write piece, nor read or write store and reply, an interrupt or a DMA channel included. Between calls nobody else may
+ * write the store: what the calls come to is said of the store as the last one left it. Each length is the number of
  * bytes that may be read, and for store and reply written.
  */
 #ifndef EXHASH_H

@@ -1,7 +1,7 @@
 -- The definitions give every row of the paper's worked cases.
 use mathlib.Core.Path.{_≡_, refl}
 use mathlib.Core.List.{map}
-use Rattle.commands.specs.Examples.{given, expected, markedExamples, workedCases}
+use Rattle.commands.specs.Examples.{given, expected, markedExamples, workedCases, commandCases}
 use Rattle.commands.proofs.Computing.{computing}
 
 -- P1 to P14: each refusal's number and each reply, and what the clock and the two slots then are
@@ -13,3 +13,8 @@ marked-examples = refl
 pub worked-cases : map given workedCases ≡ map expected workedCases
 unfolding computing
 worked-cases = refl
+
+-- every command, every option, every refusal from 11 on
+pub command-cases : map given commandCases ≡ map expected commandCases
+unfolding computing
+command-cases = refl

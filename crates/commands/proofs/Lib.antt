@@ -5,6 +5,7 @@ pub mod Examples
 -- ---- one record on a store: how it goes, what a refusal leaves, and what the demands say of it
 pub mod Went
 pub mod Refused
+pub mod Exactly
 pub mod Sweep
 pub mod Clock
 pub mod Full

@@ -1,4 +1,4 @@
--- A command changes no live entry that it does not name.
+-- A command changes no live entry that it does not name, and makes no other entry that it does not name.
 use mathlib.Core.Path.{_≡_, refl, _∙_}
 use mathlib.Core.Bool.{Bool, true, false, cond, _&&_, _||_}
 use mathlib.Core.List.{List, [], _∷_, map}
@@ -12,8 +12,8 @@ use Rattle.wire.proofs.Lists.{or-left, or-right, or-neither}
 use Rattle.store.specs.Store.{Entry, Slot, Store, holds}
 use Rattle.store.specs.Time.{nowAt, live, liveSlot, entryOf}
 use Rattle.store.proofs.Slots.{Named, entry-some}
-use Rattle.store.proofs.Put.{put-keeps}
-use Rattle.store.proofs.Without.{without-keeps}
+use Rattle.store.proofs.Put.{put-keeps, put-from}
+use Rattle.store.proofs.Without.{without-keeps, without-from}
 use Rattle.commands.specs.Command.{Deed, Pair, Command, keyOf, fieldsOf}
 use Rattle.commands.specs.Command.Deed.{assign, increment, expire, persist, renumber, ask}
 use Rattle.commands.specs.Command.Command.{onField, setMany, getMany, delete, countHeld, countLive, list}
@@ -25,7 +25,7 @@ use Rattle.commands.specs.Execute.{Outcome, exec}
 use Rattle.commands.specs.Claims.{names}
 use Rattle.commands.proofs.Went.{Went, went, sweptBy, effectOn}
 use Rattle.commands.proofs.Went.Went.{early, late, done}
-use Rattle.commands.proofs.Sweep.{sweep-keeps-live}
+use Rattle.commands.proofs.Sweep.{sweep-keeps-live, sweep-from}
 
 -- whether a change is of the entry's key and field
 unfoldable pub concerns : Entry → Change → Bool
@@ -48,6 +48,21 @@ changes-keep now (c ∷ cs) ss i e h l n =
     (change-keeps now c ss i e h l (or-left (concerns e c) (any (concerns e) cs) n))
     l
     (or-right (concerns e c) (any (concerns e) cs) n)
+
+-- An entry that no change concerns and that stands in a slot then stood there before.
+change-from : (now : ℕ) (c : Change) (ss : List Slot) (i : ℕ) (e : Entry) → concerns e c ≡ false → getD (change now c ss) i none ≡ some e
+    → getD ss i none ≡ some e
+unfolding change concerns
+change-from now (write x) ss i e n h = put-from now x ss i e n h
+change-from now (remove k f) ss i e n h = without-from _ ss i e h
+
+changes-from : (now : ℕ) (cs : List Change) (ss : List Slot) (i : ℕ) (e : Entry) → any (concerns e) cs ≡ false
+    → getD (changeAll now cs ss) i none ≡ some e → getD ss i none ≡ some e
+unfolding changeAll any
+changes-from now [] ss i e n h = h
+changes-from now (c ∷ cs) ss i e n h =
+    change-from now c ss i e (or-left (concerns e c) (any (concerns e) cs) n)
+    (changes-from now cs (change now c ss) i e (or-right (concerns e c) (any (concerns e) cs) n) h)
 
 -- ---- what a command names
 
@@ -141,3 +156,17 @@ others-kept clock command s c a i e h l n = go (went clock command s)
         (sweep-keeps-live (nowAt clock s) (keyOf d) (fieldsOf d) (s .slots) i e h l)
         l
         (effect-concerns (nowAt clock s) d (sweptBy (nowAt clock s) d s) e (rw m at n))
+
+-- Every entry that an accepted command does not name and that stands in a slot after it stood there before.
+pub others-from : (clock : ℕ) (command : List ℕ) (s : Store) (c : Command) → parse (nowAt clock s) clock command ≡ accepted c
+    → (i : ℕ) (e : Entry) → names c e ≡ false → getD (exec clock command s .store .slots) i none ≡ some e → getD (s .slots) i none ≡ some e
+others-from clock command s c a i e n = go (went clock command s)
+  where
+    go : {o : Outcome} → Went clock command s o → getD (o .store .slots) i none ≡ some e → getD (s .slots) i none ≡ some e
+    go (early k p) h = h
+    go (late d k p r) h = sweep-from (nowAt clock s) (keyOf d) (fieldsOf d) (s .slots) i e h
+    go (done d p r) h =
+        let m : c ≡ d = cc in
+        sweep-from (nowAt clock s) (keyOf d) (fieldsOf d) (s .slots) i e
+        (changes-from (nowAt clock s) (effectOn (nowAt clock s) d s .changes) (sweptBy (nowAt clock s) d s) i e
+        (effect-concerns (nowAt clock s) d (sweptBy (nowAt clock s) d s) e (rw m at n)) h)

@@ -49,7 +49,7 @@ refusal-number clock command s n = go (went clock command s)
     go (done c p l) e = impossible cc
 
 -- A row of the table has it, whose text and CR LF are its line.
-refusal-known : (clock : ℕ) (command : List ℕ) (s : Store) (n : ℕ) → exec clock command s .refusal ≡ some n → isRefusal n ≡ true
+pub refusal-known : (clock : ℕ) (command : List ℕ) (s : Store) (n : ℕ) → exec clock command s .refusal ≡ some n → isRefusal n ≡ true
 refusal-known clock command s n = go (went clock command s)
   where
     go : {o : Outcome} → Went clock command s o → o .refusal ≡ some n → isRefusal n ≡ true

@@ -14,7 +14,7 @@ use Rattle.store.specs.Store.{Entry, Slot}
 use Rattle.store.specs.Time.{live, liveSlot, roomSlot, entryOf, without}
 use Rattle.store.specs.Valid.{AllFit, Apart}
 use Rattle.store.proofs.Slots.{entry-some}
-use Rattle.store.proofs.Without.{emptied, length-without, getD-without, without-fits, without-apart, without-keeps}
+use Rattle.store.proofs.Without.{emptied, length-without, getD-without, without-fits, without-apart, without-keeps, without-from, without-again}
 use Rattle.commands.specs.Execute.{namedDead, sweep, room}
 
 -- The sweep leaves as many slots as there were, slots that fit, and no two of one key and field.
@@ -30,6 +30,16 @@ module _ (now : ℕ) (k : Word) (fs : List Word) (ss : List Slot) where
   pub sweep-apart : Apart ss → Apart (sweep now k fs ss)
   unfolding sweep
   sweep-apart = without-apart (namedDead now k fs) ss
+
+  -- A second one finds nothing.
+  pub sweep-again : sweep now k fs (sweep now k fs ss) ≡ sweep now k fs ss
+  unfolding sweep
+  sweep-again = without-again (namedDead now k fs) ss
+
+  -- An entry that stands in a slot then stood there before.
+  pub sweep-from : (i : ℕ) (e : Entry) → getD (sweep now k fs ss) i none ≡ some e → getD ss i none ≡ some e
+  unfolding sweep
+  sweep-from = without-from (namedDead now k fs) ss
 
 -- The sweep keeps every live entry in its slot.
 pub sweep-keeps-live : (now : ℕ) (k : Word) (fs : List Word) (ss : List Slot) (i : ℕ) (e : Entry) → getD ss i none ≡ some e → live now e ≡ true

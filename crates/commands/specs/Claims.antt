@@ -1,18 +1,30 @@
 -- What the claims about commands speak of.
 use mathlib.Core.Path.{_≡_}
-use mathlib.Core.Bool.{Bool, false, cond, _&&_}
+use mathlib.Core.Logic.{_⊎_}
+use mathlib.Core.Bool.{Bool, true, false, cond, _&&_}
 use mathlib.Core.List.{List, [], _∷_}
 use mathlib.Core.Option.{Option, none, some}
-use Prim.Native.Nat.{ℕ}
+use Prim.Native.Nat.{ℕ, _≤_}
 use Rattle.wire.specs.Lists.{any, orElse}
 use Rattle.wire.specs.Bytes.{same}
 use Rattle.wire.specs.Words.{Word}
 use Rattle.store.specs.declared.Expiry.the-variants.{Never}
 use Rattle.store.specs.Store.{Entry, Slot, Store}
 use Rattle.store.specs.Time.{entryOf}
+use Rattle.commands.specs.Refusal.{Check}
 use Rattle.commands.specs.Command.{Pair, Command, keyOf, fieldsOf}
 use Rattle.commands.specs.Effect.{Effect}
 use Rattle.commands.specs.Execute.{passes, exec}
+
+-- a check of a number applies
+unfoldable pub Applies : ℕ → List Check → Type 0
+Applies n [] = ⊥
+Applies n (c ∷ cs) = ((c .number ≡ n) × (c .applies ≡ true)) ⊎ Applies n cs
+
+-- "The lowest number that applies"
+pub record LowestOf (cs : List Check) (n : ℕ) : Type 0 where
+  pub applies : Applies n cs
+  pub least : (m : ℕ) → Applies m cs → n ≤ m
 
 -- none of 20 to 23 applies
 pub record Proper (e : Effect) : Type 0 where

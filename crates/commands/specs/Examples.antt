@@ -168,3 +168,106 @@ workedCases =
     ∷ [])
     1500 (entry "m" "a" "1" 1 Never) none
     ∷ []
+
+-- ---- every command and every option done, and every refusal from 11 to 24: what the paper's own rows leave out
+
+unfoldable pub commandCases : List Case
+commandCases =
+    case "Questions about a live field"
+    (request 1000 "EXHSET m a hello PX 2500" ":1\r\n"
+    ∷ request 1000 "exhget m a" "$5\r\nhello\r\n"
+    ∷ request 1000 "EXHSTRLEN m a" ":5\r\n"
+    ∷ request 1000 "EXHEXISTS m a" ":1\r\n"
+    ∷ request 1000 "EXHGETWITHVER m a" "*2\r\n$5\r\nhello\r\n:1\r\n"
+    ∷ request 1000 "EXHVER m a" ":1\r\n"
+    ∷ request 1000 "EXHTTL m a" ":2\r\n"
+    ∷ request 1000 "EXHPTTL m a" ":2500\r\n"
+    ∷ [])
+    1000 (entry "m" "a" "hello" 1 (At 3500)) none
+    ∷ case "Questions about a missing field"
+    (request 1000 "EXHVER m a" ":-1\r\n"
+    ∷ request 1000 "EXHSET m b 1" ":1\r\n"
+    ∷ request 1000 "EXHVER m a" ":-2\r\n"
+    ∷ request 1000 "EXHGET m a" "$-1\r\n"
+    ∷ request 1000 "EXHSTRLEN m a" ":0\r\n"
+    ∷ request 1000 "EXHEXISTS m a" ":0\r\n"
+    ∷ request 1000 "EXHGETWITHVER m a" "$-1\r\n"
+    ∷ request 1000 "EXHTTL m a" ":-2\r\n"
+    ∷ request 1000 "EXHPTTL m b" ":-1\r\n"
+    ∷ [])
+    1000 (entry "m" "b" "1" 1 Never) none
+    ∷ case "Many fields: in the order named, nil where missing; a field named twice is removed once"
+    (request 1000 "EXHMSET m a 1 b 22" "+OK\r\n"
+    ∷ request 1000 "EXHMGET m b c a" "*3\r\n$2\r\n22\r\n$-1\r\n$1\r\n1\r\n"
+    ∷ request 1000 "EXHMGETWITHVER m c a" "*2\r\n$-1\r\n*2\r\n$1\r\n1\r\n:1\r\n"
+    ∷ request 1000 "EXHKEYS m" "*2\r\n$1\r\na\r\n$1\r\nb\r\n"
+    ∷ request 1000 "EXHVALS m" "*2\r\n$1\r\n1\r\n$2\r\n22\r\n"
+    ∷ request 1000 "EXHLEN m" ":2\r\n"
+    ∷ request 1000 "EXHDEL m a c a" ":1\r\n"
+    ∷ request 1000 "EXHKEYS n" "*0\r\n"
+    ∷ [])
+    1000 none (entry "m" "b" "22" 1 Never)
+    ∷ case "EXHINCRBY: a missing field counts as 0; the sum within MIN and MAX; ABS sets the version"
+    (request 1000 "EXHINCRBY m a 5" ":5\r\n"
+    ∷ request 1000 "EXHINCRBY m a -7 MIN -2 MAX 9 EX 2" ":-2\r\n"
+    ∷ refusal 1000 "EXHINCRBY m a 12 MAX 9" 22 "-ERR increment or decrement would overflow\r\n"
+    ∷ request 1000 "EXHINCRBY m a 1 ABS 7 KEEPTTL" ":-1\r\n"
+    ∷ [])
+    1000 (entry "m" "a" "-1" 7 (At 3000)) none
+    ∷ case "The setters: 1, and 0 where missing; the version moves only with VER or ABS"
+    (request 1000 "EXHSET m a 1" ":1\r\n"
+    ∷ request 1000 "EXHEXPIRE m a 9" ":1\r\n"
+    ∷ request 1000 "EXHPTTL m a" ":9000\r\n"
+    ∷ request 1000 "EXHEXPIREAT m a 3 VER 1" ":1\r\n"
+    ∷ request 1000 "EXHPTTL m a" ":2000\r\n"
+    ∷ refusal 1000 "EXHPEXPIRE m a 50 VER 1" 20 "-ERR update version is stale\r\n"
+    ∷ request 1000 "EXHPEXPIRE m a 50 ABS 6" ":1\r\n"
+    ∷ request 1000 "EXHPEXPIREAT m b 5000 VER 9" ":0\r\n"
+    ∷ request 1000 "EXHVER m a" ":6\r\n"
+    ∷ [])
+    1000 (entry "m" "a" "1" 6 (At 1050)) none
+    ∷ case "EXHPERSIST: 1 if an expiry was removed; EXHSETVER: 0 where missing"
+    (request 1000 "EXHSET m a 1 PXAT 5000" ":1\r\n"
+    ∷ request 1000 "EXHPERSIST m a" ":1\r\n"
+    ∷ request 1000 "EXHPERSIST m a" ":0\r\n"
+    ∷ request 1000 "EXHSETVER m a 9" ":1\r\n"
+    ∷ request 1000 "EXHSETVER m b 9" ":0\r\n"
+    ∷ [])
+    1000 (entry "m" "a" "1" 9 Never) none
+    ∷ case "NX, XX, KEEPTTL, EX, EXAT and ABS of EXHSET"
+    (request 1000 "EXHSET m a 1 XX" ":-1\r\n"
+    ∷ request 1000 "EXHSET m a 1 NX EX 9" ":1\r\n"
+    ∷ request 1000 "EXHSET m a 2 NX VER 5" ":-1\r\n"
+    ∷ request 1000 "EXHSET m a 2 XX KEEPTTL ABS 4" ":0\r\n"
+    ∷ request 1000 "EXHSET m b 3 exat 2 ver 1" ":1\r\n"
+    ∷ [])
+    1000 (entry "m" "a" "2" 4 (At 10000)) (entry "m" "b" "3" 1 (At 2000))
+    ∷ case "An instant at or before now is stored, dead at once; a dead field is removed by whatever names it"
+    (request 1000 "EXHSET m a 1" ":1\r\n"
+    ∷ request 2000 "EXHPEXPIREAT m a 1500" ":1\r\n"
+    ∷ request 900 "EXHLEN m" ":1\r\n"
+    ∷ request 900 "EXHPERSIST m a" ":0\r\n"
+    ∷ [])
+    2000 none none
+    ∷ case "11 to 18 leave the clock and the dead entry"
+    (request 1000 "EXHSET m a 1 PX 5" ":1\r\n"
+    ∷ refusal 4102444800000 "EXHGET m a" 11 "-ERR clock out of range\r\n"
+    ∷ refusal 2000 "EXHSCAN m a" 12 "-ERR unknown command\r\n"
+    ∷ refusal 2000 "EXHGET m a b" 13 "-ERR wrong number of arguments\r\n"
+    ∷ refusal 2000 "EXHGET mmmmmmmmmmmmmmmmm a" 14 "-ERR too long\r\n"
+    ∷ refusal 2000 "EXHSET m a 1 NX XX" 15 "-ERR syntax error\r\n"
+    ∷ refusal 2000 "EXHSET m a 1 VER" 15 "-ERR syntax error\r\n"
+    ∷ refusal 2000 "EXHINCRBY m a 01" 16 "-ERR value is not an integer or out of range\r\n"
+    ∷ refusal 2000 "EXHSET m a 1 ABS 0" 17 "-ERR invalid version\r\n"
+    ∷ refusal 2000 "EXHEXPIRE m a 4102444800" 18 "-ERR invalid expire time\r\n"
+    ∷ [])
+    1000 (entry "m" "a" "1" 1 (At 1005)) none
+    ∷ case "23 at the largest version"
+    (request 1000 "EXHSET m a 1 ABS 4294967295" ":1\r\n"
+    ∷ refusal 2000 "EXHSET m a 2" 23 "-ERR version overflow\r\n"
+    ∷ [])
+    2000 (entry "m" "a" "1" 4294967295 Never) none
+    ∷ case "24: a repeated field is counted once"
+    (request 1000 "EXHSET m a 1" ":1\r\n" ∷ request 1000 "EXHMSET m b 1 b 2" "+OK\r\n" ∷ [])
+    1000 (entry "m" "a" "1" 1 Never) (entry "m" "b" "2" 2 Never)
+    ∷ []

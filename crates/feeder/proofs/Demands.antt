@@ -2,21 +2,21 @@
 -- of the other files. `exec` is one record on what a store holds, `execBytes` the same on its bytes, `meaning` demand 3's definition of a whole
 -- stream, `absorb` the bytes that one call takes, `feed` one feeding call. The definitions speak of lists of numbers: where a theorem asks for
 -- `Bytes` or `AllBytes`, the numbers are below 256, as the elements of the code's slices always are.
-use mathlib.Core.Path.{_≡_, sym, ap, _∙_}
+use mathlib.Core.Path.{_≡_, refl, sym, ap, _∙_}
 use mathlib.Core.Logic.{_≢_, _⊎_, _↔_}
 use mathlib.Core.Bool.{true, false}
 use mathlib.Core.List.{List, [], _∷_, _++_, map, flatten, flatMap, List·Mem}
 use mathlib.Core.Option.{none, some}
-use Prim.Native.Nat.{ℕ, _+_, _*_, _≤_, _<_, zero-le}
+use Prim.Native.Nat.{ℕ, suc, _+_, _*_, _^_, _≤_, _<_}
 use lib.IntN.{ℤ}
-use lib.ListN.{length, getD}
+use lib.ListN.{length, drop, getD}
 use Rattle.wire.specs.Lists.{keep}
 use Rattle.wire.specs.Bytes.{Bytes, part, text}
 use Rattle.wire.specs.Integers.{within, readInteger, integerText}
 use Rattle.wire.specs.Words.{Word, wordsMost, wordsOf, crlf}
 use Rattle.wire.specs.Replies.{line, respOf, laidOver}
-use Rattle.wire.proofs.IntegerLaws.{read-text, text-read}
-use Rattle.wire.proofs.WordLaws.{words-respOf, respOf-words}
+use Rattle.wire.proofs.IntegerLaws.{read-text, text-read, read-within}
+use Rattle.wire.proofs.WordLaws.{words-respOf, respOf-words, words-count}
 use Rattle.store.specs.Layout.{headerSize, slotSize}
 use Rattle.store.specs.Store.{Entry, Slot, Store, withClock, decode, encode, wellFormed, slotCount}
 use Rattle.store.specs.Time.{nowAt, live}
@@ -26,30 +26,37 @@ use Rattle.commands.specs.Refusal.{RefusalRow, table, errorLine, bufferLeast, e
 use Rattle.commands.specs.Command.{Command, Pair, keyOf, fieldsOf}
 use Rattle.commands.specs.Command.Command.{setMany}
 use Rattle.commands.specs.Parse.{parse}
-use Rattle.commands.specs.Parse.Parsed.{accepted}
-use Rattle.commands.specs.Effect.{effect}
-use Rattle.commands.specs.Execute.{sweep, swept, room, added, exec, execBytes}
-use Rattle.commands.specs.Claims.{Proper, names, lastOf, Written, Step, execAll}
-use Rattle.commands.specs.Examples.{given, expected, markedExamples}
+use Rattle.commands.specs.Parse.Parsed.{refused, accepted}
+use Rattle.commands.specs.Effect.{effect, changeAll}
+use Rattle.commands.specs.Execute.{sweep, swept, room, added, lateChecks, exec, execBytes}
+use Rattle.commands.specs.Claims.{LowestOf, Proper, names, lastOf, Written, Step, execAll}
+use Rattle.commands.specs.Examples.{given, expected, markedExamples, workedCases, commandCases}
 use Rattle.commands.proofs.Examples as commandExamples
-use Rattle.commands.proofs.Refused.{protocol-exactly, refusal-number, refusal-row, refused-reply, late-refusal, refused-keeps-live}
+use Rattle.commands.proofs.Refused.{protocol-exactly, refusal-number, refusal-row, late-refusal, refused-keeps-live}
+use Rattle.commands.proofs.Exactly.{early-exactly, late-exactly, done-gives, dead-as-missing}
 use Rattle.commands.proofs.Sweep.{room-sweep}
-use Rattle.commands.proofs.Others.{others-kept}
+use Rattle.commands.proofs.Others.{others-kept, others-from}
 use Rattle.commands.proofs.AllOrNone.{all-set}
 use Rattle.commands.proofs.Clock.{clock-is-now, clock-forward-all, dead-at-clock, dead-stays-dead}
 use Rattle.commands.proofs.Full.{full-exactly, full-accepted, done-exactly}
-use Rattle.commands.proofs.SomeReply.{exec-some}
+use Rattle.commands.proofs.SomeReply.{exec-some, refused-said}
 use Rattle.commands.proofs.Keeps.{execBytes-well, execBytes-means, execBytes-length}
 use Rattle.feeder.specs.declared.Feeder.{Feeder}
-use Rattle.feeder.specs.Record.{Record}
-use Rattle.feeder.specs.Stream.{divide, doAll}
+use Rattle.feeder.specs.Record.{Record, firstMark, secondMark, commandAt, commandMost, commandLength, recordBytes}
+use Rattle.feeder.specs.Stream.{ended, skipping, recording, divide, doAll}
 use Rattle.feeder.specs.Parts.{parts, partBytes, recordsOf, isStray, recordSizes}
-use Rattle.feeder.specs.State.{fresh, waitingIn, isLeft}
+use Rattle.feeder.specs.State.{stateOf, fresh, waitingIn, isLeft}
 use Rattle.feeder.specs.Absorb.{absorb}
 use Rattle.feeder.specs.Pieces.{untaken, next, absorbAll, Uses}
 use Rattle.feeder.specs.Feed.{feed}
 use Rattle.feeder.specs.Calls.{Call, AllBytes, Total, Ran, begin, callAll, answerTo, acceptedPieces, doneFor, uncut, Untouched, Answered, offeringAll}
+use Rattle.feeder.specs.Examples.{workedStreams}
+use Rattle.feeder.specs.Examples as streams
+use Rattle.feeder.proofs.Examples as streamExamples
+use Rattle.feeder.proofs.StreamDivide.{rest-waits}
 use Rattle.feeder.proofs.StreamParts as streamParts
+use Rattle.feeder.proofs.RecordRead.{record-read, stray-skipped}
+use Rattle.feeder.proofs.StateLeft.{left-exactly}
 use Rattle.feeder.proofs.Refusals as refusals
 use Rattle.feeder.proofs.ListOfPieces as pieces
 use Rattle.feeder.proofs.ListOfCalls as calls
@@ -69,6 +76,10 @@ pub refused-exactly : (f : Feeder) (piece b buffer : List ℕ)
     × ((n ≡ 0) ↔ ((isLeft f ≡ true) × (wellFormed b ≡ true) × (bufferLeast ≤ length buffer)))
 refused-exactly = refusals.refused-exactly
 
+-- The states that feeding leaves are those of what waits after some bytes.
+pub left-exactly-if : (f : Feeder) → (isLeft f ≡ true) ↔ ((s : List ℕ) × Bytes s × (f ≡ stateOf (divide s .rest)))
+left-exactly-if = left-exactly
+
 -- A refused call uses no byte, skips none, replies nothing, hands its state back and changes no lent memory, whatever it got.
 pub refused-call : (f : Feeder) (piece b buffer : List ℕ) → feed f piece b buffer .fed .refusal ≢ 0 → Untouched f b buffer (feed f piece b buffer)
 refused-call = refusals.refused-call
@@ -76,6 +87,17 @@ refused-call = refusals.refused-call
 -- A record is refused with 10 exactly if its command is not RESP.
 pub protocol-exactly-if : (clock : ℕ) (command : List ℕ) (s : Store) → (exec clock command s .refusal ≡ some 10) ↔ (wordsOf command ≡ none)
 protocol-exactly-if = protocol-exactly
+
+-- A record is refused with one of 10 to 18 exactly if parsing its command gives that number.
+pub early-exactly-if : (clock : ℕ) (command : List ℕ) (s : Store) (n : ℕ) → n ≤ earlyMost
+    → (exec clock command s .refusal ≡ some n) ↔ (parse (nowAt clock s) clock command ≡ refused n)
+early-exactly-if = early-exactly
+
+-- Of a command that passes them the refusal is the lowest number of 20 to 24 that applies.
+pub late-exactly-if : (clock : ℕ) (command : List ℕ) (s : Store) (c : Command) → parse (nowAt clock s) clock command ≡ accepted c
+    → let left = sweep (nowAt clock s) (keyOf c) (fieldsOf c) (s .slots) in
+    (n : ℕ) → (exec clock command s .refusal ≡ some n) ↔ LowestOf (lateChecks (nowAt clock s) (effect (nowAt clock s) c left) left) n
+late-exactly-if = late-exactly
 
 -- The number of a refused command is one of 10 to 18 or of 20 to 24, and a row of the table has it; its line is the row's text and CR LF.
 pub refusal-numbered : (clock : ℕ) (command : List ℕ) (s : Store) (n : ℕ) → exec clock command s .refusal ≡ some n
@@ -87,10 +109,10 @@ pub refusal-in-table : (clock : ℕ) (command : List ℕ) (s : Store) (n : ℕ) 
 unfolding line
 refusal-in-table = refusal-row
 
--- The reply of a refused command is its line alone.
-pub refused-line : (clock : ℕ) (command : List ℕ) (s : Store) (n : ℕ) → exec clock command s .refusal ≡ some n
-    → exec clock command s .reply ≡ errorLine n
-refused-line = refused-reply
+-- A record replies the line of a number exactly if it is refused with that number.
+pub refused-line : (clock : ℕ) (command : List ℕ) (s : Store) (n : ℕ)
+    → (exec clock command s .reply ≡ errorLine n) ↔ (exec clock command s .refusal ≡ some n)
+refused-line = refused-said
 
 -- After a call whose record is refused with n the reply buffer is n's line laid over what it held, and the reply is as long as the line.
 pub refused-buffer : (f : Feeder) (piece b buffer : List ℕ) → feed f piece b buffer .fed .refusal ≡ 0
@@ -123,23 +145,40 @@ pub refused-keeps-bytes : (clock : ℕ) (command b : List ℕ) (n : ℕ) → wel
     → part (headerSize + slotSize * i) slotSize (execBytes clock command b .store) ≡ part (headerSize + slotSize * i) slotSize b
 refused-keeps-bytes = refusals.live-bytes
 
--- A stray byte is skipped and counted. A stream is as long as the bytes skipped, 12 and its command's length for each record, and the rest.
+-- ════ Demand 1: stray bytes
+
+-- A byte is skipped if it isn't 45, or it and the next aren't the mark, or the mark stands and L is out of range.
+pub stray-skipped-if : (x : ℕ) (s : List ℕ)
+    → (x ≢ firstMark)
+    ⊎ (((1 ≤ length s) × (getD s 0 0 ≢ secondMark))
+    ⊎ ((commandAt ≤ suc (length s)) × ((commandLength (x ∷ s) < 1) ⊎ (commandMost < commandLength (x ∷ s)))))
+    → divide (x ∷ s) ≡ skipping (divide s)
+stray-skipped-if = stray-skipped
+
+-- A record as it is sent, with 1 to 1,024 bytes of command, is read as that record, and reading goes on after it.
+pub record-read-back : (r : Record) → r .clock < 256 ^ 8 → 1 ≤ length (r .command) → length (r .command) ≤ commandMost
+    → (s : List ℕ) → divide (recordBytes r ++ s) ≡ recording r (divide s)
+record-read-back = record-read
+
+-- The rest, read alone, all waits.
+pub rest-all-waits : (s : List ℕ) → divide (divide s .rest) ≡ ended (divide s .rest)
+rest-all-waits = rest-waits
+
+-- A stream is as long as the bytes skipped, 12 and its command's length for each record, and the rest.
 pub every-byte-counted : (s : List ℕ) → length s ≡ divide s .skipped + recordSizes (divide s .records) + length (divide s .rest)
 every-byte-counted = streamParts.every-counted
 
 -- A stream of bytes is its parts joined in order, each one skipped byte or the bytes of one record, and then the rest; the single bytes number
 -- `skipped`, and the records among the parts are `records`.
-pub stream-in-parts : (s : List ℕ) → Bytes s → flatMap partBytes (parts s) ++ divide s .rest ≡ s
-unfolding parts divide
-stream-in-parts s = streamParts.parts-joined 0 s zero-le
+pub stream-in-parts : (s : List ℕ) → Bytes s
+    → (flatMap partBytes (parts s) ++ divide s .rest ≡ s)
+    × (length (keep isStray (parts s)) ≡ divide s .skipped)
+    × (flatMap recordsOf (parts s) ≡ divide s .records)
+stream-in-parts = streamParts.in-parts
 
-pub strays-are-skipped : (s : List ℕ) → length (keep isStray (parts s)) ≡ divide s .skipped
-unfolding parts divide
-strays-are-skipped = streamParts.parts-skipped 0
-
-pub records-are-parts : (s : List ℕ) → flatMap recordsOf (parts s) ≡ divide s .records
-unfolding parts divide
-records-are-parts = streamParts.parts-records 0
+-- The paper's worked streams: replies, bytes skipped, rest and store.
+pub worked-streams : map streams.given workedStreams ≡ map streams.expected workedStreams
+worked-streams = streamExamples.worked-streams
 
 -- ════ Demand 2: commands
 
@@ -148,14 +187,29 @@ pub stays-well-formed : (clock : ℕ) (command b : List ℕ) → Bytes command �
     → wellFormed (execBytes clock command b .store) ≡ true
 stays-well-formed = execBytes-well
 
--- The bytes that a record leaves in a well-formed store hold what the definition of the record gives, and are as many as before.
+-- The bytes that a record leaves in a well-formed store hold what the definition of the record gives, and are as many as before; the reply is the
+-- definition's.
 pub bytes-mean : (clock : ℕ) (command b : List ℕ) → Bytes command → wellFormed b ≡ true
     → decode (execBytes clock command b .store) ≡ exec clock command (decode b) .store
 bytes-mean = execBytes-means
 
+pub bytes-reply : (clock : ℕ) (command b : List ℕ) → execBytes clock command b .reply ≡ exec clock command (decode b) .reply
+unfolding execBytes
+bytes-reply clock command b = refl
+
 pub bytes-as-many : (clock : ℕ) (command b : List ℕ) → Bytes command → wellFormed b ≡ true
     → length (execBytes clock command b .store) ≡ length b
 bytes-as-many = execBytes-length
+
+-- A command that passes checks 10 to 18 and is not refused replies what its effect says, sets the clock to now and makes the effect's changes on the
+-- slots without the named dead entries.
+pub done-gives-effect : (clock : ℕ) (command : List ℕ) (s : Store) (c : Command) → parse (nowAt clock s) clock command ≡ accepted c
+    → exec clock command s .refusal ≡ none
+    → let left = sweep (nowAt clock s) (keyOf c) (fieldsOf c) (s .slots) in
+    let e = effect (nowAt clock s) c left in
+    (exec clock command s .reply ≡ e .reply)
+    × (exec clock command s .store ≡ record { clock = nowAt clock s; slots = changeAll (nowAt clock s) (e .changes) left })
+done-gives-effect = done-gives
 
 -- Store full is said only of a command that passes checks 10 to 18.
 pub full-only-if : (clock : ℕ) (command : List ℕ) (s : Store) → exec clock command s .refusal ≡ some 24
@@ -192,6 +246,16 @@ pub others-stay : (clock : ℕ) (command : List ℕ) (s : Store) (c : Command) �
     → getD (exec clock command s .store .slots) i none ≡ some e
 others-stay = others-kept
 
+-- An entry that a command does not name and that stands in a slot after it stood there before: nothing unnamed appears or wakes.
+pub others-were : (clock : ℕ) (command : List ℕ) (s : Store) (c : Command) → parse (nowAt clock s) clock command ≡ accepted c
+    → (i : ℕ) (e : Entry) → names c e ≡ false → getD (exec clock command s .store .slots) i none ≡ some e → getD (s .slots) i none ≡ some e
+others-were = others-from
+
+-- A dead entry that a command names is as good as missing: the record's whole outcome is the one without it.
+pub dead-is-missing : (clock : ℕ) (command : List ℕ) (s : Store) (c : Command) → parse (nowAt clock s) clock command ≡ accepted c
+    → exec clock command s ≡ exec clock command (swept (nowAt clock s) (keyOf c) (fieldsOf c) s)
+dead-is-missing = dead-as-missing
+
 -- A command that passes checks 10 to 18 sets the clock to now, and no record takes the clock back.
 pub clock-set : (clock : ℕ) (command : List ℕ) (s : Store) (c : Command) → parse (nowAt clock s) clock command ≡ accepted c
     → exec clock command s .store .clock ≡ nowAt clock s
@@ -219,16 +283,35 @@ pub replied-exactly-if : (f : Feeder) (piece b buffer : List ℕ) → feed f pie
     → (feed f piece b buffer .fed .replied ≡ 0) ↔ (absorb (waitingIn f) piece .completed ≡ none)
 replied-exactly-if = refusals.replied-exactly
 
--- No reply on a well-formed store is longer than 56,000 bytes, so a call's reply lies in its buffer.
+-- No reply on a well-formed store is longer than 56,000 bytes, so a call's reply lies in its buffer; the bytes beyond it are as they were, and with
+-- no record completed store and buffer are.
 pub reply-fits : (clock : ℕ) (command b : List ℕ) → wellFormed b ≡ true → length (execBytes clock command b .reply) ≤ bufferLeast
 reply-fits = refusals.reply-short
+
+pub reply-in-buffer : (f : Feeder) (piece b buffer : List ℕ) → feed f piece b buffer .fed .replied ≤ length buffer
+reply-in-buffer = refusals.reply-inside
+
+pub beyond-reply : (f : Feeder) (piece b buffer : List ℕ)
+    → let a = feed f piece b buffer in drop (a .fed .replied) (a .buffer) ≡ drop (a .fed .replied) buffer
+beyond-reply = refusals.buffer-beyond
+
+pub no-record-keeps-all : (f : Feeder) (piece b buffer : List ℕ) → absorb (waitingIn f) piece .completed ≡ none
+    → (feed f piece b buffer .store ≡ b) × (feed f piece b buffer .buffer ≡ buffer)
+no-record-keeps-all = refusals.no-record-keeps
 
 pub buffer-stays : (f : Feeder) (piece b buffer : List ℕ) → length (feed f piece b buffer .buffer) ≡ length buffer
 buffer-stays = refusals.buffer-length
 
--- P1 to P14.
+-- P1 to P14: each refusal's number, each reply, and the clock and the slots at the end. The paper's other worked cases. And every command and option
+-- done, every refusal from 11 on.
 pub marked-examples : map given markedExamples ≡ map expected markedExamples
 marked-examples = commandExamples.marked-examples
+
+pub worked-cases : map given workedCases ≡ map expected workedCases
+worked-cases = commandExamples.worked-cases
+
+pub command-cases : map given commandCases ≡ map expected commandCases
+command-cases = commandExamples.command-cases
 
 -- ════ Demand 3: any list of calls
 
@@ -256,9 +339,9 @@ module _ (b : List ℕ) (well : wellFormed b ≡ true) where
       rw (demand-3-records cs bytes)
       (unfold doneFor in calls.halves-uncut b well (absorbAll untaken (acceptedPieces cs)) (demand-3-stream (acceptedPieces cs)))
 
-  -- "For every list of feeding calls from there, refused ones included, whatever piece and whatever reply buffer each brings, this holds after
-  -- it." The same of whatever a program does with calls whose answers meet the promise of `Feeder::feed` (its `ensures`, crates/feeder/src/feed.rt,
-  -- which the checker ties to the code), each with the state that the last one handed back and the store as it left it.
+  -- The same for answers instead of the definition: whatever a program does with calls whose answers meet the promise of `Feeder::feed` (its
+  -- `ensures` in crates/feeder/src/feed.rt, which the checker ties to the code), each with the state that the last one handed back and the store as
+  -- it left it, comes to the uncut answer.
   pub demand-3-promised : {cs : List Call} {t : Total} → AllBytes cs → Ran (begin b) cs t → t ≡ uncut (t .used) b
   demand-3-promised {cs} bytes r =
       let e = calls.ran-as-called r in
@@ -282,19 +365,19 @@ module _ (b : List ℕ) (well : wellFormed b ≡ true) where
 
 -- ════ Round trips
 
--- An integer's text is read back, and a text that is read is the integer's text, within any bounds.
+-- An integer's text is read back, and a text that is read is the integer's text, an integer within the bounds.
 pub integer-read-back : (lo hi z : ℤ) → within lo hi z ≡ true → readInteger lo hi (integerText z) ≡ some z
 integer-read-back = read-text
 
-pub integer-text-only : (lo hi : ℤ) (s : List ℕ) (z : ℤ) → readInteger lo hi s ≡ some z → integerText z ≡ s
-integer-text-only = text-read
+pub integer-text-only : (lo hi : ℤ) (s : List ℕ) (z : ℤ) → readInteger lo hi s ≡ some z → (integerText z ≡ s) × (within lo hi z ≡ true)
+integer-text-only lo hi s z h = (text-read lo hi s z h, read-within lo hi s z h)
 
--- The words of a command are read back, and a command that is read is the array of its words.
+-- The words of a command are read back, and a command that is read is the array of its words, 1 to 64 of them.
 pub words-read-back : (ws : List Word) → 1 ≤ length ws → length ws ≤ wordsMost → wordsOf (respOf ws) ≡ some ws
 words-read-back = words-respOf
 
-pub words-array-only : (s : List ℕ) (ws : List Word) → wordsOf s ≡ some ws → s ≡ respOf ws
-words-array-only = respOf-words
+pub words-array-only : (s : List ℕ) (ws : List Word) → wordsOf s ≡ some ws → (s ≡ respOf ws) × (1 ≤ length ws) × (length ws ≤ wordsMost)
+words-array-only s ws h = (respOf-words s ws h, words-count s ws h .0, words-count s ws h .1)
 
 -- What a valid store holds is read back from its bytes, which are well formed; well-formed bytes are those of what they hold, which is valid.
 pub store-read-back : (s : Store) → Valid s → (wellFormed (encode s) ≡ true) × (decode (encode s) ≡ s)

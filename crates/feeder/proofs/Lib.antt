@@ -10,6 +10,7 @@ pub mod RecordHead
 pub mod StreamDivide
 pub mod StreamParts
 pub mod FirstRecord
+pub mod RecordRead
 -- States, one absorbing call, and lists of them: the stream's half of demand 3.
 pub mod StateLeft
 pub mod OneAbsorbing

@@ -7,19 +7,19 @@ use mathlib.Core.Option.{Option, none, some, Option·none-ne-some}
 use Prim.Native.Nat.{ℕ, zero, suc, _+_, _*_, _≤_, _<_}
 use native.Mathlib.Omega.{arith}
 use lib.Dec.{ltb}
-use lib.ListN.{length, getD}
+use lib.ListN.{length, drop, getD}
 use borrow.Author.Tests.{ltb-true, ltb-false, le-ltb, not-false}
 use Rattle.wire.specs.Lists.{orElse}
 use Rattle.wire.specs.Bytes.{part}
 use Rattle.wire.specs.Replies.{laidOver}
 use Rattle.wire.proofs.Lists.{impossible}
-use Rattle.wire.proofs.ReplyLaying.{length-laid}
+use Rattle.wire.proofs.ReplyLaying.{length-laid, drop-laid}
 use Rattle.store.specs.Layout.{headerSize, slotSize}
 use Rattle.store.specs.Store.{Entry, Slot, Store, encodeSlot, decode, encode, wellFormed, slotCount}
 use Rattle.store.specs.Time.{nowAt, live}
 use Rattle.store.proofs.Encode.{decode-valid, encode-decode, length-decode}
 use Rattle.store.proofs.Places.{encode-at}
-use Rattle.commands.specs.Refusal.{errorLine, _when_, lowest, bufferLeast, earlyMost}
+use Rattle.commands.specs.Refusal.{errorLine, lowest, bufferLeast, earlyMost}
 use Rattle.commands.specs.Execute.{exec, execBytes}
 use Rattle.commands.proofs.ParseChecks.{lowest-none}
 use Rattle.commands.proofs.Refused.{refused-reply, early-refusal, refused-keeps-live}
@@ -123,6 +123,15 @@ unfolding doing orElse
 doing-short none b well = omega arith
 doing-short (some r) b well = reply-short (r .clock) (r .command) b well
 
+-- a call of which no check applies has a well-formed store and a large buffer
+none-refused : (f : Feeder) (b buffer : List ℕ) → lowest (checks f b buffer) ≡ none → (wellFormed b ≡ true) × (bufferLeast ≤ length buffer)
+unfolding checks
+none-refused f b buffer e =
+    let left = lowest-none _ _ e in
+    let well = lowest-none _ _ (left .1) in
+    let large = lowest-none _ _ (well .1) in
+    (not-false (wellFormed b) (well .0), ltb-false (length buffer) bufferLeast (large .0))
+
 pub buffer-length : (f : Feeder) (piece b buffer : List ℕ) → length (feed f piece b buffer .buffer) ≡ length buffer
 unfolding feed orElse answering refusing
 buffer-length f piece b buffer = go (lowest (checks f b buffer)) refl
@@ -130,19 +139,41 @@ buffer-length f piece b buffer = go (lowest (checks f b buffer)) refl
     go : (m : Option ℕ) → lowest (checks f b buffer) ≡ m → length (answerBy f piece b buffer m .buffer) ≡ length buffer
     go (some n) e = refl
     go none e =
-        length-laid (doing m b .reply) buffer (omega (arith, doing-short m b well, ltb-false (length buffer) bufferLeast large))
-      where
-        m : Option Record
-        m = absorb (waitingIn f) piece .completed
+        let m : Option Record = absorb (waitingIn f) piece .completed in
+        let fine = none-refused f b buffer e in
+        length-laid (doing m b .reply) buffer (omega (arith, doing-short m b (fine .0), fine .1))
 
-        late : (not (wellFormed b) ≡ false) × (lowest (3 when ltb (length buffer) bufferLeast ∷ []) ≡ none)
-        late = unfold checks in lowest-none _ _ (lowest-none _ _ e .1)
+-- the bytes beyond a reply are as they were
+pub buffer-beyond : (f : Feeder) (piece b buffer : List ℕ)
+    → let a = feed f piece b buffer in drop (a .fed .replied) (a .buffer) ≡ drop (a .fed .replied) buffer
+unfolding feed orElse answering refusing
+buffer-beyond f piece b buffer = go (lowest (checks f b buffer))
+  where
+    go : (m : Option ℕ)
+        → drop (answerBy f piece b buffer m .fed .replied) (answerBy f piece b buffer m .buffer) ≡ drop (answerBy f piece b buffer m .fed .replied) buffer
+    go none = drop-laid (doing (absorb (waitingIn f) piece .completed) b .reply) buffer
+    go (some n) = refl
 
-        well : wellFormed b ≡ true
-        well = not-false (wellFormed b) (late .0)
+-- with no record completed, store and buffer are as they were
+pub no-record-keeps : (f : Feeder) (piece b buffer : List ℕ) → absorb (waitingIn f) piece .completed ≡ none
+    → (feed f piece b buffer .store ≡ b) × (feed f piece b buffer .buffer ≡ buffer)
+unfolding feed orElse answering refusing
+no-record-keeps f piece b buffer e = go (lowest (checks f b buffer))
+  where
+    go : (m : Option ℕ) → (answerBy f piece b buffer m .store ≡ b) × (answerBy f piece b buffer m .buffer ≡ buffer)
+    go none = unfold doing laidOver in rw e (refl, refl)
+    go (some n) = (refl, refl)
 
-        large : ltb (length buffer) bufferLeast ≡ false
-        large = lowest-none _ _ (late .1) .0
+-- a reply lies in its buffer
+pub reply-inside : (f : Feeder) (piece b buffer : List ℕ) → feed f piece b buffer .fed .replied ≤ length buffer
+unfolding feed orElse answering refusing
+reply-inside f piece b buffer = go (lowest (checks f b buffer)) refl
+  where
+    go : (m : Option ℕ) → lowest (checks f b buffer) ≡ m → answerBy f piece b buffer m .fed .replied ≤ length buffer
+    go (some n) e = omega arith
+    go none e =
+        let fine = none-refused f b buffer e in
+        omega (arith, doing-short (absorb (waitingIn f) piece .completed) b (fine .0), fine .1)
 
 -- ---- a refused command, in the store's bytes
 

@@ -1,5 +1,6 @@
 -- States that feeding leaves: their bytes are none, or start with what waits.
 use mathlib.Core.Path.{_≡_, refl, sym, ap, _∙_}
+use mathlib.Core.Logic.{_↔_}
 use mathlib.Core.Bool.{Bool, true, false, false≢true, _&&_}
 use mathlib.Core.List.{List, [], _∷_, _++_, append-nil}
 use Prim.Native.Nat.{ℕ, _+_, _-_, _≤_, _<_}
@@ -11,7 +12,7 @@ use lib.Seq.{take-all, length-take-le}
 use borrow.Author.Tests.{eqb-true, leb-true, eq-eqb, le-leb, lt-leb}
 use Rattle.wire.specs.Lists.{every}
 use Rattle.wire.specs.Bytes.{Bytes, allZero, padded, same}
-use Rattle.wire.proofs.ByteLaws.{bytes-padded, length-padded, take-padded, drop-padded, same-refl, same-true, zero-replicate}
+use Rattle.wire.proofs.ByteLaws.{bytes-take, bytes-padded, length-padded, padded-is, take-padded, drop-padded, same-refl, same-true, zero-replicate}
 use Rattle.wire.proofs.Lists.{every-at, impossible}
 use Rattle.wire.proofs.ByteLoops.{not-same}
 use Rattle.feeder.specs.declared.Feeder.{Feeder}
@@ -165,3 +166,26 @@ left-state f h =
       waits = rw all at (rest-waits (waitingIn f));
       zeros = every-at (testsOf f) h 4;
     }
+
+-- a state that feeding leaves is made of its waiting bytes
+state-back : (f : Feeder) → LeftState f → f ≡ stateOf (waitingIn f)
+unfolding stateOf waitingIn
+state-back f l = λ i. record {
+  waiting = sym (padded-is waitingMost (f .count) (f .waiting) (l .size) (l .few) (l .zeros)) i;
+  count = sym (l .count) i;
+}
+
+-- the states that feeding leaves are those of what waits after some bytes
+pub left-exactly : (f : Feeder) → (isLeft f ≡ true) ↔ ((s : List ℕ) × Bytes s × (f ≡ stateOf (divide s .rest)))
+left-exactly f = (go, back)
+  where
+    go : isLeft f ≡ true → (s : List ℕ) × Bytes s × (f ≡ stateOf (divide s .rest))
+    go h =
+        let l : LeftState f = left-state f h in
+        (waitingIn f, bytes h, rw (l .waits) (state-back f l))
+      where
+        bytes : isLeft f ≡ true → Bytes (waitingIn f)
+        bytes h = unfold isLeft waitingIn in bytes-take (f .count) (f .waiting) (every-at (testsOf f) h 0)
+
+    back : (s : List ℕ) × Bytes s × (f ≡ stateOf (divide s .rest)) → isLeft f ≡ true
+    back e = rw (e .2) (rest-left (e .0) (e .1))

@@ -17,12 +17,12 @@ use Rattle.store.proofs.Pieces.{length-part, number-back}
 use Rattle.feeder.specs.Record.{Record, Head, headOf, recordOf, recordBytes, commandLength, firstMark, secondMark, clockAt, lengthAt, commandAt, commandMost}
 use Rattle.feeder.specs.Record.Head.{skip, whole, wait}
 use Rattle.feeder.specs.Stream.{dividedAt, divideAfter, divide}
-use Rattle.feeder.specs.Parts.{partsAt, partsAfter, partBytes, recordsOf, isStray, recordSizes}
+use Rattle.feeder.specs.Parts.{partsAt, partsAfter, parts, partBytes, recordsOf, isStray, recordSizes}
 use Rattle.feeder.proofs.RecordHead.{whole-fits}
 
 -- ---- how many, and which
 
-pub parts-skipped : (k : ℕ) (s : List ℕ) → length (keep isStray (partsAfter k s)) ≡ divideAfter k s .skipped
+parts-skipped : (k : ℕ) (s : List ℕ) → length (keep isStray (partsAfter k s)) ≡ divideAfter k s .skipped
 unfolding partsAfter partsAt divideAfter dividedAt keep isStray
 parts-skipped k [] = refl
 parts-skipped (suc k) (b ∷ s) = parts-skipped k s
@@ -34,7 +34,7 @@ parts-skipped zero (b ∷ s) = go (headOf (b ∷ s)) (λ k. parts-skipped k s)
     go (whole n) ih = ih (commandAt - 1 + n)
     go wait ih = refl
 
-pub parts-records : (k : ℕ) (s : List ℕ) → flatMap recordsOf (partsAfter k s) ≡ divideAfter k s .records
+parts-records : (k : ℕ) (s : List ℕ) → flatMap recordsOf (partsAfter k s) ≡ divideAfter k s .records
 unfolding partsAfter partsAt divideAfter dividedAt flatMap recordsOf
 parts-records k [] = refl
 parts-records (suc k) (b ∷ s) = parts-records k s
@@ -103,7 +103,7 @@ whole-bytes s n bs h =
 
 -- ---- joined
 
-pub parts-joined : (k : ℕ) (s : List ℕ) → k ≤ length s → Bytes s → flatMap partBytes (partsAfter k s) ++ divideAfter k s .rest ≡ drop k s
+parts-joined : (k : ℕ) (s : List ℕ) → k ≤ length s → Bytes s → flatMap partBytes (partsAfter k s) ++ divideAfter k s .rest ≡ drop k s
 unfolding partsAfter partsAt divideAfter dividedAt flatMap partBytes
 parts-joined zero [] l bs = refl
 parts-joined (suc k) [] l bs = absurd (not-suc-le-zero l)
@@ -147,3 +147,12 @@ counted-after zero (b ∷ s) l = go (headOf (b ∷ s)) refl (λ k. counted-after
 pub every-counted : (s : List ℕ) → length s ≡ divide s .skipped + recordSizes (divide s .records) + length (divide s .rest)
 unfolding divide
 every-counted s = rw zero-add at (counted-after 0 s zero-le)
+
+-- ---- all of it
+
+pub in-parts : (s : List ℕ) → Bytes s
+    → (flatMap partBytes (parts s) ++ divide s .rest ≡ s)
+    × (length (keep isStray (parts s)) ≡ divide s .skipped)
+    × (flatMap recordsOf (parts s) ≡ divide s .records)
+unfolding parts divide
+in-parts s bs = (parts-joined 0 s zero-le bs, parts-skipped 0 s, parts-records 0 s)

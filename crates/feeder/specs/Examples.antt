@@ -46,4 +46,5 @@ workedStreams =
     ∷ streamCase "A refused command is a record too: its error line is its reply"
     (recordBytes (record { clock = 1000; command = text "*1\r\n$3\r\nGET\r\n" }) ++ wholeExample)
     (told (text "-ERR unknown command\r\n$-1\r\n") 0 [] 1000)
+    ∷ streamCase "A command that is not RESP: 10" (recordBytes (record { clock = 1000; command = text "EXHGET m t1" })) (told (text "-ERR protocol\r\n") 0 [] 0)
     ∷ []

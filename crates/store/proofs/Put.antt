@@ -10,7 +10,8 @@ use borrow.Author.Tests.{eqb-true, eqb-false, not-true}
 use lib.ListN.{length, getD, set, length-set}
 use lib.Seq.{getD-set-same, getD-set-other}
 use Rattle.wire.specs.Lists.{orElse}
-use Rattle.wire.proofs.Lists.{both-ways}
+use Rattle.wire.proofs.Lists.{both-ways, impossible}
+use Rattle.wire.proofs.ByteLaws.{same-refl}
 use Rattle.store.specs.Store.{Entry, Slot, holds, clash}
 use Rattle.store.specs.Time.{live, liveSlot, deadSlot, emptySlot, lowestSlot, entryOf, slotFor, put}
 use Rattle.store.specs.Valid.{Fits, FitsSlot, AllFit, Apart}
@@ -119,6 +120,21 @@ module _ (time : ℕ) (e : Entry) (ss : List Slot) where
     where
       kept : (j : ℕ) → Place time (e .key) (e .field) ss j → getD (set ss j (some e)) i none ≡ getD ss i none
       kept j l = getD-set-other ss j i (some e) none (λ q. both-ways (l .own (rw q at h)) (rw q at n))
+
+  -- an entry of another name that stands in a slot then stood there before
+  pub put-from : (i : ℕ) (x : Entry) → holds (e .key) (e .field) (some x) ≡ false → getD (put time e ss) i none ≡ some x → getD ss i none ≡ some x
+  unfolding holds orElse
+  put-from i x n = put-either (λ t. getD t i none ≡ some x → getD ss i none ≡ some x) (λ h. h) from
+    where
+      from : (j : ℕ) → Place time (e .key) (e .field) ss j → getD (set ss j (some e)) i none ≡ some x → getD ss i none ≡ some x
+      from j l h = go (eqb i j) (rw (getD-set ss j (some e) (l .inside) i) at h)
+        where
+          go : (t : Bool) → cond t (some e) (getD ss i none) ≡ some x → getD ss i none ≡ some x
+          go true q =
+              let m : e ≡ x = cc in
+              let z : true ≡ false = rw (← m, same-refl (e .key), same-refl (e .field)) at n in
+              impossible cc
+          go false q = q
 
   -- an entry that is given no slot changes nothing
   pub put-nowhere : slotFor time (e .key) (e .field) ss ≡ none → put time e ss ≡ ss

@@ -1,11 +1,12 @@
 -- Laws of entries taken out of the slots: what is kept.
-use mathlib.Core.Path.{_≡_}
+use mathlib.Core.Path.{_≡_, refl, ap}
 use mathlib.Core.Bool.{Bool, true, false, cond}
-use mathlib.Core.List.{List}
+use mathlib.Core.List.{List, [], _∷_}
 use mathlib.Core.Option.{none, some}
 use Prim.Native.Nat.{ℕ}
 use lib.ListN.{length, getD, length-map, List·getD-map}
 use Rattle.wire.specs.Lists.{orElse}
+use Rattle.wire.proofs.Lists.{impossible}
 use Rattle.store.specs.Store.{Entry, Slot, clash}
 use Rattle.store.specs.Time.{without}
 use Rattle.store.specs.Valid.{FitsSlot, AllFit, Apart}
@@ -53,3 +54,22 @@ module _ (p : Entry → Bool) where
     pub without-keeps : (i : ℕ) (e : Entry) → getD ss i none ≡ some e → p e ≡ false → getD (without p ss) i none ≡ some e
     unfolding emptied orElse
     without-keeps i e h q = rw (getD-without i, h, q)
+
+    -- an entry that stands in a slot then stood there before
+    pub without-from : (i : ℕ) (e : Entry) → getD (without p ss) i none ≡ some e → getD ss i none ≡ some e
+    without-from i e h = go (getD ss i none) (rw (getD-without i) at h)
+      where
+        go : (s : Slot) → emptied p s ≡ some e → s ≡ some e
+        go s = emptied-either (λ x. x ≡ some e → s ≡ some e) s (λ z. impossible cc) (λ z. z)
+
+  -- to take the same entries out twice is to take them out once
+  pub without-again : (ss : List Slot) → without p (without p ss) ≡ without p ss
+  unfolding without orElse
+  without-again [] = refl
+  without-again (none ∷ ss) = ap (λ (t : List Slot). none ∷ t) (without-again ss)
+  without-again (some e ∷ ss) = go (p e) refl (without-again ss)
+    where
+      go : (t : Bool) → p e ≡ t → without p (without p ss) ≡ without p ss
+          → orElse (cond t none (some e)) none (λ e. cond (p e) none (some e)) ∷ without p (without p ss) ≡ cond t none (some e) ∷ without p ss
+      go true q ih = rw ih
+      go false q ih = rw (q, ih)
