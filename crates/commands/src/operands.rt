@@ -64,16 +64,12 @@ pub fn instant(unit: usize, n: u64, time: u64) -> u64
     requires { ⌜ (n ≤ timeLimit) × (time < timeLimit) ⌝ }
     ensures { λ r. ⌜ r ≡ instantIn unit n time ⌝ }
 {
-    if unit == SECONDS_FROM_NOW {
-        return time + 1000 * n;
+    match unit {
+        SECONDS_FROM_NOW => time + 1000 * n,
+        SECONDS_SINCE => 1000 * n,
+        MS_FROM_NOW => time + n,
+        _ => n,
     }
-    if unit == SECONDS_SINCE {
-        return 1000 * n;
-    }
-    if unit == MS_FROM_NOW {
-        return time + n;
-    }
-    n
 }
 
 // What EX, EXAT, PX, PXAT or KEEPTTL says.
