@@ -164,6 +164,10 @@ module _ (ws : List Word) (i time : ℕ) (gs : List Given) where
     unfolding longAfter
     pair-long e h = h ∙ sym (long-named ∙ rw e)
 
+    pub field-only : names ≡ oneField → ltb fieldMost (length (wordAt 2 ws)) ≡ long
+    unfolding longAfter
+    field-only e = sym (long-named ∙ rw (e, or-false (ltb fieldMost (length (wordAt 2 ws)))))
+
     module _ (a : names ≡ noneNamed → ⊥) (b : names ≡ eachField → ⊥) (d : names ≡ eachPair → ⊥) where
       long-field : long ≡ ltb fieldMost (length (wordAt 2 ws)) || cond (eqb names oneField) false (ltb valueMost (length (wordAt 3 ws)))
       unfolding longAfter
@@ -172,12 +176,8 @@ module _ (ws : List Word) (i time : ℕ) (gs : List Given) where
       pub field-long : fieldMost < length (wordAt 2 ws) → true ≡ long
       field-long h = sym (long-field ∙ rw (lt-ltb fieldMost (length (wordAt 2 ws)) h))
 
-      module _ (f : length (wordAt 2 ws) ≤ fieldMost) where
-        pub field-short : names ≡ oneField → false ≡ long
-        field-short e = sym (long-field ∙ rw (le-ltb fieldMost (length (wordAt 2 ws)) f, eq-eqb names oneField e))
-
-        pub value-long : (names ≡ oneField → ⊥) → ltb valueMost (length (wordAt 3 ws)) ≡ long
-        value-long e = sym (long-field ∙ rw (le-ltb fieldMost (length (wordAt 2 ws)) f, ne-eqb names oneField e))
+      pub value-long : length (wordAt 2 ws) ≤ fieldMost → (names ≡ oneField → ⊥) → ltb valueMost (length (wordAt 3 ws)) ≡ long
+      value-long f e = sym (long-field ∙ rw (le-ltb fieldMost (length (wordAt 2 ws)) f, ne-eqb names oneField e))
 
 -- ---- the loops
 

@@ -228,8 +228,8 @@ module _ (ws : List Word) (allowed : List ℕ) (i : ℕ) {count : ℕ} (size : l
         unfolding onlyIf
         option-barred z = none-here allowed ws i inside (named-so ∙ rw (taken-so, not-true t z))
 
-        -- which is allowed; the code looked for its last word
-        module _ (a : not t ≡ false) {n : ℕ} (en : n ≡ getD (optionData (optionOf k)) sizeAt 0) {end : Next} (ee : end ≡ nextOf count (i + n - 1)) where
+        -- which is allowed
+        module _ (a : not t ≡ false) {n : ℕ} (en : n ≡ getD (optionData (optionOf k)) sizeAt 0) where
           known-so : optionNamed options allowed (wordAt i ws) ≡ some (kindOf k)
           unfolding onlyIf
           known-so = named-so ∙ rw (taken-so, not-false t a)
@@ -238,15 +238,10 @@ module _ (ws : List Word) (allowed : List ℕ) (i : ℕ) {count : ℕ} (size : l
           unfolding optionData
           size-so = (en, omega (arith, size-range (kindOf k)), omega (arith, size-range (kindOf k)))
 
-          -- which is not there: its operand is missing
-          pub option-short : end ≡ nexts.End → scan allowed none (drop i ws) ≡ none
-          option-short q = scan-short allowed ws i inside (kindOf k) known-so (omega (arith, size-so, next-end count (i + n - 1) ee q))
-
-          -- which is there
-          pub option-found : (last : ℕ) → end ≡ nexts.Word last → {said : ℕ} → said ≡ getD (optionData (optionOf k)) saidAt 0 → FoundOption ws allowed i g said last
+          -- its last word is there
+          ends-at : (last : ℕ) → last + 1 ≡ i + n → last < count → {said : ℕ} → said ≡ getD (optionData (optionOf k)) saidAt 0 → FoundOption ws allowed i g said last
           unfolding optionData numbered
-          option-found last q {said} es =
-              let at : (last ≡ i + n - 1) × (i + n - 1 < count) = next-at count (i + n - 1) last ee q in
+          ends-at last e b {said} es =
               let same : kindIn g said ≡ kindOf k = rw (eg, es) (row-kind k) in
               record {
                 left = rw same (scan-step allowed ws i inside (kindOf k) known-so last (omega (arith, size-so)) (omega arith));
@@ -257,6 +252,22 @@ module _ (ws : List Word) (allowed : List ℕ) (i : ℕ) {count : ℕ} (size : l
                 inside = omega arith;
               }
 
+          -- it takes no operand
+          pub option-bare : n < 2 → {said : ℕ} → said ≡ getD (optionData (optionOf k)) saidAt 0 → FoundOption ws allowed i g said i
+          option-bare one es = ends-at i (omega (arith, size-so)) l es
+
+          -- it takes one; the code looked for the word after it
+          module _ (two : 2 ≤ n) {next : Next} (ee : next ≡ nextOf count (i + 1)) where
+            -- which is not there
+            pub option-short : next ≡ nexts.End → scan allowed none (drop i ws) ≡ none
+            option-short q = scan-short allowed ws i inside (kindOf k) known-so (omega (arith, size-so, next-end count (i + 1) ee q))
+
+            -- which is there
+            pub option-found : (last : ℕ) → next ≡ nexts.Word last → {said : ℕ} → said ≡ getD (optionData (optionOf k)) saidAt 0 → FoundOption ws allowed i g said last
+            option-found last q es =
+                let at : (last ≡ i + 1) × (i + 1 < count) = next-at count (i + 1) last ee q in
+                ends-at last (omega (arith, size-so)) (omega arith) es
+
 -- ---- the loop
 
 -- The words up to i were scanned: what is left does the same as all words after the options found, none of which conflict, and which the code has by their groups.
@@ -265,7 +276,7 @@ pub record Scanning (ws : List Word) (allowed : List ℕ) (from i : ℕ) (r : co
   pub left : scan allowed none (drop from ws) ≡ Option·map (λ more. found ++ more) (scan allowed none (drop i ws))
   pub clean : conflicting found ≡ false
   pub entries : (g : ℕ) → g < groupCount → givenOf g found ≡ givenAt ws r g
-  pub unclean : r .clean ≡ false
+  pub passed : r .refusal ≡ 0
   pub saidSize : length (r .said) ≡ groupCount
   pub operandsSize : length (r .operands) ≡ groupCount
 
@@ -289,7 +300,7 @@ map-last gs x none = refl
 map-last gs x (some more) = ap some (sym (append-assoc gs (x ∷ []) more))
 
 pub scanning-begins : (ws : List Word) (allowed : List ℕ) (from : ℕ)
-    → Scanning ws allowed from from (record { clean = false; said = replicate groupCount notGiven; operands = replicate groupCount 0 })
+    → Scanning ws allowed from from (record { refusal = 0; said = replicate groupCount notGiven; operands = replicate groupCount 0 })
 unfolding conflicting givenOf
 scanning-begins ws allowed from =
     record {
@@ -297,27 +308,30 @@ scanning-begins ws allowed from =
       left = map-none (scan allowed none (drop from ws));
       clean = refl;
       entries = λ g l. sym (option-none ws g _ _ (omega (arith, getD-replicate {A = ℕ} groupCount g notGiven 0 l)));
-      unclean = refl;
+      passed = refl;
       saidSize = refl;
       operandsSize = refl;
     }
 
 module _ {ws : List Word} {allowed : List ℕ} {from i : ℕ} {r : code.ScannedOptions} (s : Scanning ws allowed from i r) where
-  refused : orElse (scan allowed none (drop from ws)) true conflicting ≡ true → Scanned ws allowed from r
-  refused h = record { clean = rw h (s .unclean); given = λ e. both-ways e (s .unclean) }
+  abbrev refusedWith : ℕ → code.ScannedOptions
+  refusedWith n = record { refusal = n; said = r .said; operands = r .operands }
+
+  refused : {n : ℕ} → n ≡ 15 → orElse (scan allowed none (drop from ws)) true conflicting ≡ true → Scanned ws allowed from (refusedWith n)
+  refused e h = record { refusal = rw h e; given = λ z. absurd (omega arith) }
 
   -- the scan of what is left fails
-  pub scanning-fails : scan allowed none (drop i ws) ≡ none → Scanned ws allowed from r
+  pub scanning-fails : {n : ℕ} → (n ≡ 15) × (scan allowed none (drop i ws) ≡ none) → Scanned ws allowed from (refusedWith n)
   unfolding orElse
-  scanning-fails e = refused (rw (s .left, e))
+  scanning-fails (e, fails) = refused e (rw (s .left, fails))
 
   -- all words were scanned
-  pub scanning-ends : {count : ℕ} → length ws ≡ count → count ≤ i → Scanned ws allowed from (record { clean = true; said = r .said; operands = r .operands })
+  pub scanning-ends : {count : ℕ} → length ws ≡ count → count ≤ i → Scanned ws allowed from r
   unfolding scan orElse
   scanning-ends size l =
       let past : drop i ws ≡ [] = drop-of-length-le ws {i = i} (omega arith) in
       let all : scan allowed none (drop from ws) ≡ some (s .found) = s .left ∙ rw (past, append-nil) in
-      record { clean = rw (all, s .clean); given = λ e g b. rw all (s .entries g b) }
+      record { refusal = rw (all, s .clean) (s .passed); given = λ e g b. rw all (s .entries g b) }
 
   -- an option was found
   module _ {g said last : ℕ} (f : FoundOption ws allowed i g said last) where
@@ -329,9 +343,9 @@ module _ {ws : List Word} {allowed : List ℕ} {from i : ℕ} {r : code.ScannedO
     member-so = f .member
 
     -- of a group that was given before
-    pub scanning-again : getD (r .said) g 0 < notGiven → Scanned ws allowed from r
+    pub scanning-again : getD (r .said) g 0 < notGiven → Scanned ws allowed from (refusedWith 15)
     unfolding orElse
-    scanning-again b = refused (rw (s .left, f .left) (go (scan allowed none (drop (last + 1) ws))))
+    scanning-again b = refused refl (rw (s .left, f .left) (go (scan allowed none (drop (last + 1) ws))))
       where
         before : givenOf (group (x .kind)) (s .found) ≡ some (numbered ws g (getD (r .said) g 0) (getD (r .operands) g 0))
         before = rw member-so (s .entries g (f .grouped) ∙ option-some ws g _ _ b)
@@ -346,7 +360,7 @@ module _ {ws : List Word} {allowed : List ℕ} {from i : ℕ} {r : code.ScannedO
       none-before = rw member-so (s .entries g (f .grouped) ∙ option-none ws g _ _ free)
 
       abbrev next : code.ScannedOptions
-      next = record { clean = r .clean; said = set (r .said) g said; operands = set (r .operands) g last }
+      next = record { refusal = r .refusal; said = set (r .said) g said; operands = set (r .operands) g last }
 
       next-entries : (h : ℕ) → h < groupCount → givenOf h (s .found ++ (x ∷ [])) ≡ givenAt ws next h
       next-entries h b = go (eqb g h) refl
@@ -374,7 +388,7 @@ module _ {ws : List Word} {allowed : List ℕ} {from i : ℕ} {r : code.ScannedO
                 ∙ map-last (s .found) x (scan allowed none (drop (last + 1) ws));
             clean = conflict-none x (s .found) (s .clean) none-before;
             entries = next-entries;
-            unclean = s .unclean;
+            passed = s .passed;
             saidSize = length-set (r .said) g said ∙ s .saidSize;
             operandsSize = length-set (r .operands) g last ∙ s .operandsSize;
           }

@@ -112,19 +112,29 @@ module _ {f : Form} {al : List ℕ} {from : ℕ} (k : Takes f al from) {ws : Lis
   same-scan : scan al none (drop from ws) ≡ scannedOf f ws
   same-scan = rw (k .groups, k .words ws)
 
-  pub not-clean : (time : ℕ) → not (r .clean) ≡ true → meant ws (parses.Refused 15) ≡ parseRest time f ws
-  not-clean time h = rest-15 time f ws (not-false (unclean f ws) (sym (rw same-scan at (s .clean)) ∙ not-true (r .clean) h))
+  refusal-so : r .refusal ≡ cond (unclean f ws) 15 0
+  refusal-so = rw same-scan at (s .refusal)
 
-  pub ready : not (r .clean) ≡ false → Ready f ws r
+  pub not-clean : (time : ℕ) → (r .refusal ≡ 0 → ⊥) → meant ws (parses.Refused (r .refusal)) ≡ parseRest time f ws
+  not-clean time h = go (unclean f ws) refl refusal-so
+    where
+      go : (t : Bool) → unclean f ws ≡ t → r .refusal ≡ cond t 15 0 → meant ws (parses.Refused (r .refusal)) ≡ parseRest time f ws
+      go true q e = rw e (rest-15 time f ws q)
+      go false q e = absurd (h e)
+
+  pub ready : r .refusal ≡ 0 → Ready f ws r
   unfolding orElse readOf
   ready h =
-      let c : r .clean ≡ true = not-false (r .clean) h in
-      let k : unclean f ws ≡ false = not-true (unclean f ws) (sym (rw same-scan at (s .clean)) ∙ c) in
+      let k : unclean f ws ≡ false = go (unclean f ws) refusal-so in
       record {
         clean = k;
-        given = λ g l. rw same-scan at (s .given c g l);
+        given = λ g l. rw same-scan at (s .given h g l);
         read = all-groups readableOperand (allowed f) (scannedOf f ws) k (scan-allowed (allowed f) none (optionWords f ws) refl);
       }
+    where
+      go : (t : Bool) → r .refusal ≡ cond t 15 0 → t ≡ false
+      go true e = absurd (omega arith)
+      go false e = refl
 
 -- ---- what the code read
 

@@ -85,15 +85,15 @@ pub record FoundOption (ws : List Word) (allowed : List ℕ) (i g said last : �
   pub after : i ≤ last
   pub inside : last < length ws
 
--- what the code found there; a scan fails where it found nothing
+-- what the code found there; a scan fails where it refuses
 abbrev pub FoundBy : List Word → List ℕ → ℕ → OptionFound → Type 0
 FoundBy ws allowed i (founds.At g said last) = FoundOption ws allowed i g said last
-FoundBy ws allowed i founds.Nothing = scan allowed none (drop i ws) ≡ none
+FoundBy ws allowed i (founds.Refused n) = (n ≡ 15) × (scan allowed none (drop i ws) ≡ none)
 
--- what a scan of the words from one on found
+-- what a scan of the words from one on found, and whether it is refused as 15
 pub record Scanned (ws : List Word) (allowed : List ℕ) (from : ℕ) (r : ScannedOptions) : Type 0 where
-  pub clean : r .clean ≡ not (orElse (scan allowed none (drop from ws)) true conflicting)
-  pub given : r .clean ≡ true → (g : ℕ) → g < groupCount
+  pub refusal : r .refusal ≡ cond (orElse (scan allowed none (drop from ws)) true conflicting) 15 0
+  pub given : r .refusal ≡ 0 → (g : ℕ) → g < groupCount
       → givenOf g (Option·getD (scan allowed none (drop from ws)) []) ≡ givenAt ws r g
 
 -- ---- what the options say

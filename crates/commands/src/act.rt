@@ -65,8 +65,8 @@ pub fn place(
         ⌜ Holds (now (bytes .exit)) (withPut time e (decode (now (bytes .entry)))) ⌝ }
 {
     let found = slot_for(bytes, own, time);
-    let Found::At(i) = found else {
-        return;
-    };
-    change::put(bytes, i, key, field, value, version, expiry);
+    match found {
+        Found::Nothing => {},
+        Found::At(i) => change::put(bytes, i, key, field, value, version, expiry),
+    }
 }

@@ -32,13 +32,11 @@ pub fn count_fits(row: usize, count: usize) -> bool
     if count < least {
         return false;
     }
-    if more == NO_MORE {
-        return count == least;
+    match more {
+        NO_MORE => count == least,
+        ANY_MORE => true,
+        _ => count % 2 == 0,
     }
-    if more == ANY_MORE {
-        return true;
-    }
-    count % 2 == 0
 }
 
 // Whether a word from word 2 on is longer than a field may be.
@@ -84,20 +82,16 @@ pub fn too_long(command: &[u8], places: &[[usize; 2]], row: usize) -> bool
         return true;
     }
     let names = command_datum(row, NAMES_AT);
-    if names == NONE_NAMED {
-        return false;
+    match names {
+        NONE_NAMED => false,
+        EACH_FIELD => any_over(command, places),
+        EACH_PAIR => pair_over(command, places),
+        ONE_FIELD => FIELD_MOST < word(command, places, 2).len(),
+        _ => {
+            if FIELD_MOST < word(command, places, 2).len() {
+                return true;
+            }
+            VALUE_MOST < word(command, places, 3).len()
+        },
     }
-    if names == EACH_FIELD {
-        return any_over(command, places);
-    }
-    if names == EACH_PAIR {
-        return pair_over(command, places);
-    }
-    if FIELD_MOST < word(command, places, 2).len() {
-        return true;
-    }
-    if names == ONE_FIELD {
-        return false;
-    }
-    VALUE_MOST < word(command, places, 3).len()
 }

@@ -64,16 +64,12 @@ pub fn instant(unit: usize, n: u64, time: u64) -> u64
     requires { ⌜ (n ≤ timeLimit) × (time < timeLimit) ⌝ }
     ensures { λ r. ⌜ r ≡ instantIn unit n time ⌝ }
 {
-    if unit == SECONDS_FROM_NOW {
-        return time + 1000 * n;
+    match unit {
+        SECONDS_FROM_NOW => time + 1000 * n,
+        SECONDS_SINCE => 1000 * n,
+        MS_FROM_NOW => time + n,
+        _ => n,
     }
-    if unit == SECONDS_SINCE {
-        return 1000 * n;
-    }
-    if unit == MS_FROM_NOW {
-        return time + n;
-    }
-    n
 }
 
 // What EX, EXAT, PX, PXAT or KEEPTTL says.
@@ -146,15 +142,22 @@ pub fn read_terms(command: &[u8], places: &[[usize; 2]], given: ScannedOptions, 
     ensures { λ r. let ws = wordsIn (now (command .entry)) (now (places .entry)) in
         ⌜ r ≡ termsFor time (givenAt ws given expiryGroup) (givenAt ws given versionGroup) ⌝ }
 {
-    let said = given.said[EXPIRY_GROUP];
-    let operand = given.operands[EXPIRY_GROUP];
-    let timed = lifetime(command, places, said, operand, time);
+    let timed = lifetime(
+        command,
+        places,
+        given.said[EXPIRY_GROUP],
+        given.operands[EXPIRY_GROUP],
+        time,
+    );
     let Timed::Value(until) = timed else {
         return Terms::Refused(16);
     };
-    let said = given.said[VERSION_GROUP];
-    let operand = given.operands[VERSION_GROUP];
-    let versioned = versioning(command, places, said, operand);
+    let versioned = versioning(
+        command,
+        places,
+        given.said[VERSION_GROUP],
+        given.operands[VERSION_GROUP],
+    );
     let Versioned::Value(version) = versioned else {
         return Terms::Refused(16);
     };
@@ -210,9 +213,13 @@ pub fn sum(command: &[u8], places: &[[usize; 2]], given: ScannedOptions) -> Adde
         negative: true,
         magnitude: LOWEST,
     };
-    let said = given.said[MIN_GROUP];
-    let operand = given.operands[MIN_GROUP];
-    let low = bound(command, places, said, operand, lowest);
+    let low = bound(
+        command,
+        places,
+        given.said[MIN_GROUP],
+        given.operands[MIN_GROUP],
+        lowest,
+    );
     let Integer::Value(least) = low else {
         return Added::Refused;
     };
@@ -220,9 +227,13 @@ pub fn sum(command: &[u8], places: &[[usize; 2]], given: ScannedOptions) -> Adde
         negative: false,
         magnitude: LOWEST - 1,
     };
-    let said = given.said[MAX_GROUP];
-    let operand = given.operands[MAX_GROUP];
-    let high = bound(command, places, said, operand, highest);
+    let high = bound(
+        command,
+        places,
+        given.said[MAX_GROUP],
+        given.operands[MAX_GROUP],
+        highest,
+    );
     let Integer::Value(greatest) = high else {
         return Added::Refused;
     };

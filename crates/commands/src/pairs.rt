@@ -144,12 +144,15 @@ pub fn set_many(
 {
     sweep_pairs(command, pairs, bytes, key, time);
     let survey = survey_pairs(command, pairs, bytes, key);
-    let Survey::Added(n) = survey else {
-        return put_error(23, out);
-    };
-    if find::room(bytes, time) < n {
-        return put_error(24, out);
+    match survey {
+        Survey::Overflow => put_error(23, out),
+        Survey::Added(n) => {
+            if find::room(bytes, time) < n {
+                put_error(24, out)
+            } else {
+                place_pairs(command, pairs, bytes, key, time);
+                put_line(b"+OK", out)
+            }
+        },
     }
-    place_pairs(command, pairs, bytes, key, time);
-    put_line(b"+OK", out)
 }

@@ -58,8 +58,8 @@ fn parse_set(command: &[u8], places: &[[usize; 2]], time: u64) -> Parsed
         4,
         &[EXPIRY_GROUP, CONDITION_GROUP, VERSION_GROUP],
     );
-    if !given.clean {
-        return Parsed::Refused(15);
+    if given.refusal != 0 {
+        return Parsed::Refused(given.refusal);
     }
     let read = operands::read_terms(command, places, given, time);
     match read {
@@ -82,8 +82,8 @@ fn parse_increment(command: &[u8], places: &[[usize; 2]], time: u64) -> Parsed
         4,
         &[EXPIRY_GROUP, VERSION_GROUP, MIN_GROUP, MAX_GROUP],
     );
-    if !given.clean {
-        return Parsed::Refused(15);
+    if given.refusal != 0 {
+        return Parsed::Refused(given.refusal);
     }
     let added = operands::sum(command, places, given);
     let Added::Value(sum) = added else {
@@ -103,16 +103,19 @@ fn parse_expire(command: &[u8], places: &[[usize; 2]], unit: usize, time: u64) -
         ⌜ meant ws r ≡ parseRest time (P.Form.expireForm (unitOf unit)) ws ⌝ }
 {
     let given = scan(command, places, 4, &[VERSION_GROUP]);
-    if !given.clean {
-        return Parsed::Refused(15);
+    if given.refusal != 0 {
+        return Parsed::Refused(given.refusal);
     }
     let read = read_natural(word(command, places, 3), TIME_LIMIT);
     let Natural::Value(n) = read else {
         return Parsed::Refused(16);
     };
-    let said = given.said[VERSION_GROUP];
-    let operand = given.operands[VERSION_GROUP];
-    let versioned = operands::versioning(command, places, said, operand);
+    let versioned = operands::versioning(
+        command,
+        places,
+        given.said[VERSION_GROUP],
+        given.operands[VERSION_GROUP],
+    );
     let Versioned::Value(versioning) = versioned else {
         return Parsed::Refused(16);
     };
@@ -146,8 +149,8 @@ fn parse_count(command: &[u8], places: &[[usize; 2]]) -> Parsed
         ⌜ ((time : ℕ) → meant ws r ≡ parseRest time P.Form.countForm ws) ⌝ }
 {
     let given = scan(command, places, 2, &[NO_EXP_GROUP]);
-    if !given.clean {
-        return Parsed::Refused(15);
+    if given.refusal != 0 {
+        return Parsed::Refused(given.refusal);
     }
     if given.said[NO_EXP_GROUP] < NOT_GIVEN {
         return Parsed::OnKey(KeyDeed::CountLive);
@@ -188,37 +191,19 @@ fn parse_row(command: &[u8], places: &[[usize; 2]], row: usize, time: u64) -> Pa
 {
     let family = command_datum(row, FAMILY_AT);
     let argument = command_datum(row, ARGUMENT_AT);
-    if family == SET_FAMILY {
-        return parse_set(command, places, time);
+    match family {
+        SET_FAMILY => parse_set(command, places, time),
+        SET_MANY_FAMILY => Parsed::OnKey(KeyDeed::SetMany),
+        INCREMENT_FAMILY => parse_increment(command, places, time),
+        EXPIRE_FAMILY => parse_expire(command, places, argument, time),
+        PERSIST_FAMILY => Parsed::OnField(FieldDeed::Persist),
+        RENUMBER_FAMILY => parse_renumber(command, places),
+        ASK_FAMILY => Parsed::OnField(FieldDeed::Ask(question(argument))),
+        GET_MANY_FAMILY => Parsed::OnKey(KeyDeed::GetMany(question(argument))),
+        DELETE_FAMILY => Parsed::OnKey(KeyDeed::Delete),
+        COUNT_FAMILY => parse_count(command, places),
+        _ => Parsed::OnKey(KeyDeed::List(listing(argument))),
     }
-    if family == SET_MANY_FAMILY {
-        return Parsed::OnKey(KeyDeed::SetMany);
-    }
-    if family == INCREMENT_FAMILY {
-        return parse_increment(command, places, time);
-    }
-    if family == EXPIRE_FAMILY {
-        return parse_expire(command, places, argument, time);
-    }
-    if family == PERSIST_FAMILY {
-        return Parsed::OnField(FieldDeed::Persist);
-    }
-    if family == RENUMBER_FAMILY {
-        return parse_renumber(command, places);
-    }
-    if family == ASK_FAMILY {
-        return Parsed::OnField(FieldDeed::Ask(question(argument)));
-    }
-    if family == GET_MANY_FAMILY {
-        return Parsed::OnKey(KeyDeed::GetMany(question(argument)));
-    }
-    if family == DELETE_FAMILY {
-        return Parsed::OnKey(KeyDeed::Delete);
-    }
-    if family == COUNT_FAMILY {
-        return parse_count(command, places);
-    }
-    Parsed::OnKey(KeyDeed::List(listing(argument)))
 }
 
 // What a command says, or the lowest of the refusals 10 to 18; no places at all are that its bytes are damaged.

@@ -22,39 +22,23 @@ put-error-requires : tie.Need-put-error-requires
 unfolding isRefusal any table
 put-error-requires c κs = may-refuse 23 refl (omega (arith, c .before .before .before .before .before .before .before .before .before .before .before .before .before .pre .0 .room))
 
-returns : tie.Need-returns
-returns c =
-    let back2 = c .before .before in let back4 = back2 .before .before in let back6 = back4 .before .before in let back10 = back6 .before .before .before .before in
-    let start = back10 .before .before .before .before .before .before in let ws = wordsIn (now (start .args .command)) (now (start .args .pairs)) in
-    let few : length ws ≤ wordsMost = rw length-words (start .pre .0 .inside .most) in
-    many-over _ _ ws _ (back10 .sweep-pairs .ensures) few (back6 .survey-pairs .ensures) (back4 .enum-told .given .1) (back2 .put-error .ensures)
-
 put-error-requires-2 : tie.Need-put-error-requires-2
 unfolding isRefusal any table
 put-error-requires-2 c κs = may-refuse 24 refl (omega (arith, c .before .before .before .before .before .before .before .before .before .before .before .before .before .before .before .before .before .pre .0 .room))
 
+place-pairs-requires : tie.Need-place-pairs-requires
+place-pairs-requires c κs = let a = c .before .before .before .before .before in let b = a .before .before in let d = b .before .before .before .before in let e = d .before .before .before .before .before .before in let ws = wordsIn (now (e .args .command)) (now (e .args .pairs)) in let few : length ws ≤ wordsMost = rw length-words (e .pre .0 .inside .most) in (e .pre .0 .inside, many-placing _ _ ws _ (d .sweep-pairs .ensures) few (b .survey-pairs .ensures) (a .survey .given .1) (e .pre .1))
+
+returns : tie.Need-returns
+returns c = let a = c .before .before in let b = a .before .before in let d = b .before .before in let e = d .before .before .before .before in let f = e .before .before .before .before .before .before in let ws = wordsIn (now (f .args .command)) (now (f .args .pairs)) in let few : length ws ≤ wordsMost = rw length-words (f .pre .0 .inside .most) in many-over _ _ ws _ (e .sweep-pairs .ensures) few (d .survey-pairs .ensures) (b .enum-told .given .1) (a .put-error .ensures)
+
 returns-2 : tie.Need-returns-2
 unfolding room
-returns-2 c =
-    let back2 = c .before .before in let back4 = back2 .before .before in let back5 = back4 .before in let back8 = back5 .before .before .before in let back10 = back8 .before .before in let back14 = back10 .before .before .before .before in
-    let start = back14 .before .before .before .before .before .before in let ws = wordsIn (now (start .args .command)) (now (start .args .pairs)) in
-    let few : length ws ≤ wordsMost = rw length-words (start .pre .0 .inside .most) in
-    many-full _ _ ws _ (back14 .sweep-pairs .ensures) few (back10 .survey-pairs .ensures) (back8 .survey .given .1) (back5 .room .ensures) (back4 .if1 .taken) (back2 .put-error2 .ensures)
-
-place-pairs-requires : tie.Need-place-pairs-requires
-place-pairs-requires c κs =
-    let back5 = c .before .before .before .before .before in let back7 = back5 .before .before in let back11 = back7 .before .before .before .before in
-    let start = back11 .before .before .before .before .before .before in let ws = wordsIn (now (start .args .command)) (now (start .args .pairs)) in
-    let few : length ws ≤ wordsMost = rw length-words (start .pre .0 .inside .most) in
-    (start .pre .0 .inside, many-placing _ _ ws _ (back11 .sweep-pairs .ensures) few (back7 .survey-pairs .ensures) (back5 .survey .given .1) (start .pre .1))
+returns-2 c = let a = c .before .before in let b = a .before .before in let d = b .before in let e = d .before .before .before in let f = e .before .before in let g = f .before .before .before .before in let h = g .before .before .before .before .before .before in let ws = wordsIn (now (h .args .command)) (now (h .args .pairs)) in let few : length ws ≤ wordsMost = rw length-words (h .pre .0 .inside .most) in many-full _ _ ws _ (g .sweep-pairs .ensures) few (f .survey-pairs .ensures) (e .survey .given .1) (d .room .ensures) (b .if1 .taken) (a .put-error2 .ensures)
 
 returns-3 : tie.Need-returns-3
 unfolding room line text
-returns-3 c =
-    let back2 = c .before .before in let back7 = back2 .before .before .before .before .before in let back9 = back7 .before .before in let back10 = back9 .before in let back13 = back10 .before .before .before in let back15 = back13 .before .before in let back19 = back15 .before .before .before .before in
-    let start = back19 .before .before .before .before .before .before in let ws = wordsIn (now (start .args .command)) (now (start .args .pairs)) in
-    let few : length ws ≤ wordsMost = rw length-words (start .pre .0 .inside .most) in
-    many-done _ _ ws _ (back19 .sweep-pairs .ensures) few (back15 .survey-pairs .ensures) (back13 .survey .given .1) (back10 .room .ensures) (back9 .if1 .left) (back7 .place-pairs .ensures) (back2 .put-line .ensures)
+returns-3 c = let a = c .before .before in let b = a .before .before .before .before .before in let d = b .before .before in let e = d .before in let f = e .before .before .before in let g = f .before .before in let h = g .before .before .before .before in let j = h .before .before .before .before .before .before in let ws = wordsIn (now (j .args .command)) (now (j .args .pairs)) in let few : length ws ≤ wordsMost = rw length-words (j .pre .0 .inside .most) in many-done _ _ ws _ (h .sweep-pairs .ensures) few (g .survey-pairs .ensures) (f .survey .given .1) (e .room .ensures) (d .if1 .left) (b .place-pairs .ensures) (a .put-line .ensures)
 
 pub set-many-spec : {M : Type 1} → statement M
 set-many-spec =
@@ -63,19 +47,19 @@ set-many-spec =
     (λ c κs. search needs)
     (λ c κs. search needs)
     (λ c. search needs)
-    (λ c. search needs)
     put-error-requires
     (λ c. search needs)
-    (λ c. search needs)
-    returns
     (λ c κs. search needs)
     put-error-requires-2
-    (λ c. search needs)
-    (λ c. search needs)
-    returns-2
     place-pairs-requires
     (λ c. search needs)
     (λ c κs. search needs)
+    (λ c. search needs)
+    (λ c. search needs)
+    returns
+    (λ c. search needs)
+    (λ c. search needs)
+    returns-2
     (λ c. search needs)
     (λ c. search needs)
     returns-3)

@@ -1,3 +1,4 @@
+use native.Mathlib.Omega.{arith}
 use Rattle.commands.proofs.ParseFromBytes.{parse-10, parse-11, parse-12, parse-13, parse-14, parse-rest}
 use Rattle.commands.proofs.TableRows.{command-number}
 use borrow.Author.Needs.{needs}
@@ -8,7 +9,7 @@ returns : tie.Need-returns
 returns c = let a = c .before .before in parse-10 (a .pre .0) (a .args .time) (a .args .clock) (c .if1 .taken)
 
 returns-2 : tie.Need-returns-2
-returns-2 c = let a = c .before in let b = a .before .before in parse-11 (b .pre .0) (b .args .time) (b .args .clock) (a .if1 .left) (c .if2 .taken)
+returns-2 c = let a = c .before in let b = a .before .before in parse-11 (b .pre .0) (b .args .time) (b .args .clock) (a .if1 .left) (omega (arith, c .if2 .taken))
 
 word-requires : tie.Need-word-requires
 word-requires c κs = let a = c .before .before .before in a .pre .0 .within

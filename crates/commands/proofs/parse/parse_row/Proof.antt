@@ -9,60 +9,46 @@ use Rattle.commands.proofs.parse.parse_row.Tie as tie
 
 returns : tie.Need-returns
 unfolding formOf
-returns c = let a = c .before in let b = a .before in let d = b .before in let e = d .before .before in row-parsed (e .args .time) (e .args .row) _ (d .command-datum .ensures) (b .command-datum2 .ensures) setForm (rw (a .if1 .taken)) _ (c .parse-set .ensures)
+returns c = let a = c .before in let b = a .before in let d = b .before in let e = d .before .before in row-parsed (e .args .time) (e .args .row) _ (d .command-datum .ensures) (b .command-datum2 .ensures) setForm (rw (a .match .keys1)) _ (c .parse-set .ensures)
 
 returns-2 : tie.Need-returns-2
 unfolding formOf
-returns-2 c = let a = c .before .before in let b = a .before in let d = b .before .before in row-parsed (d .args .time) (d .args .row) _ (b .command-datum .ensures) (a .command-datum2 .ensures) setManyForm (rw (c .if2 .taken)) _ (fixed-pairs (d .args .time) _)
+returns-2 c = let a = c .before in let b = a .before in let d = b .before .before in row-parsed (d .args .time) (d .args .row) _ (b .command-datum .ensures) (a .command-datum2 .ensures) setManyForm (rw (c .match .keys2)) _ (fixed-pairs (d .args .time) _)
 
 returns-3 : tie.Need-returns-3
 unfolding formOf
-returns-3 c = let a = c .before in let b = a .before .before .before in let d = b .before in let e = d .before .before in row-parsed (e .args .time) (e .args .row) _ (d .command-datum .ensures) (b .command-datum2 .ensures) incrementForm (rw (a .if3 .taken)) _ (c .parse-increment .ensures)
+returns-3 c = let a = c .before in let b = a .before in let d = b .before in let e = d .before .before in row-parsed (e .args .time) (e .args .row) _ (d .command-datum .ensures) (b .command-datum2 .ensures) incrementForm (rw (a .match .keys3)) _ (c .parse-increment .ensures)
 
 returns-4 : tie.Need-returns-4
 unfolding formOf
-returns-4 c =
-    let a = c .before in let b = a .before .before .before .before in let d = b .before in let e = d .before .before in
-    row-parsed (e .args .time) (e .args .row) _ (d .command-datum .ensures) (b .command-datum2 .ensures) (expireForm (unitOf (b .command-datum2 .result))) (rw (a .if4 .taken)) _ (c .parse-expire .ensures)
+returns-4 c = let a = c .before in let b = a .before in let d = b .before in let e = d .before .before in row-parsed (e .args .time) (e .args .row) _ (d .command-datum .ensures) (b .command-datum2 .ensures) (expireForm (unitOf (b .command-datum2 .result))) (rw (a .match .keys4)) _ (c .parse-expire .ensures)
 
 returns-5 : tie.Need-returns-5
 unfolding formOf
-returns-5 c = let a = c .before .before .before .before .before in let b = a .before in let d = b .before .before in row-parsed (d .args .time) (d .args .row) _ (b .command-datum .ensures) (a .command-datum2 .ensures) persistForm (rw (c .if5 .taken)) _ (fixed-persist (d .args .time) _)
+returns-5 c = let a = c .before in let b = a .before in let d = b .before .before in row-parsed (d .args .time) (d .args .row) _ (b .command-datum .ensures) (a .command-datum2 .ensures) persistForm (rw (c .match .keys5)) _ (fixed-persist (d .args .time) _)
 
 returns-6 : tie.Need-returns-6
 unfolding formOf
-returns-6 c =
-    let a = c .before in let b = a .before .before .before .before .before .before in let d = b .before in let e = d .before .before in
-    row-parsed (e .args .time) (e .args .row) _ (d .command-datum .ensures) (b .command-datum2 .ensures) renumberForm (rw (a .if6 .taken)) _ (c .parse-renumber .ensures (e .args .time))
+returns-6 c = let a = c .before in let b = a .before in let d = b .before in let e = d .before .before in row-parsed (e .args .time) (e .args .row) _ (d .command-datum .ensures) (b .command-datum2 .ensures) renumberForm (rw (a .match .keys6)) _ (c .parse-renumber .ensures (e .args .time))
 
 returns-7 : tie.Need-returns-7
 unfolding formOf
-returns-7 c =
-    let a = c .before in let b = a .before .before .before .before .before .before .before in let d = b .before in let e = d .before .before in
-    row-parsed (e .args .time) (e .args .row) _ (d .command-datum .ensures) (b .command-datum2 .ensures) (askForm (c .question .result)) (rw (a .if7 .taken, c .question .ensures)) _ (fixed-ask (e .args .time) _ (c .question .result))
+returns-7 c = let a = c .before in let b = a .before in let d = b .before in let e = d .before .before in row-parsed (e .args .time) (e .args .row) _ (d .command-datum .ensures) (b .command-datum2 .ensures) (askForm (c .question .result)) (rw (a .match .keys7, c .question .ensures)) _ (fixed-ask (e .args .time) _ (c .question .result))
 
 returns-8 : tie.Need-returns-8
 unfolding formOf
-returns-8 c =
-    let a = c .before in let b = a .before .before .before .before .before .before .before .before in let d = b .before in let e = d .before .before in
-    row-parsed (e .args .time) (e .args .row) _ (d .command-datum .ensures) (b .command-datum2 .ensures) (getManyForm (c .question2 .result)) (rw (a .if8 .taken, c .question2 .ensures)) _ (fixed-many (e .args .time) _ (c .question2 .result))
+returns-8 c = let a = c .before in let b = a .before in let d = b .before in let e = d .before .before in row-parsed (e .args .time) (e .args .row) _ (d .command-datum .ensures) (b .command-datum2 .ensures) (getManyForm (c .question2 .result)) (rw (a .match .keys8, c .question2 .ensures)) _ (fixed-many (e .args .time) _ (c .question2 .result))
 
 returns-9 : tie.Need-returns-9
 unfolding formOf
-returns-9 c = let a = c .before .before .before .before .before .before .before .before .before in let b = a .before in let d = b .before .before in row-parsed (d .args .time) (d .args .row) _ (b .command-datum .ensures) (a .command-datum2 .ensures) deleteForm (rw (c .if9 .taken)) _ (fixed-delete (d .args .time) _)
+returns-9 c = let a = c .before in let b = a .before in let d = b .before .before in row-parsed (d .args .time) (d .args .row) _ (b .command-datum .ensures) (a .command-datum2 .ensures) deleteForm (rw (c .match .keys9)) _ (fixed-delete (d .args .time) _)
 
 returns-10 : tie.Need-returns-10
 unfolding formOf
-returns-10 c =
-    let a = c .before in let b = a .before .before .before .before .before .before .before .before .before .before in let d = b .before in
-    let e = d .before .before in
-    row-parsed (e .args .time) (e .args .row) _ (d .command-datum .ensures) (b .command-datum2 .ensures) countForm (rw (a .if10 .taken)) _ (c .parse-count .ensures (e .args .time))
+returns-10 c = let a = c .before in let b = a .before in let d = b .before in let e = d .before .before in row-parsed (e .args .time) (e .args .row) _ (d .command-datum .ensures) (b .command-datum2 .ensures) countForm (rw (a .match .keys10)) _ (c .parse-count .ensures (e .args .time))
 
 returns-11 : tie.Need-returns-11
-returns-11 c =
-    let a = c .before in let b = a .before in let d = b .before in let e = d .before in let f = e .before in let g = f .before in let h = g .before in
-    let j = h .before in let k = j .before in let l = k .before in let m = l .before in let n = m .before in let o = n .before .before in
-    row-parsed (o .args .time) (o .args .row) _ (n .command-datum .ensures) (m .command-datum2 .ensures) (listForm (c .listing .result)) (list-form (n .command-datum .result) (m .command-datum2 .result) (behind 9 (behind 8 (behind 7 (behind 6 (behind 5 (behind 4 (behind 3 (behind 2 (behind 1 (behind 0 (omega arith) (l .if1 .left)) (k .if2 .left)) (j .if3 .left)) (h .if4 .left)) (g .if5 .left)) (f .if6 .left)) (e .if7 .left)) (d .if8 .left)) (b .if9 .left)) (a .if10 .left)) ∙ ap listForm (sym (c .listing .ensures))) _ (fixed-list (o .args .time) _ (c .listing .result))
+returns-11 c = let a = c .before in let b = a .before in let d = b .before in let e = d .before .before in row-parsed (e .args .time) (e .args .row) _ (d .command-datum .ensures) (b .command-datum2 .ensures) (listForm (c .listing .result)) (list-form (d .command-datum .result) (b .command-datum2 .result) (behind 9 (behind 8 (behind 7 (behind 6 (behind 5 (behind 4 (behind 3 (behind 2 (behind 1 (behind 0 (omega arith) (a .match .rest .0 .0 .0 .0 .0 .0 .0 .0 .0 .1)) (a .match .rest .0 .0 .0 .0 .0 .0 .0 .0 .1)) (a .match .rest .0 .0 .0 .0 .0 .0 .0 .1)) (a .match .rest .0 .0 .0 .0 .0 .0 .1)) (a .match .rest .0 .0 .0 .0 .0 .1)) (a .match .rest .0 .0 .0 .0 .1)) (a .match .rest .0 .0 .0 .1)) (a .match .rest .0 .0 .1)) (a .match .rest .0 .1)) (a .match .rest .1)) ∙ ap listForm (sym (c .listing .ensures))) _ (fixed-list (e .args .time) _ (c .listing .result))
 
 pub parse-row-spec : {M : Type 1} → statement M
 parse-row-spec =
@@ -71,21 +57,21 @@ parse-row-spec =
     (λ c κs. search needs)
     (λ c κs. search needs)
     (λ c κs. search needs)
+    (λ c κs. search needs)
+    (λ c κs. search needs)
+    (λ c κs. search needs)
+    (λ c κs. search needs)
+    (λ c κs. search needs)
+    (λ c κs. search needs)
+    (λ c κs. search needs)
     returns
     returns-2
-    (λ c κs. search needs)
     returns-3
-    (λ c κs. search needs)
     returns-4
     returns-5
-    (λ c κs. search needs)
     returns-6
-    (λ c κs. search needs)
     returns-7
-    (λ c κs. search needs)
     returns-8
     returns-9
-    (λ c κs. search needs)
     returns-10
-    (λ c κs. search needs)
     returns-11)
