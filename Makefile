@@ -1,4 +1,4 @@
-.PHONY: demo test bench c-example rust-test differ differ-quiet bench-rust clients model-cases
+.PHONY: demo test bench c-example rust-test differ differ-quiet bench-rust bench-peer clients model-cases
 
 # The proved library: an archive, or the directory that has libexhash.a.
 EXHASH_LIB ?= target/staticlib/libexhash.a
@@ -52,6 +52,11 @@ differ-quiet: $(LIBRARY)
 # Their times on the same loads, in one run.
 bench-rust: $(LIBRARY)
 	@$(CARGO) run --offline --quiet --release -p bench
+
+# The library beside another archive with the same interface, in turns: make bench-peer PEER=dir, where dir/run.sh takes our archive and prints the ratios.
+bench-peer: $(LIBRARY)
+	@test -x "$(PEER)/run.sh" || { echo "use: make bench-peer PEER=dir, a folder that has run.sh" >&2; exit 2; }
+	@$(PEER)/run.sh $(LIBRARY)
 
 # What Redis clients see in the replies of the demo's session; needs python3, and root where Debian's python3-redis and python3-hiredis are to be installed.
 clients: $(LIBRARY)
