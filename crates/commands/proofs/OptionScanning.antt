@@ -3,7 +3,7 @@ use mathlib.Core.Path.{_≡_, refl, sym, ap, _∙_}
 use mathlib.Core.Bool.{Bool, true, false, cond, not, _||_}
 use mathlib.Core.List.{List, [], _∷_, _++_, append-assoc, append-nil}
 use mathlib.Core.Option.{Option, none, some, Option·map}
-use Prim.Native.Nat.{ℕ, suc, _+_, _≤_, _<_, _-_}
+use Prim.Native.Nat.{ℕ, suc, _+_, _≤_, _<_}
 use native.Mathlib.Numerals.{add-one}
 use native.Mathlib.Omega.{arith}
 use borrow.Author.Tests.{not-true, not-false, lt-ltb, le-ltb, eq-eqb, ne-eqb, eqb-true, eqb-false}
@@ -17,7 +17,7 @@ use Rattle.wire.specs.declared.words.Next.the-variants as nexts
 use Rattle.wire.specs.Lists.{any, isSome, onlyIf, orElse}
 use Rattle.wire.specs.Words.{Word, wordAt}
 use Rattle.wire.specs.Promises.{rowFor, rowNamed, nextOf}
-use Rattle.wire.proofs.Lists.{or-left, or-right, or-neither, or-late, both-ways, impossible}
+use Rattle.wire.proofs.Lists.{or-left, or-right, or-neither, or-late, impossible}
 use Rattle.wire.proofs.NameRows.{row-nothing, row-at}
 use Rattle.wire.proofs.WordPlaces.{next-end, next-at}
 use Rattle.commands.specs.declared.options.ScannedOptions as code
@@ -178,7 +178,7 @@ module _ (al : List ℕ) (ws : List Word) (i : ℕ) (l : i < length ws) where
         go false h short = absurd (omega arith)
 
 -- an option is one word or two
-pub size-range : (m : OptionKind) → (1 ≤ sizeOf m) × (sizeOf m ≤ 2)
+size-range : (m : OptionKind) → (1 ≤ sizeOf m) × (sizeOf m ≤ 2)
 unfolding sizeOf
 size-range m = go (isSome (operandRange m))
   where
