@@ -19,7 +19,7 @@ bytes-requires : tie.Need-bytes-requires Inv-loop μ-loop
 bytes-requires c κs = omega (arith, c .before .before .before .before .before .pre .0 .size)
 
 holds-requires : tie.Need-holds-requires Inv-loop μ-loop
-holds-requires c κs = let back2 = c .before .before in let back6 = back2 .before .before .before .before in let args = back6 .args in rw (c .bytes .ensures) (slot-bytes (args .count) (now (args .store)) (back2 .loop .i) (back6 .pre .0) (c .before .loop-test .taken))
+holds-requires c κs = let back2 = c .before .before in let back6 = back2 .before .before .before .before in let args = back6 .args in rw (c .bytes .ensures) (slot-bytes (args .count) (now (args .store)) (args .from) (back2 .loop .i) (back6 .pre .0) (back2 .loop .inv .reached) (c .before .loop-test .taken))
 
 returns : tie.Need-returns Inv-loop μ-loop
 returns c = sym (seek-finds _ _ _ _ _ _ (c .before .before .before .before .loop .inv) (c .before .before .before .loop-test .taken) (sym (rw (c .before .before .bytes .ensures) at (c .before .holds .ensures)) ∙ c .if1 .taken))
