@@ -19,7 +19,7 @@ use Rattle.wire.proofs.Lists.{any-none, and-right, both-ways}
 use Rattle.store.specs.Layout.{headerSize, slotSize, stateAt, emptyState, keyMost, fieldMost}
 use Rattle.store.specs.Store.{Entry, Slot, decodeEntry, decodeSlot, encodeEntry, encodeSlot, slotsIn, slotWell, holds, clash, distinct}
 use Rattle.store.specs.Time.{emptySlot}
-use Rattle.store.specs.Promises.{SlotBytes, HeldBytes, slotAt, slotsOf, SlotsWell, slotsGood, rotated, keyWord, fieldWord, halvesSum, spreadOf, nameHash, FilterSize, wordOf, bitsOf, mayContain, withName, withSlotName, Covered, Turn, Turned}
+use Rattle.store.specs.Promises.{SlotBytes, HeldBytes, slotAt, slotsOf, SlotsWell, slotsGood, rotated, keyWord, fieldWord, spreadOf, nameHash, FilterSize, wordOf, bitsOf, mayContain, withName, withSlotName, Covered, Turn, Turned}
 use Rattle.store.specs.Valid.{Fits, FitsSlot}
 use Rattle.store.proofs.Slots.{Named, holds-named, none-clash, clash-none}
 use Rattle.store.proofs.SlotBytes.{key-bytes, field-bytes}
@@ -50,11 +50,6 @@ unfolding clash orElse
 clash-name t u v w d e p q h =
     let n : Named (d .key) (d .field) e = holds-named (d .key) (d .field) e h in
     rw (name-entry t v d p, name-entry u w e q, n .key, n .field)
-
--- the halves of a word, each times its factor, add up to a word
-pub halves-fit : (z : ℕ) → z < 2 ^ 64 → halvesSum z < 2 ^ 64
-unfolding halvesSum
-halves-fit z l = omega arith
 
 -- a name's number is below 2 ^ 32
 pub hash-below : (t : List ℕ) → nameHash t < 2 ^ 32

@@ -1,9 +1,9 @@
 -- Laws of the tests of a store's bytes, in the forms in which the code makes them.
 use mathlib.Core.Path.{_≡_, refl, sym, _∙_}
-use mathlib.Core.Bool.{Bool, true, false, cond, _&&_, and-true, and-false}
+use mathlib.Core.Bool.{Bool, true, false, cond, _&&_, and-true, and-false, or-true}
 use mathlib.Core.List.{List, [], _∷_}
 use mathlib.Core.Option.{none}
-use Prim.Native.Nat.{ℕ, suc, _+_, _-_, _*_, _≤_, _<_}
+use Prim.Native.Nat.{ℕ, zero, suc, _+_, _-_, _*_, _≤_, _<_}
 use native.Mathlib.Numerals.{add-one}
 use native.Mathlib.Omega.{arith}
 use lib.Dec.{leb}
@@ -86,35 +86,46 @@ module _ (count : ℕ) (b : List ℕ) where
 
 -- ---- one slot after the other
 
--- Whether a slot has a name is left to the slots from i on.
+-- No slot from i on has a name.
 pub record Seeking (k f : List ℕ) (count : ℕ) (b : List ℕ) (from i : ℕ) : Type 0 where
   pub reached : from ≤ i
   pub inside : i ≤ count
-  pub rest : any (holds k f) (drop from (slotsOf count b)) ≡ any (holds k f) (drop i (slotsOf count b))
+  pub none-later : any (holds k f) (drop i (slotsOf count b)) ≡ false
+
+-- one of the later elements is enough
+any-drop : {A : Type 0} (p : A → Bool) (n : ℕ) (xs : List A) → any p (drop n xs) ≡ true → any p xs ≡ true
+unfolding any
+any-drop p zero xs h = h
+any-drop p (suc n) [] h = h
+any-drop p (suc n) (x ∷ xs) h = rw (any-drop p n xs h) (or-true (p x))
 
 module _ (k f : List ℕ) (count : ℕ) (b : List ℕ) (from : ℕ) where
-  pub seek-begins : from ≤ count → Seeking k f count b from from
-  seek-begins h = record { reached = omega arith; inside = h; rest = refl }
+  pub seek-begins : from ≤ count → Seeking k f count b from count
+  unfolding any
+  seek-begins h =
+      let m : length (slotsOf count b) ≤ count = omega (arith, length-slotsOf count b) in
+      record { reached = h; inside = omega arith; none-later = rw (drop-of-length-le (slotsOf count b) m) }
 
-  module _ (i : ℕ) (g : Seeking k f count b from i) where
-    seek-rest : i < count → drop i (slotsOf count b) ≡ decodeSlot (slotAt b i) ∷ drop (i + 1) (slotsOf count b)
-    seek-rest l =
-        let m : i < length (slotsOf count b) = rw length-slotsOf l in
-        rw (drop-cons (slotsOf count b) i none m, slotsOf-at count b i l, add-one)
+  module _ (i : ℕ) (g : Seeking k f count b from i) (l : from < i) where
+    seek-rest : drop (i - 1) (slotsOf count b) ≡ decodeSlot (slotAt b (i - 1)) ∷ drop i (slotsOf count b)
+    seek-rest =
+        let n : i - 1 < count = omega (arith, g .inside) in
+        let m : i - 1 < length (slotsOf count b) = omega (arith, length-slotsOf count b) in
+        let s : suc (i - 1) ≡ i = omega arith in
+        drop-cons (slotsOf count b) (i - 1) none m ∙ rw (slotsOf-at count b (i - 1) n, s)
 
-    pub seek-finds : i < count → holds k f (decodeSlot (slotAt b i)) ≡ true → any (holds k f) (drop from (slotsOf count b)) ≡ true
+    pub seek-finds : holds k f (decodeSlot (slotAt b (i - 1))) ≡ true → any (holds k f) (drop from (slotsOf count b)) ≡ true
     unfolding any
-    seek-finds l h = rw (g .rest, seek-rest l, h)
+    seek-finds h =
+        let e : from + (i - 1 - from) ≡ i - 1 = omega arith in
+        any-drop (holds k f) (i - 1 - from) (drop from (slotsOf count b)) (rw (drop-drop (i - 1 - from) from (slotsOf count b), e, seek-rest, h))
 
-    pub seek-goes-on : i < count → holds k f (decodeSlot (slotAt b i)) ≡ false → Seeking k f count b from (i + 1)
+    pub seek-goes-on : holds k f (decodeSlot (slotAt b (i - 1))) ≡ false → Seeking k f count b from (i - 1)
     unfolding any
-    seek-goes-on l h = record { reached = omega (arith, g .reached); inside = omega arith; rest = rw (g .rest, seek-rest l, h) }
+    seek-goes-on h = record { reached = omega arith; inside = omega (arith, g .inside); none-later = rw (seek-rest, h) (g .none-later) }
 
-    pub seek-ends : count ≤ i → any (holds k f) (drop from (slotsOf count b)) ≡ false
-    unfolding any
-    seek-ends h =
-        let m : length (slotsOf count b) ≤ i = rw length-slotsOf h in
-        rw (g .rest, drop-of-length-le (slotsOf count b) m)
+  pub seek-ends : (i : ℕ) → Seeking k f count b from i → i ≤ from → any (holds k f) (drop from (slotsOf count b)) ≡ false
+  seek-ends i g h = let e : i ≡ from = omega (arith, g .reached) in rw e at (g .none-later)
 
 -- ---- the size
 

@@ -15,18 +15,18 @@ ghost use Rattle.store.specs.Promises.{slotsOf, SlotsWell, rotated, keyW
 // The halves of a word are below it.
 const HALF: u64 = 0x1_0000_0000;
 
-// Whether a slot from a slot on holds an entry of a key and a field.
+// Whether a slot from a slot on holds an entry of a key and a field, looked at from the last.
 fn named_from(store: &[u8], count: usize, from: usize, key: &[u8], field: &[u8]) -> bool
     requires { ⌜ SlotsWell count (now store) from ⌝ }
     requires { ⌜ from ≤ count ⌝ }
     ensures { λ r. ⌜ r ≡ any (holds (now (key .entry)) (now (field .entry))) (drop from (slotsOf count (now (store .entry)))) ⌝ }
 {
-    let mut i = from;
-    while i < count {
+    let mut i = count;
+    while from < i {
+        i -= 1;
         if slot::holds(slot::bytes(store, i), key, field) {
             return true;
         }
-        i += 1;
     }
     false
 }
