@@ -7,7 +7,7 @@ use Prim.Native.Nat.{ℕ, zero, suc, _+_, _-_, _*_, _/_, _%_, _^_, _≤_, _<_, m
 use native.Mathlib.Nat.{one-mul, mul-le-mul-right}
 use native.Mathlib.Omega.{arith}
 use lib.Arith.{bin-ind, digits-mod}
-use lib.Bits.{bitOr, bitXor, or-step, or-comm, or-self, or-shr}
+use lib.Bits.{bitOr, or-step, or-comm, or-self, or-shr}
 use lib.Dec.{eqb, lit<}
 use lib.ListN.{length, drop, getD, set, length-set, length-drop, drop-of-length-le}
 use lib.Pow.{shl-exact}
@@ -19,7 +19,7 @@ use Rattle.wire.proofs.Lists.{any-none, and-right, both-ways}
 use Rattle.store.specs.Layout.{headerSize, slotSize, stateAt, emptyState, keyMost, fieldMost}
 use Rattle.store.specs.Store.{Entry, Slot, decodeEntry, decodeSlot, encodeEntry, encodeSlot, slotsIn, slotWell, holds, clash, distinct}
 use Rattle.store.specs.Time.{emptySlot}
-use Rattle.store.specs.Promises.{SlotBytes, HeldBytes, slotAt, slotsOf, SlotsWell, slotsGood, rotated, keyWord, fieldWord, spreadOf, nameHash, FilterSize, wordOf, bitsOf, mayContain, withName, withSlotName, Covered, Turn, Turned}
+use Rattle.store.specs.Promises.{SlotBytes, HeldBytes, slotAt, slotsOf, SlotsWell, slotsGood, keyWord, fieldWord, halvesSum, spreadOf, nameHash, FilterSize, wordOf, bitsOf, mayContain, withName, withSlotName, Covered, Turn, Turned}
 use Rattle.store.specs.Valid.{Fits, FitsSlot}
 use Rattle.store.proofs.Slots.{Named, holds-named, none-clash, clash-none}
 use Rattle.store.proofs.SlotBytes.{key-bytes, field-bytes}
@@ -39,7 +39,7 @@ module _ (t : List ℕ) (w : SlotBytes t) (e : Entry) (h : decodeSlot t ≡ some
   entry-back = ap encodeSlot (sym h) ∙ encode-decodeSlot t (w .size) (w .bytes) (w .well)
 
   -- a slot's name is that of its entry's key and field
-  name-entry : nameHash t ≡ spreadOf (bitXor (keyWord (padded keyMost (e .key))) (rotated 9 (fieldWord (padded fieldMost (e .field)))))
+  name-entry : nameHash t ≡ spreadOf (keyWord (padded keyMost (e .key))) (fieldWord (padded fieldMost (e .field)))
   unfolding nameHash
   name-entry = rw (← entry-back, key-bytes e entry-fits, field-bytes e entry-fits)
 
@@ -50,6 +50,20 @@ unfolding clash orElse
 clash-name t u v w d e p q h =
     let n : Named (d .key) (d .field) e = holds-named (d .key) (d .field) e h in
     rw (name-entry t v d p, name-entry u w e q, n .key, n .field)
+
+-- the halves of two words, each times its factor, add up to a word
+halves-low : (x : ℕ) → x < 2 ^ 64 → x % 2 ^ 32 * 0x21db208f + x / 2 ^ 32 * 0x3d1c4bb3 < 2 ^ 63
+halves-low x l = omega arith
+
+halves-high : (y : ℕ) → y < 2 ^ 64 → y % 2 ^ 32 * 0x303ce9df + y / 2 ^ 32 * 0x26deceb9 < 2 ^ 63
+halves-high y l = omega arith
+
+add-fit : {a b : ℕ} → a < 2 ^ 63 → b < 2 ^ 63 → a + b < 2 ^ 64
+add-fit l k = omega arith
+
+pub halves-fit : (x y : ℕ) → x < 2 ^ 64 → y < 2 ^ 64 → halvesSum x y < 2 ^ 64
+unfolding halvesSum
+halves-fit x y l k = add-fit (halves-low x l) (halves-high y k)
 
 -- a name's number is below 2 ^ 32
 pub hash-below : (t : List ℕ) → nameHash t < 2 ^ 32

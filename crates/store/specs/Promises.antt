@@ -72,16 +72,16 @@ fieldWord f =
     (bitXor (fromLE (part 0 8 f)) (rotated 4 (fromLE (part 8 8 f))))
     (bitXor (rotated 2 (fromLE (part 16 8 f))) (rotated 6 (fromLE (part 24 8 f))))
 
--- a word as one number below 2 ^ 32: the sum of its halves, each times its factor, with what is high in it brought down
-unfoldable pub halvesSum : ℕ → ℕ
-halvesSum z = z % 2 ^ 32 * 0x3e3779b1 + z / 2 ^ 32 * 0x2545f491
+-- two words as one number below 2 ^ 32: the sum of their halves, each times its factor, with what is high in it brought down
+unfoldable pub halvesSum : ℕ → ℕ → ℕ
+halvesSum x y = x % 2 ^ 32 * 0x21db208f + x / 2 ^ 32 * 0x3d1c4bb3 + (y % 2 ^ 32 * 0x303ce9df + y / 2 ^ 32 * 0x26deceb9)
 
-unfoldable pub spreadOf : ℕ → ℕ
-spreadOf z = bitXor (halvesSum z) (halvesSum z / 2 ^ 31) % 2 ^ 32
+unfoldable pub spreadOf : ℕ → ℕ → ℕ
+spreadOf x y = bitXor (halvesSum x y) (halvesSum x y / 2 ^ 31) % 2 ^ 32
 
 -- a number of a slot's key and field
 unfoldable pub nameHash : List ℕ → ℕ
-nameHash t = spreadOf (bitXor (keyWord (part keyAt keyMost t)) (rotated 9 (fieldWord (part fieldAt fieldMost t))))
+nameHash t = spreadOf (keyWord (part keyAt keyMost t)) (fieldWord (part fieldAt fieldMost t))
 
 -- The names seen are kept in a Bloom filter: the hash of each sets two bits of one of its words.
 pub record FilterSize (m : List ℕ) : Type 0 where

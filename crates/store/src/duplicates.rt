@@ -58,11 +58,13 @@ fn field_word(field: &[u8]) -> u64
     low ^ high
 }
 
-// A word as one number below a half's bound: its halves, each times an odd factor, and what is high in the sum brought down.
-fn spread(z: u64) -> u64
-    ensures { λ r. ⌜ r ≡ spreadOf z ⌝ }
+// Two words as one number below a half's bound: their halves, each times an odd factor, and what is high in the sum brought down.
+fn spread(x: u64, y: u64) -> u64
+    ensures { λ r. ⌜ r ≡ spreadOf x y ⌝ }
 {
-    let h = z % HALF * 0x3e37_79b1 + z / HALF * 0x2545_f491;
+    let a = x % HALF * 0x21db_208f + x / HALF * 0x3d1c_4bb3;
+    let b = y % HALF * 0x303c_e9df + y / HALF * 0x26de_ceb9;
+    let h = a + b;
     (h ^ h / 0x8000_0000) % HALF
 }
 
@@ -71,9 +73,10 @@ fn name_hash(t: &[u8]) -> u64
     requires { ⌜ length (now t) ≡ slotSize ⌝ }
     ensures { λ r. ⌜ r ≡ nameHash (now (t .entry)) ⌝ }
 {
-    let key = key_word(&t[KEY_AT..FIELD_AT]);
-    let field = field_word(&t[FIELD_AT..VALUE_AT]);
-    spread(key ^ rotate(field, 9))
+    spread(
+        key_word(&t[KEY_AT..FIELD_AT]),
+        field_word(&t[FIELD_AT..VALUE_AT]),
+    )
 }
 
 // Inserts a name by two bits of one word, and answers whether both were set before.

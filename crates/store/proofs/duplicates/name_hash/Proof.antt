@@ -6,7 +6,7 @@ use Rattle.store.proofs.duplicates.name_hash.Tie as tie
 
 returns : tie.Need-returns
 unfolding nameHash part
-returns c = rw (c .spread .ensures, c .before .rotate .ensures, c .before .before .before .before .key-word .ensures, c .before .before .field-word .ensures)
+returns c = rw (c .spread .ensures, c .before .before .before .key-word .ensures, c .before .field-word .ensures)
 
 pub name-hash-spec : {M : Type 1} → statement M
 name-hash-spec =
@@ -19,7 +19,6 @@ name-hash-spec =
     (λ c. search needs)
     (λ c. search needs)
     (λ c. search needs)
-    (λ c κs. search needs)
     (λ c κs. search needs)
     (λ c κs. search needs)
     returns)
