@@ -1,10 +1,10 @@
 -- Laws of the Bloom filter of names: a name that was inserted has its bits, so that a slot whose name lacks one clashes with no slot seen before.
 use mathlib.Core.Path.{_≡_, refl, sym, ap, ap₂, subst, _∙_}
-use mathlib.Core.Bool.{Bool, true, false, cond, not, and-true}
+use mathlib.Core.Bool.{Bool, true, false, cond, not, and-true, and-false}
 use mathlib.Core.List.{List, [], _∷_}
 use mathlib.Core.Option.{none, some, Option·none-ne-some}
 use Prim.Native.Nat.{ℕ, zero, suc, _+_, _-_, _*_, _/_, _%_, _^_, _≤_, _<_, max}
-use native.Mathlib.Nat.{one-mul}
+use native.Mathlib.Nat.{one-mul, mul-le-mul-right}
 use native.Mathlib.Omega.{arith}
 use lib.Arith.{bin-ind, digits-mod}
 use lib.Bits.{bitOr, or-step, or-comm, or-self, or-shr}
@@ -13,19 +13,19 @@ use lib.ListN.{length, drop, getD, set, length-set, length-drop, drop-of-length-
 use lib.Pow.{shl-exact}
 use lib.Seq.{drop-cons, getD-drop, getD-set-same}
 use borrow.Author.Tests.{eq-eqb, ne-eqb, eqb-true, eqb-false}
-use Rattle.wire.specs.Lists.{any, orElse}
-use Rattle.wire.specs.Bytes.{padded}
+use Rattle.wire.specs.Lists.{all, any, orElse}
+use Rattle.wire.specs.Bytes.{Bytes, padded}
 use Rattle.wire.proofs.Lists.{any-none, and-right, both-ways}
-use Rattle.store.specs.Layout.{stateAt, emptyState, keyMost, fieldMost}
-use Rattle.store.specs.Store.{Entry, Slot, decodeEntry, decodeSlot, encodeEntry, encodeSlot, holds, clash, distinct}
+use Rattle.store.specs.Layout.{headerSize, slotSize, stateAt, emptyState, keyMost, fieldMost}
+use Rattle.store.specs.Store.{Entry, Slot, decodeEntry, decodeSlot, encodeEntry, encodeSlot, slotsIn, slotWell, holds, clash, distinct}
 use Rattle.store.specs.Time.{emptySlot}
-use Rattle.store.specs.Promises.{SlotBytes, HeldBytes, slotAt, slotsOf, SlotsWell, keyWord, fieldWord, halvesSum, spreadOf, nameHash, filterWords, hasBit, withBit, firstBit, secondBit, mayContain, withName, withSlotName, HasBits, Covered, Turn, Turned}
+use Rattle.store.specs.Promises.{SlotBytes, HeldBytes, slotAt, slotsOf, SlotsWell, slotsGood, keyWord, fieldWord, halvesSum, spreadOf, nameHash, FilterSize, wordOf, bitsOf, mayContain, withName, withSlotName, Covered, Turn, Turned}
 use Rattle.store.specs.Valid.{Fits, FitsSlot}
 use Rattle.store.proofs.Slots.{Named, holds-named, none-clash, clash-none}
 use Rattle.store.proofs.SlotBytes.{key-bytes, field-bytes}
 use Rattle.store.proofs.WellSlot.{encode-decodeSlot, decode-fitsSlot}
 use Rattle.store.proofs.SlotParts.{state-empty, state-held, empty-state}
-use Rattle.store.proofs.StoreChecks.{slotsOf-at, length-slotsOf, slot-bytes}
+use Rattle.store.proofs.StoreChecks.{slotsOf-at, length-slotsOf, slot-bytes, all-well, one-wrong}
 
 -- ---- names
 
@@ -52,10 +52,10 @@ clash-name t u v w d e p q h =
     rw (name-entry t v d p, name-entry u w e q, n .key, n .field)
 
 -- the halves of two words, each times its factor, add up to a word
-halves-low : (x : ℕ) → x < 2 ^ 64 → x % 2 ^ 32 * 0x1e3779b1 + x / 2 ^ 32 * 0x2545f491 < 2 ^ 63
+halves-low : (x : ℕ) → x < 2 ^ 64 → x % 2 ^ 32 * 0x21db208f + x / 2 ^ 32 * 0x3d1c4bb3 < 2 ^ 63
 halves-low x l = omega arith
 
-halves-high : (y : ℕ) → y < 2 ^ 64 → y % 2 ^ 32 * 0x3c6ef373 + y / 2 ^ 32 * 0x3f1bbcdd < 2 ^ 63
+halves-high : (y : ℕ) → y < 2 ^ 64 → y % 2 ^ 32 * 0x303ce9df + y / 2 ^ 32 * 0x26deceb9 < 2 ^ 63
 halves-high y l = omega arith
 
 add-fit : {a b : ℕ} → a < 2 ^ 63 → b < 2 ^ 63 → a + b < 2 ^ 64
@@ -64,6 +64,11 @@ add-fit l k = omega arith
 pub halves-fit : (x y : ℕ) → x < 2 ^ 64 → y < 2 ^ 64 → halvesSum x y < 2 ^ 64
 unfolding halvesSum
 halves-fit x y l k = add-fit (halves-low x l) (halves-high y k)
+
+-- a name's number is below 2 ^ 32
+pub hash-below : (t : List ℕ) → nameHash t < 2 ^ 32
+unfolding nameHash spreadOf
+hash-below t = omega arith
 
 -- ---- bits
 
@@ -102,70 +107,64 @@ set-keeps (a ∷ m) (suc i) (suc j) x y h = set-keeps m i j x y h
 bit-word : (a : ℕ) → 1 * 2 ^ (a % 64) % 2 ^ 64 ≡ 2 ^ (a % 64)
 bit-word a = shl-exact 1 (a % 64) 64 (lit< tt) (omega arith) ∙ one-mul (2 ^ (a % 64))
 
-module _ (a : ℕ) (m : List ℕ) where
-  -- whether a bit is set, and the filter with it, by a shifted 1
-  pub bit-told : eqb (bitOr (getD m (a / 64) 0) (1 * 2 ^ (a % 64) % 2 ^ 64)) (getD m (a / 64) 0) ≡ hasBit a m
-  unfolding hasBit
-  bit-told = rw (bit-word a)
-
-  pub bit-written : set m (a / 64) (bitOr (getD m (a / 64) 0) (1 * 2 ^ (a % 64) % 2 ^ 64)) ≡ withBit a m
-  unfolding withBit
-  bit-written = rw (bit-word a)
-
-  -- a bit that is set stays
-  bit-keeps : (b : ℕ) → hasBit b m ≡ true → hasBit b (withBit a m) ≡ true
-  unfolding hasBit withBit
-  bit-keeps b h = eq-eqb _ _ (set-keeps m (a / 64) (b / 64) (2 ^ (b % 64)) (2 ^ (a % 64)) (eqb-true _ _ h))
-
-  -- one that was set is
-  bit-has : a / 64 < length m → hasBit a (withBit a m) ≡ true
-  unfolding hasBit withBit
-  bit-has l =
-      rw (getD-set-same m (a / 64) (bitOr (getD m (a / 64) 0) (2 ^ (a % 64))) 0 l)
-      (eq-eqb _ _ (or-join (getD m (a / 64) 0) (2 ^ (a % 64)) (2 ^ (a % 64)) ∙ ap (bitOr (getD m (a / 64) 0)) (or-self (2 ^ (a % 64)))))
-
-  -- and there are as many
-  length-bit : length (withBit a m) ≡ length m
-  unfolding withBit
-  length-bit = rw length-set
-
 -- ---- one name more
 
--- both bits are inside
-first-inside : (name : ℕ) → firstBit name / 64 < filterWords
-unfolding firstBit
-first-inside name = omega arith
-
-second-inside : (name : ℕ) → secondBit name / 64 < filterWords
-unfolding secondBit
-second-inside name = omega arith
-
 module _ (name : ℕ) (m : List ℕ) where
-  -- a filter may contain a name that has its bits
-  has-contained : HasBits name m → mayContain name m ≡ true
-  unfolding mayContain
-  has-contained h = rw (h .first, bit-keeps (firstBit name) m (secondBit name) (h .second))
+  -- whether a name's bits are set, and the filter with them, by shifted ones
+  pub name-told : eqb (bitOr (getD m (name * length m / 2 ^ 32) 0) (bitOr (1 * 2 ^ (name % 64) % 2 ^ 64) (1 * 2 ^ (name / 64 % 64) % 2 ^ 64))) (getD m (name * length m / 2 ^ 32) 0) ≡ mayContain name m
+  unfolding mayContain wordOf bitsOf
+  name-told = rw (bit-word name, bit-word (name / 64))
 
-  -- bits stay
-  insert-keeps : (a : ℕ) → hasBit a m ≡ true → hasBit a (withName name m) ≡ true
-  unfolding withName
-  insert-keeps a h = bit-keeps (secondBit name) (withBit (firstBit name) m) a (bit-keeps (firstBit name) m a h)
+  pub name-written : set m (name * length m / 2 ^ 32) (bitOr (getD m (name * length m / 2 ^ 32) 0) (bitOr (1 * 2 ^ (name % 64) % 2 ^ 64) (1 * 2 ^ (name / 64 % 64) % 2 ^ 64))) ≡ withName name m
+  unfolding withName wordOf bitsOf
+  name-written = rw (bit-word name, bit-word (name / 64))
 
-  -- the name has its own
-  insert-has : length m ≡ filterWords → HasBits name (withName name m)
-  unfolding withName
-  insert-has e =
-      let l : firstBit name / 64 < length m = omega (arith, first-inside name) in
-      let k : secondBit name / 64 < length (withBit (firstBit name) m) = omega (arith, second-inside name, length-bit (firstBit name) m) in
-      record {
-        first = bit-keeps (secondBit name) (withBit (firstBit name) m) (firstBit name) (bit-has (firstBit name) m l);
-        second = bit-has (secondBit name) (withBit (firstBit name) m) k;
-      }
-
-  -- and the words are as many
+  -- the words are as many
   length-insert : length (withName name m) ≡ length m
   unfolding withName
-  length-insert = length-bit (secondBit name) (withBit (firstBit name) m) ∙ length-bit (firstBit name) m
+  length-insert = rw length-set
+
+  word-same : (other : ℕ) → wordOf other (withName name m) ≡ wordOf other m
+  unfolding wordOf
+  word-same other = rw length-insert
+
+  -- bits that are set stay
+  bits-keep : (other : ℕ) → bitOr (getD m (wordOf other m) 0) (bitsOf other) ≡ getD m (wordOf other m) 0
+      → bitOr (getD (withName name m) (wordOf other m) 0) (bitsOf other) ≡ getD (withName name m) (wordOf other m) 0
+  unfolding withName
+  bits-keep other e = set-keeps m (wordOf name m) (wordOf other m) (bitsOf other) (bitsOf name) e
+
+  insert-keeps : (other : ℕ) → mayContain other m ≡ true → mayContain other (withName name m) ≡ true
+  unfolding mayContain
+  insert-keeps other h = rw (word-same other) (eq-eqb _ _ (bits-keep other (eqb-true _ _ h)))
+
+  module _ (below : name < 2 ^ 32) (size : FilterSize m) where
+    most-name : name * length m ≤ 4294967295 * length m
+    most-name = mul-le-mul-right (length m) (omega arith)
+
+    -- the word's number is a word, and lies in the filter
+    pub place-fits : name * length m < 2 ^ 64
+    place-fits = omega (arith, most-name, size .most)
+
+    pub place-inside : name * length m / 2 ^ 32 < length m
+    place-inside = omega (arith, most-name, size .least)
+
+    pub place-scaled : name * length m / 2 ^ 32 * 8 < 2 ^ 64
+    place-scaled = omega (arith, place-inside, size .most)
+
+    -- the name has its own bits
+    own-bits : bitOr (getD (withName name m) (wordOf name m) 0) (bitsOf name) ≡ getD (withName name m) (wordOf name m) 0
+    unfolding withName wordOf
+    own-bits =
+        rw (getD-set-same m (name * length m / 2 ^ 32) (bitOr (getD m (name * length m / 2 ^ 32) 0) (bitsOf name)) 0 place-inside)
+        (or-join (getD m (name * length m / 2 ^ 32) 0) (bitsOf name) (bitsOf name) ∙ ap (bitOr (getD m (name * length m / 2 ^ 32) 0)) (or-self (bitsOf name)))
+
+    insert-has : mayContain name (withName name m) ≡ true
+    unfolding mayContain
+    insert-has = rw (word-same name) (eq-eqb _ _ own-bits)
+
+    length-kept : FilterSize (withName name m)
+    length-kept = record { least = rw length-insert (size .least); most = rw length-insert (size .most) }
 
 module _ (t m : List ℕ) where
   -- a slot that holds no entry has no name
@@ -198,9 +197,9 @@ module _ (count : ℕ) (b : List ℕ) (i : ℕ) (m : List ℕ) (c : Turn count b
   apart-go j l n f (some d) (some e) p q false h = h
   apart-go j l n f (some d) (some e) p q true h =
       let same-name : nameHash (slotAt b i) ≡ nameHash (slotAt b j)
-      = clash-name (slotAt b i) (slotAt b j) (slot-bytes count b i (c .slots) (c .inside)) (slot-bytes count b j (c .slots) n) d e p q h in
+      = clash-name (slotAt b i) (slotAt b j) (slot-bytes count b i i (c .slots) (omega arith) (c .inside)) (slot-bytes count b i j (c .slots) (omega arith) n) d e p q h in
       let held : getD (slotAt b j) stateAt 0 ≡ emptyState → ⊥ = λ z. Option·none-ne-some e (sym (state-empty (slotAt b j) z) ∙ q) in
-      both-ways (rw same-name (has-contained (nameHash (slotAt b j)) m (c .covered .names j (omega arith) n held))) f
+      both-ways (rw same-name (c .covered .names j (omega arith) n held)) f
 
   -- a slot whose name is new clashes with no later one
   pub new-apart : mayContain (nameHash (slotAt b i)) m ≡ false → any (clash (decodeSlot (slotAt b i))) (drop (i + 1) (slotsOf count b)) ≡ false
@@ -220,24 +219,23 @@ module _ (count : ℕ) (b : List ℕ) (i : ℕ) (m : List ℕ) (c : Turn count b
   pub covered-again : Covered count b i (withSlotName (slotAt b i) m)
   covered-again = record { size = size; names = names }
     where
-      size : length (withSlotName (slotAt b i) m) ≡ filterWords
-      size = insert-either (slotAt b i) m (λ (l : List ℕ). length l ≡ filterWords) (c .covered .size) (length-insert (nameHash (slotAt b i)) m ∙ c .covered .size)
+      size : FilterSize (withSlotName (slotAt b i) m)
+      size = insert-either (slotAt b i) m (λ (l : List ℕ). FilterSize l) (c .covered .size) (length-kept (nameHash (slotAt b i)) m (hash-below (slotAt b i)) (c .covered .size))
 
-      keeps : (a : ℕ) → hasBit a m ≡ true → hasBit a (withSlotName (slotAt b i) m) ≡ true
-      keeps a h = insert-either (slotAt b i) m (λ (l : List ℕ). hasBit a l ≡ true) h (insert-keeps (nameHash (slotAt b i)) m a h)
+      keeps : (name : ℕ) → mayContain name m ≡ true → mayContain name (withSlotName (slotAt b i) m) ≡ true
+      keeps name h = insert-either (slotAt b i) m (λ (l : List ℕ). mayContain name l ≡ true) h (insert-keeps (nameHash (slotAt b i)) m name h)
 
-      own : (getD (slotAt b i) stateAt 0 ≡ emptyState → ⊥) → HasBits (nameHash (slotAt b i)) (withSlotName (slotAt b i) m)
-      own h = rw (← insert-held (slotAt b i) m h) (insert-has (nameHash (slotAt b i)) m (c .covered .size))
+      own : (getD (slotAt b i) stateAt 0 ≡ emptyState → ⊥) → mayContain (nameHash (slotAt b i)) (withSlotName (slotAt b i) m) ≡ true
+      own h = rw (← insert-held (slotAt b i) m h) (insert-has (nameHash (slotAt b i)) m (hash-below (slotAt b i)) (c .covered .size))
 
       go : (j : ℕ) → i ≤ j → j < count → (getD (slotAt b j) stateAt 0 ≡ emptyState → ⊥) → (x : Bool) → eqb i j ≡ x
-          → HasBits (nameHash (slotAt b j)) (withSlotName (slotAt b i) m)
+          → mayContain (nameHash (slotAt b j)) (withSlotName (slotAt b i) m) ≡ true
       go j l n h true q =
-          subst (λ (k : ℕ). (getD (slotAt b k) stateAt 0 ≡ emptyState → ⊥) → HasBits (nameHash (slotAt b k)) (withSlotName (slotAt b i) m)) (eqb-true i j q) own h
+          subst (λ (k : ℕ). (getD (slotAt b k) stateAt 0 ≡ emptyState → ⊥) → mayContain (nameHash (slotAt b k)) (withSlotName (slotAt b i) m) ≡ true) (eqb-true i j q) own h
       go j l n h false q =
-          let has : HasBits (nameHash (slotAt b j)) m = c .covered .names j (omega (arith, eqb-false i j q)) n h in
-          record { first = keeps (firstBit (nameHash (slotAt b j))) (has .first); second = keeps (secondBit (nameHash (slotAt b j))) (has .second) }
+          keeps (nameHash (slotAt b j)) (c .covered .names j (omega (arith, eqb-false i j q)) n h)
 
-      names : (j : ℕ) → i ≤ j → j < count → (getD (slotAt b j) stateAt 0 ≡ emptyState → ⊥) → HasBits (nameHash (slotAt b j)) (withSlotName (slotAt b i) m)
+      names : (j : ℕ) → i ≤ j → j < count → (getD (slotAt b j) stateAt 0 ≡ emptyState → ⊥) → mayContain (nameHash (slotAt b j)) (withSlotName (slotAt b i) m) ≡ true
       names j l n h = go j l n h (eqb i j) refl
 
 -- a held slot clashes with those that hold its name
@@ -259,7 +257,7 @@ module _ (count : ℕ) (b : List ℕ) (i : ℕ) (m : List ℕ) (c : Turn count b
 
     -- a held slot's bytes
     pub held-bytes : HeldBytes (slotAt b i)
-    held-bytes = record { slot = slot-bytes count b i (c .slots) (c .inside); held = held }
+    held-bytes = record { slot = slot-bytes count b i i (c .slots) (omega arith) (c .inside); held = held }
 
     module _ {n : List ℕ} (e : n ≡ withName (nameHash (slotAt b i)) m) where
       -- the turn of a slot whose name is new, and of one whose name may have been
@@ -282,59 +280,82 @@ distinct-drop ss zero h = h
 distinct-drop [] (suc i) h = h
 distinct-drop (s ∷ ss) (suc i) h = distinct-drop ss i (and-right (not (any (clash s) ss)) (distinct ss) h)
 
--- The slots from i on are distinct, and their names are in the filter.
+-- The slots from i on are well formed and distinct, and their names are in the filter.
 pub record Sifting (count : ℕ) (b : List ℕ) (i : ℕ) (m : List ℕ) : Type 0 where
   pub inside : i ≤ count
+  pub slots : SlotsWell count b i
   pub apart : distinct (drop i (slotsOf count b)) ≡ true
   pub covered : Covered count b i m
 
 module _ (count : ℕ) (b : List ℕ) where
-  pub sift-begins : (m : List ℕ) → length m ≡ filterWords → Sifting count b count m
+  pub sift-begins : (m : List ℕ) → FilterSize m → headerSize + slotSize * count ≤ length b → Bytes b → Sifting count b count m
   unfolding distinct
-  sift-begins m e =
+  sift-begins m e h y =
       let n : length (slotsOf count b) ≤ count = omega (arith, length-slotsOf count b) in
       record {
         inside = omega arith;
+        slots = record { size = h; bytes = y; well = λ j l n. absurd (omega arith) };
         apart = rw (drop-of-length-le (slotsOf count b) n);
         covered = record { size = e; names = λ j l n h. absurd (omega arith) };
       }
 
-  module _ (i : ℕ) (m : List ℕ) (w : SlotsWell count b) (f : Sifting count b i m) (l : 0 < i) where
-    pub sift-turn : Turn count b (i - 1) m
-    sift-turn =
-        let e : i - 1 + 1 ≡ i = omega arith in
-        record { slots = w; inside = omega (arith, f .inside); covered = rw e (f .covered) }
+  module _ (i : ℕ) (m : List ℕ) (f : Sifting count b i m) (l : 0 < i) where
+    -- a slot that is not well formed
+    pub sift-wrong : slotWell (slotAt b (i - 1)) ≡ false → slotsGood count b ≡ false
+    unfolding slotsGood
+    sift-wrong h = rw (one-wrong count b (i - 1) (omega (arith, f .inside)) h)
 
-    -- the slots from the turn's on are distinct if its slot clashes with none after it
-    sift-next : distinct (drop (i - 1) (slotsOf count b)) ≡ not (any (clash (decodeSlot (slotAt b (i - 1)))) (drop (i - 1 + 1) (slotsOf count b)))
-    unfolding distinct
-    sift-next =
-        let s : suc (i - 1) ≡ i = omega arith in
-        let e : i - 1 + 1 ≡ i = omega arith in
-        let n : i - 1 < count = omega (arith, f .inside) in
-        let k : i - 1 < length (slotsOf count b) = omega (arith, length-slotsOf count b) in
-        let d : drop (i - 1) (slotsOf count b) ≡ decodeSlot (slotAt b (i - 1)) ∷ drop i (slotsOf count b)
-        = drop-cons (slotsOf count b) (i - 1) none k ∙ rw (slotsOf-at count b (i - 1) n, s) in
-        rw (d, f .apart, e) (and-true (not (any (clash (decodeSlot (slotAt b (i - 1)))) (drop i (slotsOf count b)))))
-
-    module _ (n : List ℕ) (r : Bool) (t : Turned count b (i - 1) m n r) where
-      pub sift-fails : r ≡ true → distinct (slotsOf count b) ≡ false
-      sift-fails h = go (distinct (slotsOf count b)) refl
+    module _ (h : slotWell (slotAt b (i - 1)) ≡ true) where
+      next-well : SlotsWell count b (i - 1)
+      next-well = record { size = f .slots .size; bytes = f .slots .bytes; well = well }
         where
-          clashing : distinct (drop (i - 1) (slotsOf count b)) ≡ false
-          clashing = rw (sift-next, ← (t .answer), h)
+          well : (j : ℕ) → i - 1 ≤ j → j < count → slotWell (slotAt b j) ≡ true
+          well j k n = go (eqb (i - 1) j) refl
+            where
+              go : (x : Bool) → eqb (i - 1) j ≡ x → slotWell (slotAt b j) ≡ true
+              go true q = subst (λ (v : ℕ). slotWell (slotAt b v) ≡ true) (eqb-true (i - 1) j q) h
+              go false q = f .slots .well j (omega (arith, eqb-false (i - 1) j q)) n
 
-          go : (x : Bool) → distinct (slotsOf count b) ≡ x → x ≡ false
-          go true q = both-ways (distinct-drop (slotsOf count b) (i - 1) q) clashing
-          go false q = refl
+      pub sift-turn : Turn count b (i - 1) m
+      sift-turn =
+          let e : i - 1 + 1 ≡ i = omega arith in
+          record { slots = next-well; inside = omega (arith, f .inside); covered = rw e (f .covered) }
 
-      pub sift-goes-on : r ≡ false → Sifting count b (i - 1) n
-      sift-goes-on h =
-          record {
-            inside = omega (arith, f .inside);
-            apart = rw (sift-next, ← (t .answer), h);
-            covered = rw (t .filter) (covered-again count b (i - 1) m sift-turn);
-          }
+      -- the slots from the turn's on are distinct if its slot clashes with none after it
+      sift-next : distinct (drop (i - 1) (slotsOf count b)) ≡ not (any (clash (decodeSlot (slotAt b (i - 1)))) (drop (i - 1 + 1) (slotsOf count b)))
+      unfolding distinct
+      sift-next =
+          let s : suc (i - 1) ≡ i = omega arith in
+          let e : i - 1 + 1 ≡ i = omega arith in
+          let n : i - 1 < count = omega (arith, f .inside) in
+          let k : i - 1 < length (slotsOf count b) = omega (arith, length-slotsOf count b) in
+          let d : drop (i - 1) (slotsOf count b) ≡ decodeSlot (slotAt b (i - 1)) ∷ drop i (slotsOf count b)
+          = drop-cons (slotsOf count b) (i - 1) none k ∙ rw (slotsOf-at count b (i - 1) n, s) in
+          rw (d, f .apart, e) (and-true (not (any (clash (decodeSlot (slotAt b (i - 1)))) (drop i (slotsOf count b)))))
 
-  pub sift-ends : (i : ℕ) (m : List ℕ) → Sifting count b i m → i ≤ 0 → distinct (slotsOf count b) ≡ true
-  sift-ends i m f h = let z : i ≡ 0 = omega arith in rw z at (f .apart)
+      module _ (n : List ℕ) (r : Bool) (t : Turned count b (i - 1) m n r) where
+        pub sift-fails : r ≡ true → slotsGood count b ≡ false
+        unfolding slotsGood
+        sift-fails h = rw (go (distinct (slotsOf count b)) refl) (and-false (all slotWell (slotsIn count (drop headerSize b))))
+          where
+            clashing : distinct (drop (i - 1) (slotsOf count b)) ≡ false
+            clashing = rw (sift-next, ← (t .answer), h)
+
+            go : (x : Bool) → distinct (slotsOf count b) ≡ x → x ≡ false
+            go true q = both-ways (distinct-drop (slotsOf count b) (i - 1) q) clashing
+            go false q = refl
+
+        pub sift-goes-on : r ≡ false → Sifting count b (i - 1) n
+        sift-goes-on h =
+            record {
+              inside = omega (arith, f .inside);
+              slots = next-well;
+              apart = rw (sift-next, ← (t .answer), h);
+              covered = rw (t .filter) (covered-again count b (i - 1) m sift-turn);
+            }
+
+  pub sift-ends : (i : ℕ) (m : List ℕ) → Sifting count b i m → i ≤ 0 → slotsGood count b ≡ true
+  unfolding slotsGood
+  sift-ends i m f h =
+      let z : i ≡ 0 = omega arith in
+      rw (all-well count b (λ j n. f .slots .well j (omega arith) n), rw z at (f .apart))

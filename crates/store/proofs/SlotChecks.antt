@@ -8,7 +8,7 @@ use lib.Bits.{bitOr}
 use lib.Dec.{leb, eqb}
 use lib.ListN.{take, drop, getD}
 use lib.Seq.{drop-drop, take-nil}
-use borrow.Author.Tests.{eq-eqb, ne-eqb, le-leb, leb-true}
+use borrow.Author.Tests.{eq-eqb, ne-eqb, eqb-true, eqb-false, le-leb, leb-true}
 use Rattle.wire.specs.Lists.{every, all}
 use Rattle.wire.specs.Bytes.{Bytes, fromLE, part, allZero}
 use Rattle.wire.proofs.Lists.{every-at}
@@ -82,6 +82,18 @@ module _ (t : List ℕ) where
       go zero = refl
       go (suc x) = rw (ne-eqb (suc x) 0 (λ p. omega arith))
 
+  -- an instant of zero is right for both
+  pub none-test : fromLE (part expiryAt expirySize t) ≡ 0 → every (expiryTests t) ≡ true
+  none-test e = go (eqb (getD t stateAt 0) expiringState) refl
+    where
+      go : (x : Bool) → eqb (getD t stateAt 0) expiringState ≡ x → every (expiryTests t) ≡ true
+      go true q = expiring-test (eqb-true (getD t stateAt 0) expiringState q) ∙ rw e (le-leb 0 timeLimit (omega arith))
+      go false q = lasting-test (eqb-false (getD t stateAt 0) expiringState q) ∙ rw e
+
+  -- another is wrong for a slot that does not expire
+  pub some-test : (getD t stateAt 0 ≡ expiringState → ⊥) → (fromLE (part expiryAt expirySize t) ≡ 0 → ⊥) → every (expiryTests t) ≡ false
+  some-test n e = lasting-test n ∙ ne-eqb (fromLE (part expiryAt expirySize t)) 0 e
+
 -- ---- places
 
 -- what is left of the first n is the first of what is left
@@ -134,6 +146,33 @@ module _ (at m n used : ℕ) (t : List ℕ) where
   -- the bits of both
   pub beyond-bits : used ≤ m → (x y : ℕ) → eqb x 0 ≡ zeroBeyond at m used t → eqb y 0 ≡ allZero (part (at + m) n t) → eqb (bitOr x y) 0 ≡ zeroBeyond at (m + n) used t
   beyond-bits h x y p q = or-zero x y ∙ rw (p, q) (sym (beyond-first h))
+
+-- of 16 bytes at most 8 are used: the word after those and the last one, which may overlap, are what is beyond
+module _ (at used : ℕ) (t : List ℕ) (h : used ≤ 8) where
+  short-low : zeroBeyond at 8 used t ≡ allZero (part (at + used) (8 - used) t)
+  unfolding zeroBeyond
+  short-low = let e : used + (8 - used) ≡ 8 = omega arith in ap allZero (rw e at (rest-part at used (8 - used) used t))
+
+  short-word : allZero (part (at + used) 8 t) ≡ allZero (part (at + used) (8 - used) t) && allZero (part (at + 8) used t)
+  short-word =
+      let e : 8 - used + used ≡ 8 = omega arith in
+      let k : at + used + (8 - used) ≡ at + 8 = omega arith in
+      let d : drop (8 - used) (part (at + used) 8 t) ≡ part (at + 8) used t = rw k at (rw e at (rest-part (at + used) (8 - used) used used t)) in
+      zero-split (8 - used) (part (at + used) 8 t) ∙ rw (take-part (at + used) (8 - used) 8 t (omega arith), d)
+
+  short-last : allZero (part (at + 8) 8 t) ≡ allZero (part (at + 8) used t) && allZero (drop used (part (at + 8) 8 t))
+  short-last = zero-split used (part (at + 8) 8 t) ∙ rw (take-part (at + 8) used 8 t h)
+
+  overlap : (a b c : Bool) → (a && b) && (b && c) ≡ a && (b && c)
+  overlap true true c = refl
+  overlap true false c = refl
+  overlap false b c = refl
+
+  pub beyond-short : (x y : ℕ) → x ≡ fromLE (part (at + used) 8 t) → y ≡ fromLE (part (at + 8) 8 t) → eqb (bitOr x y) 0 ≡ zeroBeyond at 16 used t
+  beyond-short x y p q =
+      or-zero x y
+      ∙ rw (p, q, fromLE-none (part (at + used) 8 t), fromLE-none (part (at + 8) 8 t), beyond-first at 8 8 used t h, short-low, short-word, short-last)
+      (overlap (allZero (part (at + used) (8 - used) t)) (allZero (part (at + 8) used t)) (allZero (drop used (part (at + 8) 8 t))))
 
 -- the bits beyond the lengths of a slot's three places
 pub places-bits : (t : List ℕ) (k f v : ℕ) → eqb k 0 ≡ zeroBeyond keyAt keyMost (getD t keyLengthAt 0) t

@@ -1,23 +1,24 @@
 -- What a slot's parts are, in the forms in which the code takes them.
-use mathlib.Core.Path.{_≡_, refl, sym, _∙_}
+use mathlib.Core.Path.{_≡_, refl, sym, ap, _∙_}
 use mathlib.Core.Bool.{Bool, true, false, cond, not, _&&_, and-false}
-use mathlib.Core.List.{List}
+use mathlib.Core.List.{List, _++_}
 use mathlib.Core.Option.{none, some}
 use Prim.Native.Nat.{ℕ, _+_, _-_, _≤_, _<_}
 use native.Mathlib.Omega.{arith}
 use lib.Bits.{bitXor}
 use lib.Dec.{eqb}
-use lib.ListN.{length, take, drop, getD, length-drop, drop-of-length-le}
+use lib.ListN.{length, take, drop, getD, length-take, length-drop, take-append-drop, drop-of-length-le}
 use lib.Seq.{take-all}
 use borrow.Author.Tests.{eq-eqb, ne-eqb, eqb-true, eqb-false}
 use Rattle.wire.specs.Lists.{orElse}
-use Rattle.wire.specs.Bytes.{part, padded, same, fromLE}
-use Rattle.wire.proofs.ByteLaws.{fromLE-padded}
+use Rattle.wire.specs.Bytes.{Bytes, part, padded, same, fromLE}
+use Rattle.wire.proofs.ByteLaws.{bytes-part, toLE-fromLE, same-refl, fromLE-padded}
 use Rattle.wire.proofs.ByteLoops.{not-same}
 use Rattle.store.specs.declared.Expiry.the-variants.{Never, At}
-use Rattle.store.specs.Layout.{stateAt, fieldLengthAt, emptyState, expiringState, expiryAt, expirySize, fieldAt, fieldMost}
+use Rattle.store.specs.Layout.{stateAt, keyLengthAt, fieldLengthAt, emptyState, expiringState, expiryAt, expirySize, keyAt, keyMost, fieldAt, fieldMost}
 use Rattle.store.specs.Store.{Slot, decodeExpiry, decodeEntry, decodeSlot, slotWell, holds}
 use Rattle.store.specs.Promises.{SlotBytes, HeldBytes, fingerprintOf}
+use Rattle.store.proofs.Pieces.{length-part}
 use Rattle.store.proofs.WellSlot.{HeldTests, held-well, place-padded}
 use Rattle.store.specs.Time.{before, live, liveSlot, deadSlot, emptySlot, ofKey, liveOfKey}
 
@@ -103,6 +104,73 @@ module _ (t : List ℕ) (h : HeldBytes t) where
   field-padded : padded fieldMost (decodeEntry t .field) ≡ part fieldAt fieldMost t
   unfolding decodeEntry
   field-padded = place-padded fieldAt fieldMost (getD t fieldLengthAt 0) t (omega (arith, h .slot .size)) (tests .field) (tests .fieldBeyond)
+
+  key-padded : padded keyMost (decodeEntry t .key) ≡ part keyAt keyMost t
+  unfolding decodeEntry
+  key-padded = place-padded keyAt keyMost (getD t keyLengthAt 0) t (omega (arith, h .slot .size)) (tests .key) (tests .keyBeyond)
+
+-- ---- a key by its two words and its length
+
+-- a held slot's key is bytes
+key-are-bytes : (t : List ℕ) → HeldBytes t → Bytes (decodeEntry t .key)
+unfolding decodeEntry
+key-are-bytes t h = bytes-part keyAt (getD t keyLengthAt 0) t (h .slot .bytes)
+
+-- parts of lists as long as each other
+length-parts : (at : ℕ) (x y : List ℕ) → length x ≡ length y → length (part at 8 x) ≡ length (part at 8 y)
+unfolding part
+length-parts at x y e = rw (length-take, length-drop, length-take, length-drop, e)
+
+-- bytes that spell the same number are the same
+spelled : (x y : List ℕ) → Bytes x → Bytes y → length x ≡ length y → fromLE x ≡ fromLE y → x ≡ y
+spelled x y p q e f = sym (toLE-fromLE x p) ∙ rw (e, f) (toLE-fromLE y q)
+
+two-words : (s : List ℕ) → length s ≤ 16 → part 0 8 s ++ part 8 8 s ≡ s
+unfolding part
+two-words s l =
+    let short : length (drop 8 s) ≤ 8 = rw length-drop (omega arith) in
+    rw (take-all 8 (drop 8 s) short) (take-append-drop 8 s)
+
+by-words : (x y : List ℕ) → Bytes x → Bytes y → length x ≡ length y → length x ≤ 16 → fromLE (part 0 8 x) ≡ fromLE (part 0 8 y)
+    → fromLE (part 8 8 x) ≡ fromLE (part 8 8 y) → x ≡ y
+by-words x y p q e l f g =
+    let low : part 0 8 x ≡ part 0 8 y = spelled (part 0 8 x) (part 0 8 y) (bytes-part 0 8 x p) (bytes-part 0 8 y q) (same-part 0) f in
+    let high : part 8 8 x ≡ part 8 8 y = spelled (part 8 8 x) (part 8 8 y) (bytes-part 8 8 x p) (bytes-part 8 8 y q) (same-part 8) g in
+    sym (two-words x l) ∙ rw (low, high) (two-words y (omega arith))
+  where
+    same-part : (at : ℕ) → length (part at 8 x) ≡ length (part at 8 y)
+    same-part at = length-parts at x y e
+
+module _ (t k : List ℕ) (h : HeldBytes t) where
+  -- a word of the key's place is the key's
+  key-word : (at : ℕ) → fromLE (part at 8 (part keyAt keyMost t)) ≡ fromLE (part at 8 (decodeEntry t .key))
+  key-word at = rw (← key-padded t h) (fromLE-padded at 8 keyMost (decodeEntry t .key))
+
+  key-length : length (decodeEntry t .key) ≡ getD t keyLengthAt 0
+  unfolding decodeEntry
+  key-length = length-part keyAt (getD t keyLengthAt 0) t (key-inside t h)
+
+  -- a key of another length or with another word is another
+  pub other-length : (getD t keyLengthAt 0 ≡ length k → ⊥) → ofKey k (decodeSlot t) ≡ false
+  other-length n = key-held t k (h .held) ∙ not-same (decodeEntry t .key) k (λ e. n (sym key-length ∙ ap length e))
+
+  pub other-word : (at x y : ℕ) → x ≡ fromLE (part at 8 (part keyAt keyMost t)) → y ≡ fromLE (part at 8 k) → (x ≡ y → ⊥) → ofKey k (decodeSlot t) ≡ false
+  other-word at x y p q n = key-held t k (h .held) ∙ not-same (decodeEntry t .key) k (λ e. n (p ∙ key-word at ∙ ap (λ (s : List ℕ). fromLE (part at 8 s)) e ∙ sym q))
+
+  pub last-word : (x y low high : ℕ) → Bytes k → getD t keyLengthAt 0 ≡ length k → x ≡ fromLE (part 0 8 (part keyAt keyMost t)) → low ≡ fromLE (part 0 8 k) → x ≡ low
+      → y ≡ fromLE (part 8 8 (part keyAt keyMost t)) → high ≡ fromLE (part 8 8 k) → eqb y high ≡ ofKey k (decodeSlot t)
+  last-word x y low high b e p q r u v = go (eqb y high) refl
+    where
+      bytes : Bytes (decodeEntry t .key)
+      bytes = key-are-bytes t h
+
+      go : (z : Bool) → eqb y high ≡ z → z ≡ ofKey k (decodeSlot t)
+      go true d =
+          let same-key : decodeEntry t .key ≡ k
+          = by-words (decodeEntry t .key) k bytes b (key-length ∙ e) (omega (arith, key-length, tests t h .key)) (sym (key-word 0) ∙ sym p ∙ r ∙ q)
+          (sym (key-word 8) ∙ sym u ∙ eqb-true y high d ∙ v) in
+          rw (key-held t k (h .held), same-key) (sym (same-refl k))
+      go false d = sym (other-word 8 y high u v (eqb-false y high d))
 
 -- ---- fingerprints
 

@@ -1,9 +1,9 @@
 -- Laws of the tests of a store's bytes, in the forms in which the code makes them.
 use mathlib.Core.Path.{_≡_, refl, sym, _∙_}
-use mathlib.Core.Bool.{Bool, true, false, cond, _&&_, and-true, and-false}
+use mathlib.Core.Bool.{Bool, true, false, cond, _&&_, and-true, and-false, or-true}
 use mathlib.Core.List.{List, [], _∷_}
 use mathlib.Core.Option.{none}
-use Prim.Native.Nat.{ℕ, _+_, _-_, _*_, _≤_, _<_}
+use Prim.Native.Nat.{ℕ, zero, suc, _+_, _-_, _*_, _≤_, _<_}
 use native.Mathlib.Numerals.{add-one}
 use native.Mathlib.Omega.{arith}
 use lib.Dec.{leb}
@@ -13,15 +13,21 @@ use lib.Pow.{areBytes}
 use borrow.Author.Tests.{eq-eqb, ne-eqb, le-leb, lt-leb, leb-true, leb-false, eqb-true}
 use Rattle.wire.specs.Lists.{every, all, any}
 use Rattle.wire.specs.Bytes.{Bytes, part}
-use Rattle.wire.proofs.Lists.{all-at, every-at}
+use Rattle.wire.proofs.Lists.{all-at, every-at, and-both, both-ways}
 use Rattle.wire.proofs.ByteLaws.{bytes-part}
 use Rattle.store.specs.Layout.{headerSize, slotSize, slotsMost}
 use Rattle.store.specs.Store.{decodeSlot, slotsIn, slotsWithin, slotCount, slotBytes, decode, slotWell, holds, distinct, wellFormed, sizeTests, headerTests}
-use Rattle.store.specs.Promises.{SlotBytes, slotAt, countFor, slotsOf, SlotsWell}
+use Rattle.store.specs.Promises.{SlotBytes, slotAt, countFor, slotsOf, SlotsWell, slotsGood}
 use Rattle.store.proofs.Pieces.{length-part}
 use Rattle.store.proofs.Encode.{length-slotsIn}
 use Rattle.store.proofs.Places.{slotsIn-at}
 use Rattle.store.proofs.SlotChecks.{every-fails}
+
+-- what holds of each element holds of all
+all-from : {A : Type 0} (p : A → Bool) (xs : List A) (d : A) → ((i : ℕ) → i < length xs → p (getD xs i d) ≡ true) → all p xs ≡ true
+unfolding all
+all-from p [] d h = refl
+all-from p (x ∷ xs) d h = and-both (h 0 (omega arith)) (all-from p xs d (λ i l. h (suc i) (omega arith)))
 
 -- ---- slots by their number
 
@@ -49,73 +55,77 @@ module _ (count : ℕ) (b : List ℕ) where
   slot-size i h l = length-part (headerSize + slotSize * i) slotSize b (omega arith)
 
   -- well-formed slots, one by one
-  pub slot-bytes : (i : ℕ) → SlotsWell count b → i < count → SlotBytes (slotAt b i)
-  slot-bytes i w l =
-      let m : i < length pieces = rw length-slotsIn l in
+  pub slot-bytes : (from i : ℕ) → SlotsWell count b from → from ≤ i → i < count → SlotBytes (slotAt b i)
+  slot-bytes from i w k l =
       record {
         size = slot-size i (w .size) l;
         bytes = bytes-part (headerSize + slotSize * i) slotSize b (w .bytes);
-        well = rw (piece-at i [] l) at (all-at slotWell pieces [] (w .well) i m);
+        well = w .well i k l;
       }
+
+  -- the later ones of them
+  pub slots-later : (i : ℕ) → SlotsWell count b i → SlotsWell count b (i + 1)
+  slots-later i w = record { size = w .size; bytes = w .bytes; well = λ j k l. w .well j (omega arith) l }
+
+  -- one that is not is enough
+  pub one-wrong : (i : ℕ) → i < count → slotWell (slotAt b i) ≡ false → all slotWell (slotsIn count (drop headerSize b)) ≡ false
+  one-wrong i l h = go (all slotWell pieces) refl
+    where
+      go : (x : Bool) → all slotWell pieces ≡ x → x ≡ false
+      go true q =
+          let m : i < length pieces = rw length-slotsIn l in
+          both-ways (rw (piece-at i [] l) at (all-at slotWell pieces [] q i m)) h
+      go false q = refl
+
+  -- all together
+  pub all-well : ((i : ℕ) → i < count → slotWell (slotAt b i) ≡ true) → all slotWell (slotsIn count (drop headerSize b)) ≡ true
+  all-well h = all-from slotWell pieces [] (λ i m. each i (rw length-slotsIn at m))
+    where
+      each : (i : ℕ) → i < count → slotWell (getD pieces i []) ≡ true
+      each i l = rw (piece-at i [] l) (h i l)
 
 -- ---- one slot after the other
 
--- What every slot is tested for is left to the slots from i on.
-pub record Judging (count : ℕ) (b : List ℕ) (i : ℕ) : Type 0 where
-  pub inside : i ≤ count
-  pub rest : all slotWell (slotsIn count (drop headerSize b)) ≡ all slotWell (drop i (slotsIn count (drop headerSize b)))
-
-module _ (count : ℕ) (b : List ℕ) where
-  pub judge-begins : Judging count b 0
-  judge-begins = record { inside = omega arith; rest = refl }
-
-  module _ (i : ℕ) (g : Judging count b i) where
-    judge-next : i < count → all slotWell (pieces count b) ≡ slotWell (slotAt b i) && all slotWell (drop (i + 1) (pieces count b))
-    unfolding all
-    judge-next l =
-        let m : i < length (pieces count b) = rw length-slotsIn l in
-        rw (g .rest, drop-cons (pieces count b) i [] m, piece-at count b i [] l, add-one)
-
-    pub judge-fails : i < count → slotWell (slotAt b i) ≡ false → all slotWell (slotsIn count (drop headerSize b)) ≡ false
-    judge-fails l h = rw (judge-next l, h)
-
-    pub judge-goes-on : i < count → slotWell (slotAt b i) ≡ true → Judging count b (i + 1)
-    judge-goes-on l h = record { inside = omega arith; rest = judge-next l ∙ rw h }
-
-    pub judge-ends : count ≤ i → all slotWell (slotsIn count (drop headerSize b)) ≡ true
-    unfolding all
-    judge-ends h =
-        let m : length (pieces count b) ≤ i = rw length-slotsIn h in
-        rw (g .rest, drop-of-length-le (pieces count b) m)
-
--- Whether a slot has a name is left to the slots from i on.
+-- No slot from i on has a name.
 pub record Seeking (k f : List ℕ) (count : ℕ) (b : List ℕ) (from i : ℕ) : Type 0 where
+  pub reached : from ≤ i
   pub inside : i ≤ count
-  pub rest : any (holds k f) (drop from (slotsOf count b)) ≡ any (holds k f) (drop i (slotsOf count b))
+  pub none-later : any (holds k f) (drop i (slotsOf count b)) ≡ false
+
+-- one of the later elements is enough
+any-drop : {A : Type 0} (p : A → Bool) (n : ℕ) (xs : List A) → any p (drop n xs) ≡ true → any p xs ≡ true
+unfolding any
+any-drop p zero xs h = h
+any-drop p (suc n) [] h = h
+any-drop p (suc n) (x ∷ xs) h = rw (any-drop p n xs h) (or-true (p x))
 
 module _ (k f : List ℕ) (count : ℕ) (b : List ℕ) (from : ℕ) where
-  pub seek-begins : from ≤ count → Seeking k f count b from from
-  seek-begins h = record { inside = h; rest = refl }
+  pub seek-begins : from ≤ count → Seeking k f count b from count
+  unfolding any
+  seek-begins h =
+      let m : length (slotsOf count b) ≤ count = omega (arith, length-slotsOf count b) in
+      record { reached = h; inside = omega arith; none-later = rw (drop-of-length-le (slotsOf count b) m) }
 
-  module _ (i : ℕ) (g : Seeking k f count b from i) where
-    seek-rest : i < count → drop i (slotsOf count b) ≡ decodeSlot (slotAt b i) ∷ drop (i + 1) (slotsOf count b)
-    seek-rest l =
-        let m : i < length (slotsOf count b) = rw length-slotsOf l in
-        rw (drop-cons (slotsOf count b) i none m, slotsOf-at count b i l, add-one)
+  module _ (i : ℕ) (g : Seeking k f count b from i) (l : from < i) where
+    seek-rest : drop (i - 1) (slotsOf count b) ≡ decodeSlot (slotAt b (i - 1)) ∷ drop i (slotsOf count b)
+    seek-rest =
+        let n : i - 1 < count = omega (arith, g .inside) in
+        let m : i - 1 < length (slotsOf count b) = omega (arith, length-slotsOf count b) in
+        let s : suc (i - 1) ≡ i = omega arith in
+        drop-cons (slotsOf count b) (i - 1) none m ∙ rw (slotsOf-at count b (i - 1) n, s)
 
-    pub seek-finds : i < count → holds k f (decodeSlot (slotAt b i)) ≡ true → any (holds k f) (drop from (slotsOf count b)) ≡ true
+    pub seek-finds : holds k f (decodeSlot (slotAt b (i - 1))) ≡ true → any (holds k f) (drop from (slotsOf count b)) ≡ true
     unfolding any
-    seek-finds l h = rw (g .rest, seek-rest l, h)
+    seek-finds h =
+        let e : from + (i - 1 - from) ≡ i - 1 = omega arith in
+        any-drop (holds k f) (i - 1 - from) (drop from (slotsOf count b)) (rw (drop-drop (i - 1 - from) from (slotsOf count b), e, seek-rest, h))
 
-    pub seek-goes-on : i < count → holds k f (decodeSlot (slotAt b i)) ≡ false → Seeking k f count b from (i + 1)
+    pub seek-goes-on : holds k f (decodeSlot (slotAt b (i - 1))) ≡ false → Seeking k f count b from (i - 1)
     unfolding any
-    seek-goes-on l h = record { inside = omega arith; rest = rw (g .rest, seek-rest l, h) }
+    seek-goes-on h = record { reached = omega arith; inside = omega (arith, g .inside); none-later = rw (seek-rest, h) (g .none-later) }
 
-    pub seek-ends : count ≤ i → any (holds k f) (drop from (slotsOf count b)) ≡ false
-    unfolding any
-    seek-ends h =
-        let m : length (slotsOf count b) ≤ i = rw length-slotsOf h in
-        rw (g .rest, drop-of-length-le (slotsOf count b) m)
+  pub seek-ends : (i : ℕ) → Seeking k f count b from i → i ≤ from → any (holds k f) (drop from (slotsOf count b)) ≡ false
+  seek-ends i g h = let e : i ≡ from = omega (arith, g .reached) in rw e at (g .none-later)
 
 -- ---- the size
 
@@ -202,6 +212,6 @@ module _ (b : List ℕ) where
       slots-inside = rw e (omega (arith, count-fits (length b) nonzero))
 
       -- bytes of a store's size are one if header and slots are well formed and no two slots have the same name
-      pub size-right : Bytes b → wellFormed b ≡ every (headerTests b) && (all slotWell (slotsIn n (drop headerSize b)) && distinct (slotsOf n b))
-      unfolding slotBytes slotCount decode slotsOf
+      pub size-right : Bytes b → wellFormed b ≡ every (headerTests b) && slotsGood n b
+      unfolding slotBytes slotCount decode slotsOf slotsGood
       size-right y = rw (parts, y, counted (length b) nonzero, e, count-is (length b) nonzero)

@@ -14,7 +14,7 @@ use Rattle.store.specs.declared.Expiry.the-variants.{At}
 use Rattle.store.specs.declared.Found.{Found}
 use Rattle.store.specs.declared.Found.the-variants as founds
 use Rattle.store.specs.Layout.{headerSize, slotSize, stateAt, keyLengthAt, keyAt, keyMost, fieldAt, fieldMost, emptyState, versionSize, expirySize}
-use Rattle.store.specs.Store.{Entry, blank, withVersion, withExpiry, Slot, Store, withSlots, decodeSlot, slotsIn, decode, slotsWithin, slotCount, slotWell, sizeTests, wellFormed, instantOf, holds, clash, stateOf}
+use Rattle.store.specs.Store.{Entry, blank, withVersion, withExpiry, Slot, Store, withSlots, decodeSlot, slotsIn, decode, slotsWithin, slotCount, slotWell, sizeTests, wellFormed, instantOf, holds, clash, distinct, stateOf}
 use Rattle.store.specs.Valid.{Short, Fits}
 use Rattle.store.specs.Time.{lowestSlot, emptySlot}
 
@@ -48,11 +48,15 @@ slotAt b i = part (headerSize + slotSize * i) slotSize b
 unfoldable pub slotsOf : ℕ → List ℕ → List Slot
 slotsOf count b = map decodeSlot (slotsIn count (drop headerSize b))
 
--- bytes with well-formed slots
-pub record SlotsWell (count : ℕ) (b : List ℕ) : Type 0 where
+-- bytes with well-formed slots from a slot on
+pub record SlotsWell (count : ℕ) (b : List ℕ) (from : ℕ) : Type 0 where
   pub size : headerSize + slotSize * count ≤ length b
   pub bytes : Bytes b
-  pub well : all slotWell (slotsIn count (drop headerSize b)) ≡ true
+  pub well : (j : ℕ) → from ≤ j → j < count → slotWell (slotAt b j) ≡ true
+
+-- every slot is well formed, and no two have the same name
+unfoldable pub slotsGood : ℕ → List ℕ → Bool
+slotsGood count b = all slotWell (slotsIn count (drop headerSize b)) && distinct (slotsOf count b)
 
 -- a word rotated to the left by k bits
 unfoldable pub rotated : ℕ → ℕ → ℕ
@@ -68,9 +72,9 @@ fieldWord f =
     (bitXor (fromLE (part 0 8 f)) (rotated 4 (fromLE (part 8 8 f))))
     (bitXor (rotated 2 (fromLE (part 16 8 f))) (rotated 6 (fromLE (part 24 8 f))))
 
--- two words as one number: the sum of their halves, each times its factor, with what is high in it brought down
+-- two words as one number below 2 ^ 32: the sum of their halves, each times its factor, with what is high in it brought down
 unfoldable pub halvesSum : ℕ → ℕ → ℕ
-halvesSum x y = x % 2 ^ 32 * 0x1e3779b1 + x / 2 ^ 32 * 0x2545f491 + (y % 2 ^ 32 * 0x3c6ef373 + y / 2 ^ 32 * 0x3f1bbcdd)
+halvesSum x y = x % 2 ^ 32 * 0x21db208f + x / 2 ^ 32 * 0x3d1c4bb3 + (y % 2 ^ 32 * 0x303ce9df + y / 2 ^ 32 * 0x26deceb9)
 
 unfoldable pub spreadOf : ℕ → ℕ → ℕ
 spreadOf x y = bitXor (halvesSum x y) (halvesSum x y / 2 ^ 31) % 2 ^ 32
@@ -79,45 +83,36 @@ spreadOf x y = bitXor (halvesSum x y) (halvesSum x y / 2 ^ 31) % 2 ^ 32
 unfoldable pub nameHash : List ℕ → ℕ
 nameHash t = spreadOf (keyWord (part keyAt keyMost t)) (fieldWord (part fieldAt fieldMost t))
 
--- The names seen are kept in a Bloom filter: the hash of each sets two bits.
-abbrev pub filterWords : ℕ
-filterWords = 512
+-- The names seen are kept in a Bloom filter: the hash of each sets two bits of one of its words.
+pub record FilterSize (m : List ℕ) : Type 0 where
+  pub least : 1 ≤ length m
+  pub most : length m ≤ 512
 
--- bit a is set where setting it changes nothing
-unfoldable pub hasBit : ℕ → List ℕ → Bool
-hasBit a m = eqb (bitOr (getD m (a / 64) 0) (2 ^ (a % 64))) (getD m (a / 64) 0)
+unfoldable pub wordOf : ℕ → List ℕ → ℕ
+wordOf name m = name * length m / 2 ^ 32
 
-unfoldable pub withBit : ℕ → List ℕ → List ℕ
-withBit a m = set m (a / 64) (bitOr (getD m (a / 64) 0) (2 ^ (a % 64)))
+unfoldable pub bitsOf : ℕ → ℕ
+bitsOf name = bitOr (2 ^ (name % 64)) (2 ^ (name / 64 % 64))
 
-unfoldable pub firstBit : ℕ → ℕ
-firstBit name = name / 2 ^ 17 % 32768
-
-unfoldable pub secondBit : ℕ → ℕ
-secondBit name = name % 32768
-
+-- a name's bits are set where setting them changes nothing
 unfoldable pub mayContain : ℕ → List ℕ → Bool
-mayContain name m = hasBit (firstBit name) m && hasBit (secondBit name) (withBit (firstBit name) m)
+mayContain name m = eqb (bitOr (getD m (wordOf name m) 0) (bitsOf name)) (getD m (wordOf name m) 0)
 
 unfoldable pub withName : ℕ → List ℕ → List ℕ
-withName name m = withBit (secondBit name) (withBit (firstBit name) m)
+withName name m = set m (wordOf name m) (bitOr (getD m (wordOf name m) 0) (bitsOf name))
 
 -- the filter with a slot's name
 unfoldable pub withSlotName : List ℕ → List ℕ → List ℕ
 withSlotName t m = cond (eqb (getD t stateAt 0) emptyState) m (withName (nameHash t) m)
 
-pub record HasBits (name : ℕ) (m : List ℕ) : Type 0 where
-  pub first : hasBit (firstBit name) m ≡ true
-  pub second : hasBit (secondBit name) m ≡ true
-
 -- the name of every slot from slot i on that holds an entry is in the filter
 pub record Covered (count : ℕ) (b : List ℕ) (i : ℕ) (m : List ℕ) : Type 0 where
-  pub size : length m ≡ filterWords
-  pub names : (j : ℕ) → i ≤ j → j < count → (getD (slotAt b j) stateAt 0 ≡ emptyState → ⊥) → HasBits (nameHash (slotAt b j)) m
+  pub size : FilterSize m
+  pub names : (j : ℕ) → i ≤ j → j < count → (getD (slotAt b j) stateAt 0 ≡ emptyState → ⊥) → mayContain (nameHash (slotAt b j)) m ≡ true
 
--- slot i is to be looked at, with the filter of the names after it
+-- slot i, which is well formed as those after it are, is to be looked at, with the filter of the names after it
 pub record Turn (count : ℕ) (b : List ℕ) (i : ℕ) (m : List ℕ) : Type 0 where
-  pub slots : SlotsWell count b
+  pub slots : SlotsWell count b i
   pub inside : i < count
   pub covered : Covered count b (i + 1) m
 

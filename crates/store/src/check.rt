@@ -1,5 +1,5 @@
 // Which bytes are a store. This is the cost of every call, so each byte is looked at about once.
-use crate::duplicates::all_distinct;
+use crate::duplicates::repeats;
 use crate::layout::CLOCK_SIZE;
 use crate::layout::EMPTY_STATE;
 use crate::layout::EXPIRING_STATE;
@@ -27,11 +27,16 @@ use wire::bytes::read_le;
 ghost use mathlib.Core.Path.{_≡_};
 ghost use mathlib.Core.Bool.{true};
 ghost use Prim.Native.Nat.{_+_, _*_, _≤_};
-ghost use lib.ListN.{length, drop};
-ghost use Rattle.wire.specs.Lists.{every, all};
+ghost use lib.ListN.{length};
+ghost use Rattle.wire.specs.Lists.{every};
 ghost use Rattle.store.specs.Layout.{headerSize, slotSize};
-ghost use Rattle.store.specs.Store.{slotsIn, slotWell, wellFormed, headerTests, lengthTests, expiryTests, placeTests};
-ghost use Rattle.store.specs.Promises.{countFor};
+ghost use Rattle.store.specs.Store.{slotWell, wellFormed, headerTests, lengthTests, expiryTests, placeTests};
+ghost use Rattle.store.specs.Promises.{countFor, FilterSize, slotsGood};
+
+// The words of the filter of names, about one a slot: a small store clears a small one.
+const FEW_WORDS: usize = 128;
+
+const MANY_WORDS: usize = 512;
 
 // How many slots the bytes have, or 0 where their length is not a store's.
 fn slot_count(size: usize) -> usize
@@ -75,16 +80,19 @@ fn lengths_well(t: &[u8]) -> bool
     t[VALUE_LENGTH_AT] as usize <= VALUE_MOST
 }
 
-// Whether a held slot's expiry is well formed. Where it has none the instant is zero.
+// Whether a held slot's expiry is well formed. Where it has none the instant is zero, and zero is looked for first: few slots expire.
 fn expiry_well(t: &[u8]) -> bool
     requires { ⌜ length (now t) ≡ slotSize ⌝ }
     ensures { λ r. ⌜ r ≡ every (expiryTests (now (t .entry))) ⌝ }
 {
     let instant = read_le(&t[EXPIRY_AT..KEY_AT]);
-    if t[STATE_AT] == EXPIRING_STATE {
-        return instant <= TIME_LIMIT;
+    if instant == 0 {
+        return true;
     }
-    instant == 0
+    if t[STATE_AT] != EXPIRING_STATE {
+        return false;
+    }
+    instant <= TIME_LIMIT
 }
 
 // Whether a held slot's places are zero beyond their lengths.
@@ -116,19 +124,41 @@ fn slot_well(t: &[u8]) -> bool
     expiry_well(t) && places_well(t)
 }
 
-// Whether every slot is well formed.
-fn slots_well(store: &[u8], count: usize) -> bool
+// Whether every slot is well formed and no two hold entries of the same key and field, looked at from the last to the first: each slot once, its
+// rules and then its name, which is kept in the filter.
+fn slots_well(store: &[u8], count: usize, filter: &mut [u64]) -> bool
     requires { ⌜ headerSize + slotSize * count ≤ length (now store) ⌝ }
-    ensures { λ r. ⌜ r ≡ all slotWell (slotsIn count (drop headerSize (now (store .entry)))) ⌝ }
+    requires { ⌜ FilterSize (now filter) ⌝ }
+    ensures { λ r. ⌜ r ≡ slotsGood count (now (store .entry)) ⌝ }
 {
-    let mut i = 0;
-    while i < count {
+    let mut i = count;
+    while 0 < i {
+        i -= 1;
         if !slot_well(slot::bytes(store, i)) {
             return false;
         }
-        i += 1;
+        if repeats(store, count, i, filter) {
+            return false;
+        }
     }
     true
+}
+
+// The same with a filter for few slots, and for as many as there may be.
+fn few_well(store: &[u8], count: usize) -> bool
+    requires { ⌜ headerSize + slotSize * count ≤ length (now store) ⌝ }
+    ensures { λ r. ⌜ r ≡ slotsGood count (now (store .entry)) ⌝ }
+{
+    let mut filter = [0u64; FEW_WORDS];
+    slots_well(store, count, &mut filter)
+}
+
+fn many_well(store: &[u8], count: usize) -> bool
+    requires { ⌜ headerSize + slotSize * count ≤ length (now store) ⌝ }
+    ensures { λ r. ⌜ r ≡ slotsGood count (now (store .entry)) ⌝ }
+{
+    let mut filter = [0u64; MANY_WORDS];
+    slots_well(store, count, &mut filter)
 }
 
 // Whether bytes are a well-formed store.
@@ -142,5 +172,8 @@ pub fn well_formed(store: &[u8]) -> bool
     if !header_well(store) {
         return false;
     }
-    slots_well(store, count) && all_distinct(store, count)
+    if count <= FEW_WORDS {
+        return few_well(store, count);
+    }
+    many_well(store, count)
 }

@@ -5,33 +5,28 @@ use crate::layout::VALUE_AT;
 use crate::slot;
 use crate::slot::word;
 ghost use mathlib.Core.Path.{_≡_};
-ghost use Prim.Native.Nat.{_/_, _≤_, _<_};
+ghost use Prim.Native.Nat.{_^_, _≤_, _<_};
 ghost use lib.ListN.{length, drop};
 ghost use Rattle.wire.specs.Lists.{any};
 ghost use Rattle.store.specs.Layout.{slotSize, keyMost, fieldMost};
-ghost use Rattle.store.specs.Store.{holds, distinct};
-ghost use Rattle.store.specs.Promises.{slotsOf, SlotsWell, rotated, keyWord, fieldWord, spreadOf, nameHash, filterWords, hasBit, withBit, mayContain, withName, Turn, Turned};
+ghost use Rattle.store.specs.Store.{holds};
+ghost use Rattle.store.specs.Promises.{slotsOf, SlotsWell, rotated, keyWord, fieldWord, spreadOf, nameHash, FilterSize, mayContain, withName, Turn, Turned};
 
 // The halves of a word are below it.
 const HALF: u64 = 0x1_0000_0000;
 
-// The Bloom filter of the names seen: its words of 64 bits, and its bits.
-const FILTER_WORDS: usize = 512;
-
-const FILTER_BITS: u64 = 32768;
-
-// Whether a slot from a slot on holds an entry of a key and a field.
+// Whether a slot from a slot on holds an entry of a key and a field, looked at from the last.
 fn named_from(store: &[u8], count: usize, from: usize, key: &[u8], field: &[u8]) -> bool
-    requires { ⌜ SlotsWell count (now store) ⌝ }
+    requires { ⌜ SlotsWell count (now store) from ⌝ }
     requires { ⌜ from ≤ count ⌝ }
     ensures { λ r. ⌜ r ≡ any (holds (now (key .entry)) (now (field .entry))) (drop from (slotsOf count (now (store .entry)))) ⌝ }
 {
-    let mut i = from;
-    while i < count {
+    let mut i = count;
+    while from < i {
+        i -= 1;
         if slot::holds(slot::bytes(store, i), key, field) {
             return true;
         }
-        i += 1;
     }
     false
 }
@@ -63,12 +58,12 @@ fn field_word(field: &[u8]) -> u64
     low ^ high
 }
 
-// Two words as one number: their halves, each times an odd factor, and what is high in the sum brought down.
+// Two words as one number below a half's bound: their halves, each times an odd factor, and what is high in the sum brought down.
 fn spread(x: u64, y: u64) -> u64
     ensures { λ r. ⌜ r ≡ spreadOf x y ⌝ }
 {
-    let a = x % HALF * 0x1e37_79b1 + x / HALF * 0x2545_f491;
-    let b = y % HALF * 0x3c6e_f373 + y / HALF * 0x3f1b_bcdd;
+    let a = x % HALF * 0x21db_208f + x / HALF * 0x3d1c_4bb3;
+    let b = y % HALF * 0x303c_e9df + y / HALF * 0x26de_ceb9;
     let h = a + b;
     (h ^ h / 0x8000_0000) % HALF
 }
@@ -84,33 +79,24 @@ fn name_hash(t: &[u8]) -> u64
     )
 }
 
-// Sets a bit of the filter, and answers whether it was set before.
-fn set_bit(filter: &mut [u64], a: usize) -> bool
-    requires { ⌜ a / 64 < length (now filter) ⌝ }
-    ensures { λ r. ⌜ r ≡ hasBit a (now (filter .entry)) ⌝ }
-    ensures { λ _. ⌜ now (filter .exit) ≡ withBit a (now (filter .entry)) ⌝ }
+// Inserts a name by two bits of one word, and answers whether both were set before.
+fn insert(filter: &mut [u64], name: u64) -> bool
+    requires { ⌜ FilterSize (now filter) ⌝ }
+    requires { ⌜ name < 2 ^ 32 ⌝ }
+    ensures { λ r. ⌜ r ≡ mayContain name (now (filter .entry)) ⌝ }
+    ensures { λ _. ⌜ now (filter .exit) ≡ withName name (now (filter .entry)) ⌝ }
 {
-    let i = a / 64;
+    let i = (name * filter.len() as u64 / HALF) as usize;
+    let bits = 1 << (name % 64) | 1 << (name / 64 % 64);
     let old = filter[i];
-    let new = old | 1 << (a % 64);
+    let new = old | bits;
     filter[i] = new;
     new == old
 }
 
-// Inserts a name by its two bits, and answers whether both were set before.
-fn insert(filter: &mut [u64], name: u64) -> bool
-    requires { ⌜ length (now filter) ≡ filterWords ⌝ }
-    ensures { λ r. ⌜ r ≡ mayContain name (now (filter .entry)) ⌝ }
-    ensures { λ _. ⌜ now (filter .exit) ≡ withName name (now (filter .entry)) ⌝ }
-{
-    let first = set_bit(filter, (name / 0x2_0000 % FILTER_BITS) as usize);
-    let second = set_bit(filter, (name % FILTER_BITS) as usize);
-    first & second
-}
-
 // Whether a slot after slot i holds an entry of its key and field. They are searched only where both bits of its name were set before; both are
 // set afterwards.
-fn repeats(store: &[u8], count: usize, i: usize, filter: &mut [u64]) -> bool
+pub fn repeats(store: &[u8], count: usize, i: usize, filter: &mut [u64]) -> bool
     requires { ⌜ Turn count (now store) i (now filter) ⌝ }
     ensures { λ r. ⌜ Turned count (now (store .entry)) i (now (filter .entry)) (now (filter .exit)) r ⌝ }
 {
@@ -122,20 +108,4 @@ fn repeats(store: &[u8], count: usize, i: usize, filter: &mut [u64]) -> bool
         return false;
     }
     named_from(store, count, i + 1, slot::key(t), slot::field(t))
-}
-
-// Whether no two slots hold entries of the same key and field, looked at from the last to the first.
-pub fn all_distinct(store: &[u8], count: usize) -> bool
-    requires { ⌜ SlotsWell count (now store) ⌝ }
-    ensures { λ r. ⌜ r ≡ distinct (slotsOf count (now (store .entry))) ⌝ }
-{
-    let mut filter = [0u64; FILTER_WORDS];
-    let mut i = count;
-    while 0 < i {
-        i -= 1;
-        if repeats(store, count, i, &mut filter) {
-            return false;
-        }
-    }
-    true
 }

@@ -110,10 +110,12 @@ pub fn count_held(store: &[u8], key: &[u8]) -> usize
     ensures { λ r. ⌜ r ≡ length (keep (ofKey (now (key .entry))) (decode (now (store .entry)) .slots)) ⌝ }
 {
     let count = slots(store);
+    let low = slot::word_padded(key, 0);
+    let high = slot::word_padded(key, slot::WORD);
     let mut n = 0;
     let mut i = 0;
     while i < count {
-        if slot::of_key(slot::bytes(store, i), key) {
+        if slot::of_key_with(slot::bytes(store, i), low, high, key) {
             n += 1;
         }
         i += 1;
@@ -127,10 +129,12 @@ pub fn count_live(store: &[u8], key: &[u8], time: u64) -> usize
     ensures { λ r. ⌜ r ≡ length (keep (liveOfKey time (now (key .entry))) (decode (now (store .entry)) .slots)) ⌝ }
 {
     let count = slots(store);
+    let low = slot::word_padded(key, 0);
+    let high = slot::word_padded(key, slot::WORD);
     let mut n = 0;
     let mut i = 0;
     while i < count {
-        if slot::is_live_of(slot::bytes(store, i), key, time) {
+        if slot::is_live_with(slot::bytes(store, i), low, high, key, time) {
             n += 1;
         }
         i += 1;

@@ -52,8 +52,8 @@ pub fn padding_of_16(t: &[u8], at: usize, used: usize) -> u64
     requires { ⌜ used ≤ 16 ⌝ }
     ensures { λ r. ⌜ eqb r 0 ≡ zeroBeyond at 16 used (now (t .entry)) ⌝ }
 {
-    if used < 8 {
-        let low = padding_of_8(t, at, used);
+    if used <= 8 {
+        let low = word(t, at + used);
         let high = word(t, at + 8);
         return low | high;
     }
@@ -66,6 +66,11 @@ pub fn padding_of_32(t: &[u8], at: usize, used: usize) -> u64
     requires { ⌜ used ≤ 32 ⌝ }
     ensures { λ r. ⌜ eqb r 0 ≡ zeroBeyond at 32 used (now (t .entry)) ⌝ }
 {
+    if used <= 8 {
+        let low = padding_of_16(t, at, used);
+        let high = bits_of_16(t, at + 16);
+        return low | high;
+    }
     if used < 16 {
         let low = padding_of_16(t, at, used);
         let high = bits_of_16(t, at + 16);
@@ -80,6 +85,12 @@ pub fn padding_of_64(t: &[u8], at: usize, used: usize) -> u64
     requires { ⌜ used ≤ 64 ⌝ }
     ensures { λ r. ⌜ eqb r 0 ≡ zeroBeyond at 64 used (now (t .entry)) ⌝ }
 {
+    if used <= 8 {
+        let low = padding_of_16(t, at, used);
+        let middle = bits_of_16(t, at + 16);
+        let high = bits_of_32(t, at + 32);
+        return low | middle | high;
+    }
     if used < 32 {
         let low = padding_of_32(t, at, used);
         let high = bits_of_32(t, at + 32);

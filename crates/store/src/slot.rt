@@ -143,6 +143,37 @@ pub fn is_live_of(t: &[u8], k: &[u8], time: u64) -> bool
     false
 }
 
+// The same as `of_key`, by the key's two words and its length.
+pub fn of_key_with(t: &[u8], low: u64, high: u64, k: &[u8]) -> bool
+    requires { ⌜ SlotBytes (now t) ⌝ }
+    requires { ⌜ (low ≡ fromLE (part 0 8 (now k))) × (high ≡ fromLE (part 8 8 (now k))) ⌝ }
+    ensures { λ r. ⌜ r ≡ ofKey (now (k .entry)) (decodeSlot (now (t .entry))) ⌝ }
+{
+    if t[STATE_AT] == EMPTY_STATE {
+        return false;
+    }
+    if t[KEY_LENGTH_AT] as usize != k.len() {
+        return false;
+    }
+    let key = &t[KEY_AT..FIELD_AT];
+    if word(key, 0) != low {
+        return false;
+    }
+    word(key, WORD) == high
+}
+
+// The same as `is_live_of`, by the key's two words and its length.
+pub fn is_live_with(t: &[u8], low: u64, high: u64, k: &[u8], time: u64) -> bool
+    requires { ⌜ SlotBytes (now t) ⌝ }
+    requires { ⌜ (low ≡ fromLE (part 0 8 (now k))) × (high ≡ fromLE (part 8 8 (now k))) ⌝ }
+    ensures { λ r. ⌜ r ≡ liveOfKey time (now (k .entry)) (decodeSlot (now (t .entry))) ⌝ }
+{
+    if is_live(t, time) {
+        return of_key_with(t, low, high, k);
+    }
+    false
+}
+
 // Whether the slot holds the entry of a key and a field. The field is compared first: it is what differs.
 pub fn holds(t: &[u8], k: &[u8], f: &[u8]) -> bool
     requires { ⌜ SlotBytes (now t) ⌝ }
@@ -155,7 +186,7 @@ pub fn holds(t: &[u8], k: &[u8], f: &[u8]) -> bool
 }
 
 // The number that a word spells, where the bytes past the end count as zero.
-fn word_padded(s: &[u8], at: usize) -> u64
+pub fn word_padded(s: &[u8], at: usize) -> u64
     ensures { λ r. ⌜ r ≡ fromLE (part at 8 (now (s .entry))) ⌝ }
 {
     let size = s.len();

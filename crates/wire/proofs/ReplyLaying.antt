@@ -5,13 +5,14 @@ use Prim.Native.Nat.{ℕ, suc, _+_, _-_, _*_, _/_, _%_, _≤_, _<_}
 use native.Mathlib.Numerals.{add-one}
 use native.Mathlib.Omega.{arith}
 use lib.ListN.{length, take, drop, getD, set, length-append, length-take, length-drop, length-set, drop-of-length-le}
-use lib.Seq.{take-append-seam, drop-append-seam, take-all, take-suc, drop-cons, drop-drop, set-at, length-take-le}
+use lib.Seq.{take-append-seam, drop-append-seam, take-append-le, drop-append-add, take-take, take-add, take-all, take-suc, drop-cons, drop-drop, set-at, length-take-le}
 use borrow.Rule.Slice.PartMut.{putMid}
 use Rattle.wire.specs.Integers.{naturalText}
-use Rattle.wire.specs.Bytes.{text}
+use Rattle.wire.specs.Bytes.{Bytes, fromLE, toLE, part, text}
 use Rattle.wire.specs.Words.{crlf}
 use Rattle.wire.specs.Replies.{laidOver, bulk}
-use Rattle.wire.specs.Promises.{Laid}
+use Rattle.wire.specs.Promises.{laidAt, Laid}
+use Rattle.wire.proofs.ByteLaws.{bytes-take, bytes-drop, toLE-fromLE}
 use Rattle.wire.proofs.IntegerDigits.{text-snoc, text-digit}
 
 -- ---- a list that is laid
@@ -74,6 +75,51 @@ fill-ends y s i t f h = rw (← (take-all i y h)) (f .bytes)
 -- A list as long as the buffer is all of it in the end.
 pub fill-whole : (y s : List ℕ) (i : ℕ) (t : List ℕ) → Filling y s i t → length y ≡ length s → length t ≤ i → t ≡ y
 fill-whole y s i t f e h = fill-ends y s i t f (omega (arith, f .size)) ∙ laid-whole y s (omega arith)
+
+-- A part of y at a place that what was laid reaches is laid there: y is laid up to the part's end.
+pub fill-part : (y s : List ℕ) (i j n : ℕ) (t : List ℕ) → Filling y s i t → j ≤ i → i ≤ j + n → j + n ≤ length y → Filling y s (j + n) (laidAt j (part j n y) t)
+unfolding laidAt laidOver part
+fill-part y s i j n t f l m w =
+    let size : length (take n (drop j y)) ≡ n = rw (length-take, length-drop) (omega arith) in
+    let upTo : length (take i y) ≡ i = length-take-le i y (f .inside) in
+    let whole : length (take (j + n) y) ≡ j + n = length-take-le (j + n) y w in
+    let front : take j t ≡ take j y = rw (f .bytes, take-append-le j (take i y) (drop (length (take i y)) s) (omega arith), take-take j i y l) in
+    let e : j + n ≡ length (take i y) + (j + n - i) = omega (arith, upTo) in
+    let back : drop (j + n) t ≡ drop (j + n) s = rw (f .bytes, e, drop-append-add (take i y) (drop (length (take i y)) s) (j + n - i), drop-drop) in
+    let bytes : take j t ++ (take n (drop j y) ++ drop (j + length (take n (drop j y))) t) ≡ take (j + n) y ++ drop (length (take (j + n) y)) s
+    = rw (size, front, back, whole, take-add j n y, append-assoc) in
+    record {
+      inside = w;
+      room = f .room;
+      size = ap length bytes ∙ length-laid (take (j + n) y) s (omega (arith, f .room));
+      bytes = bytes;
+    }
+
+-- The part of n elements that ends with y is the last.
+module _ (y s : List ℕ) (i n : ℕ) (t : List ℕ) (f : Filling y s i t) (l : n ≤ length y) (m : length y - n ≤ i) where
+  filled : Filling y s (length y) (laidAt (length y - n) (part (length y - n) n y) t)
+  filled =
+      let e : length y - n + n ≡ length y = omega arith in
+      rw e at (fill-part y s i (length y - n) n t f m (omega (arith, f .inside)) (omega arith))
+
+  pub fill-last : laidAt (length y - n) (part (length y - n) n y) t ≡ laidOver y s
+  fill-last = fill-ends y s (length y) (laidAt (length y - n) (part (length y - n) n y) t) filled (omega arith)
+
+  pub fill-last-size : length (laidAt (length y - n) (part (length y - n) n y) t) ≡ length s
+  fill-last-size = filled .size
+
+-- A word read at a place and written at the same place is laid there.
+pub word-laid : (at : ℕ) (y t u : List ℕ) (x : ℕ) → Bytes y → at + 8 ≤ length y → at + 8 ≤ length t
+    → x ≡ fromLE (take (at + 8 - at) (drop at y)) → u ≡ toLE (length (take (at + 8 - at) (drop at t))) x
+    → putMid at (at + 8 - at) t u ≡ laidAt at (part at 8 y) t
+unfolding laidAt part
+word-laid at y t u x b l m e f =
+    let k : at + 8 - at ≡ 8 = omega arith in
+    let n : length (take 8 (drop at t)) ≡ 8 = rw (length-take, length-drop) (omega arith) in
+    let p : length (take 8 (drop at y)) ≡ 8 = rw (length-take, length-drop) (omega arith) in
+    let w : toLE 8 (fromLE (take 8 (drop at y))) ≡ take 8 (drop at y)
+    = ap (λ (v : ℕ). toLE v (fromLE (take 8 (drop at y)))) (sym p) ∙ toLE-fromLE (take 8 (drop at y)) (bytes-take 8 (drop at y) (bytes-drop at y b)) in
+    rw (f, e, k, n, w, p, drop-drop)
 
 -- ---- one piece after the other
 
@@ -183,3 +229,11 @@ laid-last n big room l = rw (text-last n big) (laid-more (48 + n % 10) l (omega 
 -- There is room for the last digit.
 pub laid-room : (n : ℕ) {d e : List ℕ} {r : ℕ} → 10 ≤ n → length (naturalText n) ≤ length d → Laid (naturalText (n / 10)) d e r → r < length d
 laid-room n big room l = omega (arith, length-last n big, l .size)
+
+-- Two digits are laid at once.
+module _ (n : ℕ) (d : List ℕ) (big : 10 ≤ n) (small : n < 100) (room : length (naturalText n) ≤ length d) where
+  pub two-room : 2 ≤ length d
+  two-room = omega (arith, length-last n big, ap length (text-digit (n / 10) (omega arith)))
+
+  pub laid-two : Laid (naturalText n) d (set (set d 0 (48 + n / 10)) 1 (48 + n % 10)) 2
+  laid-two = laid-last n big room (laid-digit (n / 10) d (omega arith) (omega (arith, length-last n big)))

@@ -6,7 +6,7 @@ use mathlib.Core.Option.{Option, none, some}
 use Prim.Native.Nat.{ℕ, zero, suc, _+_, _-_, _*_, _/_, _≤_, _<_}
 use lib.Dec.{ltb, eqb}
 use lib.IntN.{ℤ, pos, negsuc, negℤ}
-use lib.ListN.{length, take, getD}
+use lib.ListN.{length, take, drop, getD}
 use Rattle.wire.specs.declared.integers.Natural.{Natural}
 use Rattle.wire.specs.declared.integers.Natural.the-variants as naturals
 use Rattle.wire.specs.declared.integers.Integer.{Integer}
@@ -137,6 +137,10 @@ pub record Table (table : List ℕ) : Type 0 where
   pub short : (i : ℕ) → getD table (rowSize * i) 0 < nameSize
 
 -- ---- replies
+
+-- x laid over a buffer at a place
+unfoldable pub laidAt : ℕ → List ℕ → List ℕ → List ℕ
+laidAt at x buffer = take at buffer ++ (x ++ drop (at + length x) buffer)
 
 -- a writer laid x at the start of a buffer, left the bytes beyond as they were, and answered how many bytes that was
 pub record Laid (x before after : List ℕ) (r : ℕ) : Type 0 where

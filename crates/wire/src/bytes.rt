@@ -1,9 +1,10 @@
 // Bytes: numbers low byte first, and slices compared, copied and cleared.
 ghost use mathlib.Core.Path.{_≡_};
-ghost use Prim.Native.Nat.{_≤_};
+ghost use Prim.Native.Nat.{_+_, _≤_};
 ghost use lib.ListN.{length, replicate};
-ghost use Rattle.wire.specs.Bytes.{fromLE, toLE, same, allZero};
+ghost use Rattle.wire.specs.Bytes.{fromLE, toLE, part, same, allZero};
 ghost use Rattle.wire.specs.Replies.{laidOver};
+ghost use Rattle.wire.specs.Promises.{laidAt};
 
 // The number that a slice spells.
 pub fn read_le(s: &[u8]) -> u64
@@ -62,8 +63,11 @@ pub fn all_zero(s: &[u8]) -> bool
     bits == 0
 }
 
-// Copies all of `from` to the start of `to`; the bytes beyond keep their contents.
-pub fn copy(from: &[u8], to: &mut [u8])
+// The bytes of a word.
+const WORD: usize = 8;
+
+// Copies bytes one by one.
+fn copy_bytes(from: &[u8], to: &mut [u8])
     requires { ⌜ length (now from) ≤ length (now to) ⌝ }
     ensures { λ _. ⌜ now (to .exit) ≡ laidOver (now (from .entry)) (now (to .entry)) ⌝ }
 {
@@ -72,6 +76,35 @@ pub fn copy(from: &[u8], to: &mut [u8])
         to[i] = from[i];
         i += 1;
     }
+}
+
+// Copies the word at a place to the same place.
+fn copy_word(from: &[u8], at: usize, to: &mut [u8])
+    requires { ⌜ (at + 8 ≤ length (now from)) × (at + 8 ≤ length (now to)) ⌝ }
+    ensures { λ _. ⌜ now (to .exit) ≡ laidAt at (part at 8 (now (from .entry))) (now (to .entry)) ⌝ }
+{
+    let end = at + WORD;
+    write_le(&mut to[at..end], read_le(&from[at..end]));
+}
+
+// Copies all of `from` to the start of `to`; the bytes beyond keep their contents. A word or more goes by words, of which the last is the one that
+// ends with `from`, whatever of it was copied before.
+pub fn copy(from: &[u8], to: &mut [u8])
+    requires { ⌜ length (now from) ≤ length (now to) ⌝ }
+    ensures { λ _. ⌜ now (to .exit) ≡ laidOver (now (from .entry)) (now (to .entry)) ⌝ }
+{
+    let size = from.len();
+    if size < WORD {
+        copy_bytes(from, to);
+        return;
+    }
+    let last = size - WORD;
+    let mut i = 0;
+    while i < last {
+        copy_word(from, i, to);
+        i += WORD;
+    }
+    copy_word(from, last, to);
 }
 
 // Fills a slice with zero.

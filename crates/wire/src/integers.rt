@@ -89,7 +89,21 @@ pub fn read_integer(s: &[u8]) -> Integer
     }
 }
 
-// Writes a number's text at the start of `out`, and answers its length.
+// Writes a number's text, its digits before the last one first.
+fn write_digits(n: u64, out: &mut [u8]) -> usize
+    requires { ⌜ length (naturalText n) ≤ length (now out) ⌝ }
+    ensures { λ r. ⌜ Laid (naturalText n) (now (out .entry)) (now (out .exit)) r ⌝ }
+{
+    if n < 10 {
+        out[0] = (48 + n) as u8;
+        return 1;
+    }
+    let at = write_digits(n / 10, out);
+    out[at] = (48 + n % 10) as u8;
+    at + 1
+}
+
+// Writes a number's text at the start of `out`, and answers its length. One and two digits, the lengths of most words, are written at once.
 pub fn write_natural(n: u64, out: &mut [u8]) -> usize
     requires { ⌜ length (naturalText n) ≤ length (now out) ⌝ }
     ensures { λ r. ⌜ Laid (naturalText n) (now (out .entry)) (now (out .exit)) r ⌝ }
@@ -98,9 +112,12 @@ pub fn write_natural(n: u64, out: &mut [u8]) -> usize
         out[0] = (48 + n) as u8;
         return 1;
     }
-    let at = write_natural(n / 10, out);
-    out[at] = (48 + n % 10) as u8;
-    at + 1
+    if n < 100 {
+        out[0] = (48 + n / 10) as u8;
+        out[1] = (48 + n % 10) as u8;
+        return 2;
+    }
+    write_digits(n, out)
 }
 
 // Writes an integer's text at the start of `out`, and answers its length.

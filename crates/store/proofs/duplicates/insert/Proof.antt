@@ -1,11 +1,37 @@
-use Rattle.store.specs.Promises.{firstBit, secondBit, mayContain, withName}
+use denote.Ref.{now}
+use Rattle.store.proofs.BloomFilter.{place-fits, place-scaled, place-inside, name-told, name-written}
 use borrow.Author.Needs.{needs}
 use Rattle.store.proofs.duplicates.insert.Statement.{statement}
 use Rattle.store.proofs.duplicates.insert.Tie as tie
 
+mul-i : tie.Need-mul-i
+mul-i c = record { fits = place-fits (c .args .name) (now (c .args .filter)) (c .pre .1) (c .pre .0) }
+
+mul-old : tie.Need-mul-old
+mul-old c = record { fits = place-scaled (c .args .name) (now (c .args .filter)) (c .pre .1) (c .pre .0) }
+
+slice-read-old : tie.Need-slice-read-old
+slice-read-old c = place-inside (c .before .args .name) (now (c .before .args .filter)) (c .before .pre .1) (c .before .pre .0)
+
+mul-filter : tie.Need-mul-filter
+mul-filter c = record { fits = place-scaled (c .before .args .name) (now (c .before .args .filter)) (c .before .pre .1) (c .before .pre .0) }
+
+slice-write-filter : tie.Need-slice-write-filter
+slice-write-filter c = place-inside (c .before .args .name) (now (c .before .args .filter)) (c .before .pre .1) (c .before .pre .0)
+
 returns : tie.Need-returns
-unfolding firstBit secondBit mayContain withName
-returns c = let back2 = c .before .before in let set-bit2 = back2 .set-bit2 in let set-bit = back2 .before .before .before .before .set-bit in (rw (set-bit .ensures .0, set-bit2 .ensures .0, set-bit .ensures .1), rw (set-bit2 .ensures .1, set-bit .ensures .1))
+returns c = (name-told (c .before .args .name) (now (c .before .args .filter)), name-written (c .before .args .name) (now (c .before .args .filter)))
 
 pub insert-spec : {M : Type 1} → statement M
-insert-spec = tie.close (tie.spec (λ c κs. search needs) (λ c κs. search needs) (λ c. search needs) returns)
+insert-spec =
+    tie.close
+    (tie.spec
+    mul-i
+    (λ c. search needs)
+    (λ c. search needs)
+    mul-old
+    slice-read-old
+    mul-filter
+    slice-write-filter
+    (λ c. search needs)
+    returns)

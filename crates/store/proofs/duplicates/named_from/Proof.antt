@@ -10,16 +10,17 @@ abbrev Inv-loop : tie.InvT-loop
 Inv-loop store count from key field i₀ i = Seeking key field count store from i
 
 abbrev μ-loop : tie.MeasureT-loop
-μ-loop store count from key field i₀ i = count - i
+μ-loop store count from key field i₀ i = i
 
 loop-holds : tie.Need-loop-holds Inv-loop μ-loop
 loop-holds c = seek-begins _ _ _ _ _ (c .before .before .before .pre .1)
 
 bytes-requires : tie.Need-bytes-requires Inv-loop μ-loop
-bytes-requires c κs = omega (arith, c .before .before .before .before .before .pre .0 .size)
+bytes-requires c κs = omega (arith, c .before .before .before .before .before .pre .0 .size, c .before .loop .inv .inside)
 
 holds-requires : tie.Need-holds-requires Inv-loop μ-loop
-holds-requires c κs = let back2 = c .before .before in let back6 = back2 .before .before .before .before in let args = back6 .args in rw (c .bytes .ensures) (slot-bytes (args .count) (now (args .store)) (back2 .loop .i) (back6 .pre .0) (c .before .loop-test .taken))
+holds-requires c κs =
+    rw (c .bytes .ensures) (slot-bytes (c .before .before .before .before .before .before .args .count) (now (c .before .before .before .before .before .before .args .store)) (c .before .before .before .before .before .before .args .from) (c .before .before .loop .i - 1) (c .before .before .before .before .before .before .pre .0) (omega (arith, c .before .loop-test .taken)) (omega (arith, c .before .before .loop .inv .inside)))
 
 returns : tie.Need-returns Inv-loop μ-loop
 returns c = sym (seek-finds _ _ _ _ _ _ (c .before .before .before .before .loop .inv) (c .before .before .before .loop-test .taken) (sym (rw (c .before .before .bytes .ensures) at (c .before .holds .ensures)) ∙ c .if1 .taken))
@@ -37,10 +38,10 @@ named-from-spec =
     Inv-loop
     μ-loop
     loop-holds
+    (λ c. omega arith)
     bytes-requires
     holds-requires
     returns
-    (λ c. omega arith)
     (λ c. omega arith)
     loop-again
     returns-2)

@@ -9,25 +9,25 @@ use Rattle.store.proofs.find.count_held.Statement.{statement}
 use Rattle.store.proofs.find.count_held.Tie as tie
 
 abbrev Inv-loop : tie.InvT-loop
-Inv-loop store key count n₀ i₀ n i = Count (ofKey key) store count n i
+Inv-loop store key count low high n₀ i₀ n i = Count (ofKey key) store count n i
 
 abbrev μ-loop : tie.MeasureT-loop
-μ-loop store key count n₀ i₀ n i = count - i
+μ-loop store key count low high n₀ i₀ n i = count - i
 
 loop-holds : tie.Need-loop-holds Inv-loop μ-loop
-loop-holds c = count-begins (ofKey (now (c .before .before .before .args .key))) (now (c .before .before .before .args .store)) (c .before .before .before .pre) (c .slots .ensures)
+loop-holds c = count-begins (ofKey (now (c .before .before .before .before .before .args .key))) (now (c .before .before .before .before .before .args .store)) (c .before .before .before .before .before .pre) (c .before .before .slots .ensures)
 
 bytes-requires : tie.Need-bytes-requires Inv-loop μ-loop
 bytes-requires c κs = walk-inside (c .before .loop .inv .walk) (c .loop-test .taken)
 
-of-key-requires : tie.Need-of-key-requires Inv-loop μ-loop
-of-key-requires c κs = walk-bytes (c .before .before .loop .inv .walk) (c .before .loop-test .taken) (c .bytes .ensures)
+of-key-with-requires : tie.Need-of-key-with-requires Inv-loop μ-loop
+of-key-with-requires c κs = (walk-bytes (c .before .before .loop .inv .walk) (c .before .loop-test .taken) (c .bytes .ensures), (c .before .before .before .before .word-padded .ensures, c .before .before .before .word-padded2 .ensures))
 
 loop-again : tie.Need-loop-again Inv-loop μ-loop
 loop-again c =
     ⊎-elim
-    (λ w. rw (w .1) (count-adds (c .before .before .before .before .loop .inv) (c .before .before .before .loop-test .taken) (c .before .before .bytes .ensures) (c .before .of-key .ensures) (w .0 .taken)))
-    (λ w. rw (w .1) (count-goes-on (c .before .before .before .before .loop .inv) (c .before .before .before .loop-test .taken) (c .before .before .bytes .ensures) (c .before .of-key .ensures) (w .0 .left)))
+    (λ w. rw (w .1) (count-adds (c .before .before .before .before .loop .inv) (c .before .before .before .loop-test .taken) (c .before .before .bytes .ensures) (c .before .of-key-with .ensures) (w .0 .taken)))
+    (λ w. rw (w .1) (count-goes-on (c .before .before .before .before .loop .inv) (c .before .before .before .loop-test .taken) (c .before .before .bytes .ensures) (c .before .of-key-with .ensures) (w .0 .left)))
     (c .if1 .came)
 
 returns : tie.Need-returns Inv-loop μ-loop
@@ -40,9 +40,11 @@ count-held-spec =
     Inv-loop
     μ-loop
     (λ c κs. search needs)
+    (λ c κs. search needs)
+    (λ c κs. search needs)
     loop-holds
     bytes-requires
-    of-key-requires
+    of-key-with-requires
     (λ c. search needs)
     (λ c. search needs)
     (λ c. omega arith)

@@ -9,25 +9,25 @@ use Rattle.store.proofs.find.count_live.Statement.{statement}
 use Rattle.store.proofs.find.count_live.Tie as tie
 
 abbrev Inv-loop : tie.InvT-loop
-Inv-loop store key time count n₀ i₀ n i = Count (liveOfKey time key) store count n i
+Inv-loop store key time count low high n₀ i₀ n i = Count (liveOfKey time key) store count n i
 
 abbrev μ-loop : tie.MeasureT-loop
-μ-loop store key time count n₀ i₀ n i = count - i
+μ-loop store key time count low high n₀ i₀ n i = count - i
 
 loop-holds : tie.Need-loop-holds Inv-loop μ-loop
-loop-holds c = let back3 = c .before .before .before in let args = back3 .args in count-begins (liveOfKey (args .time) (now (args .key))) (now (args .store)) (back3 .pre) (c .slots .ensures)
+loop-holds c = count-begins (liveOfKey (c .before .before .before .before .before .args .time) (now (c .before .before .before .before .before .args .key))) (now (c .before .before .before .before .before .args .store)) (c .before .before .before .before .before .pre) (c .before .before .slots .ensures)
 
 bytes-requires : tie.Need-bytes-requires Inv-loop μ-loop
 bytes-requires c κs = walk-inside (c .before .loop .inv .walk) (c .loop-test .taken)
 
-is-live-of-requires : tie.Need-is-live-of-requires Inv-loop μ-loop
-is-live-of-requires c κs = walk-bytes (c .before .before .loop .inv .walk) (c .before .loop-test .taken) (c .bytes .ensures)
+is-live-with-requires : tie.Need-is-live-with-requires Inv-loop μ-loop
+is-live-with-requires c κs = (walk-bytes (c .before .before .loop .inv .walk) (c .before .loop-test .taken) (c .bytes .ensures), (c .before .before .before .before .word-padded .ensures, c .before .before .before .word-padded2 .ensures))
 
 loop-again : tie.Need-loop-again Inv-loop μ-loop
 loop-again c =
     ⊎-elim
-    (λ w. rw (w .1) (count-adds (c .before .before .before .before .loop .inv) (c .before .before .before .loop-test .taken) (c .before .before .bytes .ensures) (c .before .is-live-of .ensures) (w .0 .taken)))
-    (λ w. rw (w .1) (count-goes-on (c .before .before .before .before .loop .inv) (c .before .before .before .loop-test .taken) (c .before .before .bytes .ensures) (c .before .is-live-of .ensures) (w .0 .left)))
+    (λ w. rw (w .1) (count-adds (c .before .before .before .before .loop .inv) (c .before .before .before .loop-test .taken) (c .before .before .bytes .ensures) (c .before .is-live-with .ensures) (w .0 .taken)))
+    (λ w. rw (w .1) (count-goes-on (c .before .before .before .before .loop .inv) (c .before .before .before .loop-test .taken) (c .before .before .bytes .ensures) (c .before .is-live-with .ensures) (w .0 .left)))
     (c .if1 .came)
 
 returns : tie.Need-returns Inv-loop μ-loop
@@ -40,9 +40,11 @@ count-live-spec =
     Inv-loop
     μ-loop
     (λ c κs. search needs)
+    (λ c κs. search needs)
+    (λ c κs. search needs)
     loop-holds
     bytes-requires
-    is-live-of-requires
+    is-live-with-requires
     (λ c. search needs)
     (λ c. search needs)
     (λ c. omega arith)

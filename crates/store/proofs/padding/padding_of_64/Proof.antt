@@ -1,5 +1,6 @@
 use mathlib.Core.Path.{sym, _∙_}
 use native.Mathlib.Omega.{arith}
+use lib.Bits.{bitOr}
 use denote.Ref.{now}
 use Rattle.store.proofs.SlotChecks.{beyond-bits, beyond-last}
 use borrow.Author.Needs.{needs}
@@ -7,10 +8,15 @@ use Rattle.store.proofs.padding.padding_of_64.Statement.{statement}
 use Rattle.store.proofs.padding.padding_of_64.Tie as tie
 
 returns : tie.Need-returns
-returns c = let args = c .before .before .before .before .args in beyond-bits (args .at) 32 32 (args .used) (now (args .t)) (omega arith) (c .before .padding-of-32 .result) (c .bits-of-32 .result) (c .before .padding-of-32 .ensures) (c .bits-of-32 .ensures)
+returns c =
+    beyond-bits (c .before .before .before .before .before .args .at) 32 32 (c .before .before .before .before .before .args .used) (now (c .before .before .before .before .before .args .t)) (omega arith) (bitOr (c .before .before .padding-of-16 .result) (c .before .bits-of-16 .result)) (c .bits-of-32 .result)
+    (beyond-bits (c .before .before .before .before .before .args .at) 16 16 (c .before .before .before .before .before .args .used) (now (c .before .before .before .before .before .args .t)) (omega arith) (c .before .before .padding-of-16 .result) (c .before .bits-of-16 .result) (c .before .before .padding-of-16 .ensures) (c .before .bits-of-16 .ensures)) (c .bits-of-32 .ensures)
 
 returns-2 : tie.Need-returns-2
-returns-2 c = let args = c .before .before .before .args in c .padding-of-322 .ensures ∙ sym (beyond-last (args .at) 32 32 (args .used) (now (args .t)) (c .before .if1 .left))
+returns-2 c = beyond-bits (c .before .before .before .before .before .args .at) 32 32 (c .before .before .before .before .before .args .used) (now (c .before .before .before .before .before .args .t)) (omega arith) (c .before .padding-of-32 .result) (c .bits-of-322 .result) (c .before .padding-of-32 .ensures) (c .bits-of-322 .ensures)
+
+returns-3 : tie.Need-returns-3
+returns-3 c = c .padding-of-322 .ensures ∙ sym (beyond-last (c .before .before .before .before .args .at) 32 32 (c .before .before .before .before .args .used) (now (c .before .before .before .before .args .t)) (omega arith))
 
 pub padding-of-64-spec : {M : Type 1} → statement M
 padding-of-64-spec =
@@ -19,7 +25,13 @@ padding-of-64-spec =
     (λ c κs. search needs)
     (λ c. search needs)
     (λ c κs. search needs)
-    returns
     (λ c. search needs)
     (λ c κs. search needs)
-    returns-2)
+    returns
+    (λ c κs. search needs)
+    (λ c. search needs)
+    (λ c κs. search needs)
+    returns-2
+    (λ c. search needs)
+    (λ c κs. search needs)
+    returns-3)
