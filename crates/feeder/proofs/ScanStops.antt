@@ -1,6 +1,6 @@
 -- Where reading stops: from a byte to skip on it stops where it stops from the next.
 use mathlib.Core.Path.{_≡_, refl, sym, ap, _∙_}
-use mathlib.Core.Bool.{Bool, true, false}
+use mathlib.Core.Bool.{Bool, true, false, false≢true}
 use mathlib.Core.List.{List, _∷_, _++_}
 use mathlib.Core.Option.{Option, none, some}
 use Prim.Native.Nat.{ℕ, zero, suc, _+_, _-_, _≤_, _<_}
@@ -8,10 +8,10 @@ use native.Mathlib.Nat.{add-zero, zero-add}
 use native.Mathlib.Numerals.{add-one}
 use native.Mathlib.Omega.{arith}
 use lib.Dec.{eqb, ltb}
-use lib.ListN.{length, take, drop, getD, length-append, drop-of-length-le, List·getD-eq-default}
+use lib.ListN.{length, take, drop, getD, length-append, length-take, drop-of-length-le, List·getD-eq-default}
 use lib.Seq.{drop-cons, getD-take, getD-drop}
 use borrow.Author.Count.{below-more}
-use borrow.Author.Tests.{eqb-true, ltb-true, ltb-false, ne-eqb}
+use borrow.Author.Tests.{ltb-true, ltb-false, ne-eqb}
 use Rattle.wire.specs.Lists.{orElse}
 use Rattle.feeder.specs.declared.record.Head.the-variants as heads
 use Rattle.feeder.specs.declared.scan.Stop.{Stop}
@@ -168,35 +168,79 @@ pass-block s from i f l h =
         let back : i + (j - i) ≡ j = omega arith in
         h (j - i) (getD-take (i + blockSize - i) (drop i s) (j - i) 0 near ∙ getD-drop i s (j - i) 0 ∙ ap (λ (n : ℕ). getD s n 0) back ∙ e)
 
--- marks counted: where there is none yet, none stands before i
-pub record Counting (s : List ℕ) (marks i : ℕ) : Type 0 where
+-- bytes passed up to a place in a part
+pub pass-part : (s : List ℕ) (from i r : ℕ) → UnmarkedUpTo s from i → blockSize ≤ length s - i
+    → UnmarkedUpTo (take (i + blockSize - i) (drop i s)) 0 r → UnmarkedUpTo s from (i + r)
+pass-part s from i r f l g =
+    record { ahead = omega (arith, f .ahead); inside = omega (arith, f .inside, within); unmarked = λ j a b. go j a b (ltb j i) refl }
+  where
+    within : r ≤ blockSize
+    within =
+        let e : length (take (i + blockSize - i) (drop i s)) ≤ blockSize = rw length-take (omega arith) in
+        omega (arith, g .inside)
+
+    go : (j : ℕ) → from ≤ j → j < i + r → (t : Bool) → ltb j i ≡ t → getD s j 0 ≡ firstMark → ⊥
+    go j a b true q e = f .unmarked j a (ltb-true j i q) e
+    go j a b false q e =
+        let low : i ≤ j = ltb-false j i q in
+        let near : j - i < i + blockSize - i = omega (arith, within) in
+        let back : i + (j - i) ≡ j = omega arith in
+        g .unmarked (j - i) (omega arith) (omega arith) (getD-take (i + blockSize - i) (drop i s) (j - i) 0 near ∙ getD-drop i s (j - i) 0 ∙ ap (λ (n : ℕ). getD s n 0) back ∙ e)
+
+-- bytes passed after others
+pub pass-on : (s : List ℕ) (from i r : ℕ) → UnmarkedUpTo s from i → UnmarkedUpTo s i r → UnmarkedUpTo s from r
+pass-on s from i r f g =
+    record { ahead = omega (arith, f .ahead, g .ahead); inside = g .inside; unmarked = λ j a b. go j a b (ltb j i) refl }
+  where
+    go : (j : ℕ) → from ≤ j → j < r → (t : Bool) → ltb j i ≡ t → getD s j 0 ≡ firstMark → ⊥
+    go j a b true q e = f .unmarked j a (ltb-true j i q) e
+    go j a b false q e = g .unmarked j (ltb-false j i q) b e
+
+-- bytes looked at: where no mark was seen yet, none stands before i
+pub record Looking (s : List ℕ) (clear : Bool) (i : ℕ) : Type 0 where
   pub inside : i ≤ length s
-  pub few : marks ≤ i
-  pub unmarked : marks ≡ 0 → (k : ℕ) → k < i → getD s k 0 ≡ firstMark → ⊥
+  pub unmarked : clear ≡ true → (k : ℕ) → k < i → getD s k 0 ≡ firstMark → ⊥
 
-pub count-begins : (s : List ℕ) → Counting s 0 0
-count-begins s = record { inside = omega arith; few = omega arith; unmarked = λ z k l e. omega arith }
+pub look-begins : (s : List ℕ) → Looking s true 0
+look-begins s = record { inside = omega arith; unmarked = λ z k l e. omega arith }
 
-pub count-mark : (s : List ℕ) (marks i : ℕ) → Counting s marks i → i < length s → Counting s (marks + 1) (i + 1)
-count-mark s marks i f l = record { inside = omega arith; few = omega (arith, f .few); unmarked = λ z k b e. omega arith }
+pub look-mark : (s : List ℕ) (clear : Bool) (i : ℕ) → Looking s clear i → i < length s → Looking s false (i + 1)
+look-mark s clear i f l = record { inside = omega arith; unmarked = λ z. absurd (false≢true z) }
 
-pub count-other : (s : List ℕ) (marks i : ℕ) → Counting s marks i → i < length s → (getD s i 0 ≡ firstMark → ⊥) → Counting s marks (i + 1)
-count-other s marks i f l h =
-    record {
-      inside = omega arith;
-      few = omega (arith, f .few);
-      unmarked = λ z. below-more (λ k. getD s k 0 ≡ firstMark → ⊥) i (f .unmarked z) h;
-    }
+pub look-other : (s : List ℕ) (clear : Bool) (i : ℕ) → Looking s clear i → i < length s → (getD s i 0 ≡ firstMark → ⊥) → Looking s clear (i + 1)
+look-other s clear i f l h = record { inside = omega arith; unmarked = λ z. below-more (λ k. getD s k 0 ≡ firstMark → ⊥) i (f .unmarked z) h }
 
-pub count-ends : (s : List ℕ) (marks i : ℕ) → Counting s marks i → length s ≤ i → eqb marks 0 ≡ true → Unmarked s
-count-ends s marks i f l z k e = go (ltb k i) refl
+pub look-ends : (s : List ℕ) (clear : Bool) (i : ℕ) → Looking s clear i → length s ≤ i → clear ≡ true → Unmarked s
+look-ends s clear i f l z k e = go (ltb k i) refl
   where
     go : (t : Bool) → ltb k i ≡ t → ⊥
-    go true q = f .unmarked (eqb-true marks 0 z) k (ltb-true k i q) e
+    go true q = f .unmarked z k (ltb-true k i q) e
     go false q =
         let past : length s ≤ k = omega (arith, ltb-false k i q) in
         let n : _≡_ {A = ℕ} 0 firstMark = sym (List·getD-eq-default s 0 past) ∙ e in
         omega arith
+
+-- places compared: none of a mark before i is below the lowest yet
+pub record Lowest (s : List ℕ) (place i : ℕ) : Type 0 where
+  pub inside : i ≤ length s
+  pub most : place ≤ blockSize
+  pub least : (k : ℕ) → k < i → getD s k 0 ≡ firstMark → place ≤ k
+
+pub low-begins : (s : List ℕ) → Lowest s blockSize 0
+low-begins s = record { inside = omega arith; most = omega arith; least = λ k l e. omega arith }
+
+pub low-goes-on : (s : List ℕ) (place i here r : ℕ) → Lowest s place i → i < length s → (getD s i 0 ≡ firstMark → here ≡ i) → (r ≤ here) × (r ≤ place)
+    → Lowest s r (i + 1)
+low-goes-on s place i here r f l h (p, q) =
+    record {
+      inside = omega arith;
+      most = omega (arith, f .most);
+      least = below-more (λ k. getD s k 0 ≡ firstMark → r ≤ k) i (λ k b e. omega (arith, f .least k b e)) (λ e. omega (arith, h e));
+    }
+
+pub low-ends : (s : List ℕ) (place i : ℕ) → Lowest s place i → length s ≡ blockSize → length s ≤ i → UnmarkedUpTo s 0 place
+low-ends s place i f e l =
+    record { ahead = omega arith; inside = omega (arith, f .most); unmarked = λ k a b m. omega (arith, f .most, f .least k (omega (arith, f .most)) m) }
 
 -- the next place in the waiting bytes is the one next to it
 pub next-waiting : (s : List ℕ) (at : ℕ) → at < length s → NextPlace s at (at + 1)

@@ -1,42 +1,34 @@
--- No mark stands from the start up to i. The measure is what is left of the piece.
-use Prim.Native.Nat.{_-_}
 use native.Mathlib.Omega.{arith}
-use lib.ListN.{length}
 use borrow.Author.Needs.{needs}
-use Rattle.feeder.specs.Promises.{UnmarkedUpTo}
-use Rattle.feeder.proofs.ScanStops.{pass-goes-on}
+use lib.ListN.{length-take, length-drop}
+use Rattle.feeder.proofs.ScanStops.{pass-on, pass-part}
 use Rattle.feeder.proofs.scan.next_mark.Statement.{statement}
 use Rattle.feeder.proofs.scan.next_mark.Tie as tie
 
-abbrev Inv-loop : tie.InvT-loop
-Inv-loop piece from i₀ i = UnmarkedUpTo piece from i
+returns : tie.Need-returns
+returns c = pass-on _ _ _ _ (c .before .before .pass-blocks .ensures) (c .next-byte .ensures)
 
-abbrev μ-loop : tie.MeasureT-loop
-μ-loop piece from i₀ i = length piece - i
+mark-in-requires : tie.Need-mark-in-requires
+mark-in-requires c κs = rw (length-take, length-drop) (omega arith)
 
-loop-holds : tie.Need-loop-holds Inv-loop μ-loop
-loop-holds c = c .pass-blocks .ensures
+returns-2 : tie.Need-returns-2
+returns-2 c = pass-part _ _ _ _ (c .before .before .before .pass-blocks .ensures) (c .before .before .if1 .left) (c .mark-in .ensures)
 
-returns : tie.Need-returns Inv-loop μ-loop
-returns c = c .before .before .before .loop .inv
-
-loop-again : tie.Need-loop-again Inv-loop μ-loop
-loop-again c = pass-goes-on _ _ _ (c .before .before .before .loop .inv) (c .before .before .loop-test .taken) (c .if1 .left)
-
-returns-2 : tie.Need-returns-2 Inv-loop μ-loop
-returns-2 c = c .before .loop .inv
+add-result : tie.Need-add-result
+add-result c = omega (arith, pass-part _ _ _ _ (c .before .before .before .pass-blocks .ensures) (c .before .before .if1 .left) (c .mark-in .ensures) .inside)
 
 pub next-mark-spec : {M : Type 1} → statement M
 next-mark-spec =
     tie.close
     (tie.spec
-    Inv-loop
-    μ-loop
     (λ c κs. search needs)
-    loop-holds
-    (λ c. search needs)
+    (λ c. omega (arith, c .pass-blocks .ensures .inside))
+    (λ c κs. omega (arith, c .before .pass-blocks .ensures .inside))
     returns
+    (λ c. omega (arith, c .before .pass-blocks .ensures .inside))
+    (λ c. omega (arith, c .before .pass-blocks .ensures .inside))
     (λ c. search needs)
-    (λ c. omega arith)
-    loop-again
+    (λ c. search needs)
+    mark-in-requires
+    add-result
     returns-2)
