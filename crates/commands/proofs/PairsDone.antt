@@ -5,7 +5,7 @@ use mathlib.Core.List.{List}
 use mathlib.Core.Option.{some}
 use Prim.Native.Nat.{ℕ, _≤_, _<_}
 use native.Mathlib.Omega.{arith}
-use borrow.Author.Tests.{lt-ltb, le-ltb}
+use lib.Dec.{ltb}
 use lib.ListN.{length}
 use Rattle.wire.specs.Lists.{any, orElse}
 use Rattle.wire.specs.Words.{Word, wordsMost}
@@ -86,14 +86,14 @@ module _ (now : ℕ) (k : Word) (ws : List Word) (s : Store) {b : List ℕ} (h :
       pub many-placing : WithinLimits (setMany k pairs) → Placing now k pairs b
       many-placing p = record { well = h .well; short = p .short; numbered = told .0 }
 
-      module _ {m : ℕ} (e : m ≡ room now slots) where
+      module _ {full : Bool} (e : full ≡ ltb (room now slots) n) where
         -- 24
-        pub many-full : m < n → {d x : List ℕ} {r : ℕ} → Laid (errorLine 24) d x r → Does (runOn now (setMany k pairs) s) b d x r
+        pub many-full : full ≡ true → {d x : List ℕ} {r : ℕ} → Laid (errorLine 24) d x r → Does (runOn now (setMany k pairs) s) b d x r
         unfolding settle orElse lateChecks lowest effect
-        many-full g l = settles (rw (told .0, told .1, lt-ltb (room now slots) n (rw (← e) g)) (record { laid = l; holds = holds-self (h .well) }))
+        many-full g l = settles (rw (told .0, told .1, ← e, g) (record { laid = l; holds = holds-self (h .well) }))
 
         -- +OK
-        pub many-done : n ≤ m → {after : List ℕ} → Holds after (withAll now k pairs (decode b)) → {d x : List ℕ} {r : ℕ} → Laid (line "+OK") d x r
+        pub many-done : full ≡ false → {after : List ℕ} → Holds after (withAll now k pairs (decode b)) → {d x : List ℕ} {r : ℕ} → Laid (line "+OK") d x r
             → Does (runOn now (setMany k pairs) s) after d x r
         unfolding settle orElse lateChecks lowest effect withAll
-        many-done g w l = settles (rw (told .0, told .1, le-ltb (room now slots) n (rw (← e) g)) (record { laid = l; holds = w }))
+        many-done g w l = settles (rw (told .0, told .1, ← e, g) (record { laid = l; holds = w }))

@@ -58,6 +58,11 @@ Looked b k f r = r ≡ foundFor (lowestSlot (holds k f) (decode b .slots))
 unfoldable pub lookFor : ℕ → List ℕ → List ℕ → List Slot → Found
 lookFor now k f ss = foundFor (slotFor now k f ss)
 
+-- where to look first for what a look found
+unfoldable pub hintFor : Found → ℕ
+hintFor (founds.At i) = i
+hintFor founds.Nothing = 0
+
 -- the slot for an entry whose own slot, or that it has none, is known
 unfoldable pub slotAfter : ℕ → Found → List Slot → Found
 slotAfter now (founds.At i) ss = founds.At i

@@ -11,7 +11,7 @@ ghost use Rattle.store.specs.Store.{decode, wellFormed, entry};
 ghost use Rattle.store.specs.Valid.{Fits};
 ghost use Rattle.store.specs.Promises.{Holds};
 ghost use Rattle.commands.specs.Execute.{swept};
-ghost use Rattle.commands.specs.Promises.{Looked, slotAfter, withPut};
+ghost use Rattle.commands.specs.Promises.{Looked, hintFor, slotAfter, withPut};
 
 // Looks for the entry of a key and a field. A dead one is removed, so what is found is live.
 pub fn look(bytes: &mut [u8], key: &[u8], field: &[u8], time: u64) -> Found
@@ -30,6 +30,16 @@ pub fn look(bytes: &mut [u8], key: &[u8], field: &[u8], time: u64) -> Found
     }
     change::remove(bytes, i);
     Found::Nothing
+}
+
+// Where to look first for what a look found: its slot, else any.
+pub fn hint_for(found: Found) -> usize
+    ensures { λ r. ⌜ r ≡ hintFor found ⌝ }
+{
+    let Found::At(i) = found else {
+        return 0;
+    };
+    i
 }
 
 // The slot for an entry: its own, else the lowest empty one, else the lowest dead one.

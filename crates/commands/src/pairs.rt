@@ -1,4 +1,5 @@
 // EXHMSET: pairs of a field and a value, all of them or none. `pairs` are the places of their words.
+use crate::act::hint_for;
 use crate::act::look;
 use crate::act::place;
 use crate::field::held_version;
@@ -9,10 +10,12 @@ use store::find;
 use store::layout::VERSION_MOST;
 use wire::bytes::equal;
 use wire::replies::put_line;
+use wire::words::WORDS_MOST;
 use wire::words::word;
 ghost use mathlib.Core.Path.{_≡_};
 ghost use mathlib.Core.Bool.{true};
 ghost use Prim.Native.Nat.{_+_, _<_};
+ghost use lib.Dec.{ltb};
 ghost use lib.ListN.{length, drop};
 ghost use Rattle.wire.specs.Words.{wordAt};
 ghost use Rattle.wire.specs.Promises.{wordsIn, Inside};
@@ -20,7 +23,7 @@ ghost use Rattle.store.specs.Store.{decode, wellFormed};
 ghost use Rattle.store.specs.Promises.{Holds};
 ghost use Rattle.commands.specs.Command.Command.{setMany};
 ghost use Rattle.commands.specs.Parse.{pairsOf};
-ghost use Rattle.commands.specs.Execute.{swept, runOn};
+ghost use Rattle.commands.specs.Execute.{swept, room, runOn};
 ghost use Rattle.commands.specs.Promises.{withPut, WithinLimits, Does, FieldsReady, fieldsIn, timesIn, pairEntry, Pairing, Placing, withAll, surveyOf, newField};
 
 // What the pairs would do: pass the largest version (23), or add so many fields.
@@ -29,8 +32,15 @@ pub enum Survey {
     Added(usize),
 }
 
-// Removes the dead entries of the fields of the pairs.
-fn sweep_pairs(command: &[u8], pairs: &[[usize; 2]], bytes: &mut [u8], key: &[u8], time: u64)
+// Removes the dead entries of the fields of the pairs. Where a field stands is kept as a hint at the number of its word.
+fn sweep_pairs(
+    command: &[u8],
+    pairs: &[[usize; 2]],
+    bytes: &mut [u8],
+    key: &[u8],
+    time: u64,
+    hints: &mut [usize; WORDS_MOST],
+)
     requires { ⌜ (Inside (now command) (now pairs)) × (wellFormed (now bytes) ≡ true) ⌝ }
     ensures { λ _.
         let fs = fieldsIn (wordsIn (now (command .entry)) (now (pairs .entry))) in
@@ -38,7 +48,8 @@ fn sweep_pairs(command: &[u8], pairs: &[[usize; 2]], bytes: &mut [u8], key: &[u8
 {
     let mut i = 0;
     while i + 1 < pairs.len() {
-        look(bytes, key, word(command, pairs, i), time);
+        let found = look(bytes, key, word(command, pairs, i), time);
+        hints[i] = hint_for(found);
         i += 2;
     }
 }
@@ -76,7 +87,13 @@ fn new_field(found: Found, again: u64) -> usize
 }
 
 // What the pairs would do with the store.
-fn survey_pairs(command: &[u8], pairs: &[[usize; 2]], bytes: &[u8], key: &[u8]) -> Survey
+fn survey_pairs(
+    command: &[u8],
+    pairs: &[[usize; 2]],
+    bytes: &[u8],
+    key: &[u8],
+    hints: &[usize; WORDS_MOST],
+) -> Survey
     requires { ⌜ (Inside (now command) (now pairs)) × (wellFormed (now bytes) ≡ true) ⌝ }
     ensures { λ r.
         let fs = fieldsIn (wordsIn (now (command .entry)) (now (pairs .entry))) in
@@ -85,7 +102,7 @@ fn survey_pairs(command: &[u8], pairs: &[[usize; 2]], bytes: &[u8], key: &[u8]) 
     let mut n = 0;
     let mut i = 0;
     while i + 1 < pairs.len() {
-        let found = find::named(bytes, key, word(command, pairs, i));
+        let found = find::named_near(bytes, key, word(command, pairs, i), hints[i]);
         let again = repeats(command, pairs, i);
         let held = held_version(bytes, found);
         if VERSION_MOST < held + (again + 1) {
@@ -97,21 +114,39 @@ fn survey_pairs(command: &[u8], pairs: &[[usize; 2]], bytes: &[u8], key: &[u8]) 
     Survey::Added(n)
 }
 
+// Whether there is no room for n more fields. For none nothing is counted.
+fn is_full(bytes: &[u8], n: usize, time: u64) -> bool
+    requires { ⌜ wellFormed (now bytes) ≡ true ⌝ }
+    ensures { λ r. ⌜ r ≡ ltb (room time (decode (now (bytes .entry)) .slots)) n ⌝ }
+{
+    if n == 0 {
+        return false;
+    }
+    find::room(bytes, time) < n
+}
+
 // Writes one pair.
-fn place_pair(bytes: &mut [u8], key: &[u8], field: &[u8], value: &[u8], time: u64)
+fn place_pair(bytes: &mut [u8], key: &[u8], field: &[u8], value: &[u8], time: u64, hint: usize)
     requires { ⌜ Pairing (now bytes) (now key) (now field) (now value) ⌝ }
     ensures { λ _.
         let before = decode (now (bytes .entry)) in
         let own = pairEntry (now (key .entry)) (now (field .entry)) (now (value .entry)) (before .slots) in
         ⌜ Holds (now (bytes .exit)) (withPut time own before) ⌝ }
 {
-    let own = find::named(bytes, key, field);
+    let own = find::named_near(bytes, key, field, hint);
     let version = held_version(bytes, own) + 1;
     place(bytes, own, key, field, value, version, Expiry::Never, time);
 }
 
 // Writes all pairs, where no version passes its largest.
-fn place_pairs(command: &[u8], pairs: &[[usize; 2]], bytes: &mut [u8], key: &[u8], time: u64)
+fn place_pairs(
+    command: &[u8],
+    pairs: &[[usize; 2]],
+    bytes: &mut [u8],
+    key: &[u8],
+    time: u64,
+    hints: &[usize; WORDS_MOST],
+)
     requires { let ps = pairsOf (wordsIn (now command) (now pairs)) in
         ⌜ (Inside (now command) (now pairs)) × (Placing time (now key) ps (now bytes)) ⌝ }
     ensures { λ _.
@@ -122,7 +157,7 @@ fn place_pairs(command: &[u8], pairs: &[[usize; 2]], bytes: &mut [u8], key: &[u8
     while i + 1 < pairs.len() {
         let field = word(command, pairs, i);
         let value = word(command, pairs, i + 1);
-        place_pair(bytes, key, field, value, time);
+        place_pair(bytes, key, field, value, time, hints[i]);
         i += 2;
     }
 }
@@ -142,15 +177,16 @@ pub fn set_many(
         let c = setMany (now (key .entry)) (pairsOf (wordsIn (now (command .entry)) (now (pairs .entry)))) in
         ⌜ Does (runOn time c (decode (now (bytes .entry)))) (now (bytes .exit)) (now (out .entry)) (now (out .exit)) r ⌝ }
 {
-    sweep_pairs(command, pairs, bytes, key, time);
-    let survey = survey_pairs(command, pairs, bytes, key);
+    let mut hints = [0; WORDS_MOST];
+    sweep_pairs(command, pairs, bytes, key, time, &mut hints);
+    let survey = survey_pairs(command, pairs, bytes, key, &hints);
     match survey {
         Survey::Overflow => put_error(23, out),
         Survey::Added(n) => {
-            if find::room(bytes, time) < n {
+            if is_full(bytes, n, time) {
                 put_error(24, out)
             } else {
-                place_pairs(command, pairs, bytes, key, time);
+                place_pairs(command, pairs, bytes, key, time, &hints);
                 put_line(b"+OK", out)
             }
         },

@@ -12,11 +12,11 @@ use Rattle.wire.specs.Lists.{any, keep, isSome, orElse}
 use Rattle.wire.proofs.Lists.{both-ways, impossible}
 use Rattle.store.specs.declared.Found.the-variants as founds
 use Rattle.store.specs.Layout.{headerSize, slotSize}
-use Rattle.store.specs.Store.{Slot, decodeSlot, slotCount, decode, wellFormed}
+use Rattle.store.specs.Store.{Slot, decodeSlot, slotCount, decode, wellFormed, holds}
 use Rattle.store.specs.Time.{lowestSlot, emptySlot}
 use Rattle.store.specs.Promises.{SlotBytes, Held, foundFor, lowestFrom, slotAt}
-use Rattle.store.proofs.Slots.{Lowest, lowest-some}
-use Rattle.store.proofs.Encode.{length-decode}
+use Rattle.store.proofs.Slots.{Lowest, lowest-some, lowest-only}
+use Rattle.store.proofs.Encode.{length-decode, decode-valid}
 use Rattle.store.proofs.ReadAt.{slot-inside, slot-bytes, slot-means}
 
 -- ---- lists of slots
@@ -171,6 +171,12 @@ module _ {p : Slot → Bool} {b : List ℕ} {n i : ℕ} {o : Option ℕ} (s : Se
           walk = s .walk;
           rest = sym (lowest-skip p (decode b .slots) i (within (s .walk) l) (walk-test (s .walk) l e p q h)) ∙ s .rest;
         }
+
+-- slot i holds a name: no other does
+pub hint-finds : (k f : List ℕ) {b t : List ℕ} {n i : ℕ} {r : Bool} → Walk b n → i < n → t ≡ slotAt b i → r ≡ holds k f (decodeSlot t) → r ≡ true
+    → founds.At i ≡ foundFor (lowestSlot (holds k f) (decode b .slots))
+unfolding foundFor
+hint-finds k f {b} {i = i} w l e q h = rw (lowest-only k f (decode b .slots) i (decode-valid b (w .well) .apart) (walk-test w l e (holds k f) q h))
 
 -- ---- counts
 

@@ -1,5 +1,5 @@
 -- Laws of the slots of a store, as a list of slots: the lowest of which a test holds, names and clashes, the entry of a name.
-use mathlib.Core.Path.{_≡_, refl, subst, _∙_}
+use mathlib.Core.Path.{_≡_, refl, ap, subst, _∙_}
 use mathlib.Core.Bool.{Bool, true, false, cond}
 use mathlib.Core.List.{List, [], _∷_}
 use mathlib.Core.Option.{Option, none, some, Option·map, Option·none-ne-some}
@@ -194,15 +194,14 @@ entry-fits k f ss e a h =
     let s : Stands k f ss e = entry-some k f ss e h in
     subst FitsSlot (s .here) (a (s .slot))
 
--- where no two slots have one name, the entry of a slot is that of its name
-pub entry-is : (ss : List Slot) (i : ℕ) (e : Entry) → Apart ss → getD ss i none ≡ some e → entryOf (e .key) (e .field) ss ≡ some e
-entry-is ss i e a h = go (lowestSlot (holds (e .key) (e .field)) ss) refl
+-- where no two slots have one name, a slot that holds a name is the lowest that does
+pub lowest-only : (k f : List ℕ) (ss : List Slot) (i : ℕ) → Apart ss → holds k f (getD ss i none) ≡ true → lowestSlot (holds k f) ss ≡ some i
+lowest-only k f ss i a h = go (lowestSlot (holds k f) ss) refl
   where
-    own : holds (e .key) (e .field) (getD ss i none) ≡ true
-    own = rw h (holds-own e)
+    go : (o : Option ℕ) → lowestSlot (holds k f) ss ≡ o → o ≡ some i
+    go none q = both-ways h (lowest-nowhere (holds k f) ss (holds-none k f) q i)
+    go (some j) q = ap some (holds-only k f ss a j i (lowest-some (holds k f) ss j q .here) h)
 
-    go : (o : Option ℕ) → lowestSlot (holds (e .key) (e .field)) ss ≡ o → entryOf (e .key) (e .field) ss ≡ some e
-    go none q = both-ways own (lowest-nowhere (holds (e .key) (e .field)) ss (holds-none (e .key) (e .field)) q i)
-    go (some j) q =
-        let same-slot : j ≡ i = holds-only (e .key) (e .field) ss a j i (lowest-some (holds (e .key) (e .field)) ss j q .here) own in
-        entry-at-lowest (e .key) (e .field) ss j q ∙ rw same-slot h
+-- and its entry is that of the name
+pub entry-is : (ss : List Slot) (i : ℕ) (e : Entry) → Apart ss → getD ss i none ≡ some e → entryOf (e .key) (e .field) ss ≡ some e
+entry-is ss i e a h = entry-at-lowest (e .key) (e .field) ss i (lowest-only (e .key) (e .field) ss i a (rw h (holds-own e))) ∙ h

@@ -27,6 +27,20 @@ pub fn named(store: &[u8], key: &[u8], field: &[u8]) -> Found
     Found::Nothing
 }
 
+// The same by a hint, which may be any number: where its slot holds them, nothing is searched.
+pub fn named_near(store: &[u8], key: &[u8], field: &[u8], hint: usize) -> Found
+    requires { ⌜ wellFormed (now store) ≡ true ⌝ }
+    ensures { λ r. ⌜ r ≡ foundFor (lowestSlot (holds (now (key .entry)) (now (field .entry))) (decode (now (store .entry)) .slots)) ⌝ }
+{
+    if slots(store) <= hint {
+        return named(store, key, field);
+    }
+    if slot::holds(slot::bytes(store, hint), key, field) {
+        return Found::At(hint);
+    }
+    named(store, key, field)
+}
+
 // The lowest empty slot.
 pub fn empty(store: &[u8]) -> Found
     requires { ⌜ wellFormed (now store) ≡ true ⌝ }

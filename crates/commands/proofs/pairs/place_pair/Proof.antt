@@ -9,16 +9,16 @@ use Rattle.commands.proofs.pairs.place_pair.Statement.{statement}
 use Rattle.commands.proofs.pairs.place_pair.Tie as tie
 
 held-version-requires : tie.Need-held-version-requires
-held-version-requires c κs = sought-held (record { well = c .before .before .before .before .before .before .before .pre .well; looked = c .before .named .ensures })
+held-version-requires c κs = sought-held (record { well = c .before .before .before .before .before .before .before .pre .well; looked = c .before .named-near .ensures })
 
 add-version : tie.Need-add-version
-add-version c = let start = c .before .before .before .before .before .before .before .before in omega (arith, version-sought (record { well = start .pre .well; looked = c .before .before .named .ensures }) (c .held-version .ensures), start .pre .version)
+add-version c = let start = c .before .before .before .before .before .before .before .before in omega (arith, version-sought (record { well = start .pre .well; looked = c .before .before .named-near .ensures }) (c .held-version .ensures), start .pre .version)
 
 place-requires : tie.Need-place-requires
 unfolding instantOf
 place-requires c κs =
     let back3 = c .before .before .before in let back5 = back3 .before .before in let back6 = back5 .before in let back7 = back6 .before in
-    let start = back7 .before .before in let named = back3 .named in
+    let start = back7 .before .before in let named = back3 .named-near in
     let a = start .args in (
       named .ensures,
       start .pre .well,
@@ -33,7 +33,7 @@ place-requires c κs =
     )
 
 returns : tie.Need-returns
-returns c = let back2 = c .before .before in let back4 = back2 .before .before in let back6 = back4 .before .before in placed-pair _ _ _ _ _ (version-sought (record { well = back6 .before .before .before .before .before .before .pre .well; looked = back6 .named .ensures }) (back4 .held-version .ensures)) (back2 .place .ensures)
+returns c = let back2 = c .before .before in let back4 = back2 .before .before in let back6 = back4 .before .before in placed-pair _ _ _ _ _ (version-sought (record { well = back6 .before .before .before .before .before .before .pre .well; looked = back6 .named-near .ensures }) (back4 .held-version .ensures)) (back2 .place .ensures)
 
 pub place-pair-spec : {M : Type 1} → statement M
 place-pair-spec =
