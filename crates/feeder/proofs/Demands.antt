@@ -211,6 +211,8 @@ pub done-gives-effect : (clock : ℕ) (command : List ℕ) (s : Store) (c : Comm
     × (exec clock command s .store ≡ record { clock = nowAt clock s; slots = changeAll (nowAt clock s) (e .changes) left })
 done-gives-effect = done-gives
 
+-- ════ Demand 2: store full
+
 -- Store full is said only of a command that passes checks 10 to 18.
 pub full-only-if : (clock : ℕ) (command : List ℕ) (s : Store) → exec clock command s .refusal ≡ some 24
     → (c : Command) × (parse (nowAt clock s) clock command ≡ accepted c)
@@ -234,7 +236,10 @@ done-exactly-if = done-exactly
 pub room-as-before : (now : ℕ) (c : Command) (ss : List Slot) → room now (sweep now (keyOf c) (fieldsOf c) ss) ≡ room now ss
 room-as-before now c = room-sweep now (keyOf c) (fieldsOf c)
 
--- An EXHMSET that is not refused leaves every field that it names with the value of the field's last pair: all or none.
+-- ════ Demand 2: what a command touches
+
+-- An EXHMSET that is not refused leaves every field that it names with the value of the field's last pair and no expiry: all. One that is refused
+-- does nothing with them: none (`late-refusal-leaves`).
 pub all-or-none : (clock : ℕ) (command : List ℕ) (s : Store) (k : Word) (ps : List Pair) → Valid s
     → parse (nowAt clock s) clock command ≡ accepted (setMany k ps) → exec clock command s .refusal ≡ none
     → (f v : Word) → lastOf f ps ≡ some v → Written k f v (exec clock command s .store .slots)
@@ -256,6 +261,8 @@ pub dead-is-missing : (clock : ℕ) (command : List ℕ) (s : Store) (c : Comman
     → exec clock command s ≡ exec clock command (swept (nowAt clock s) (keyOf c) (fieldsOf c) s)
 dead-is-missing = dead-as-missing
 
+-- ════ Demand 2: time
+
 -- A command that passes checks 10 to 18 sets the clock to now, and no record takes the clock back.
 pub clock-set : (clock : ℕ) (command : List ℕ) (s : Store) (c : Command) → parse (nowAt clock s) clock command ≡ accepted c
     → exec clock command s .store .clock ≡ nowAt clock s
@@ -274,6 +281,8 @@ dead-for-good = dead-stays-dead
 pub dead-stays : (rs : List Step) (next : Step) (s : Store) (e : Entry) → live (s .clock) e ≡ false
     → live (nowAt (next .clock) (execAll rs s)) e ≡ false
 dead-stays = dead-at-clock
+
+-- ════ Demands 1 and 2: replies and buffers
 
 -- No reply is empty, so a call that is not refused has reply length 0 exactly if it completes no record.
 pub reply-not-empty : (clock : ℕ) (command : List ℕ) (s : Store) → 1 ≤ length (exec clock command s .reply)
@@ -301,6 +310,8 @@ no-record-keeps-all = refusals.no-record-keeps
 
 pub buffer-stays : (f : Feeder) (piece b buffer : List ℕ) → length (feed f piece b buffer .buffer) ≡ length buffer
 buffer-stays = refusals.buffer-length
+
+-- ════ Demand 2: rows
 
 -- P1 to P14: each refusal's number, each reply, and the clock and the slots at the end. The paper's other worked cases. And every command and option
 -- done, every refusal from 11 on.
