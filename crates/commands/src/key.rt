@@ -1,7 +1,9 @@
 // What is done with the fields of a key. `fields` are the places of the words that name them.
+use crate::Asking;
 use crate::KeyDeed;
 use crate::Listing;
 use crate::Question;
+use crate::act::hint_for;
 use crate::act::look;
 use crate::answer::put_answer;
 use crate::pairs::set_many;
@@ -12,6 +14,7 @@ use store::read;
 use wire::replies::put_bulk;
 use wire::replies::put_header;
 use wire::replies::put_number;
+use wire::words::WORDS_MOST;
 use wire::words::word;
 ghost use mathlib.Core.Path.{_≡_};
 ghost use mathlib.Core.Bool.{true};
@@ -29,8 +32,15 @@ ghost use Rattle.commands.specs.Execute.{swept, runOn};
 ghost use Rattle.commands.specs.ParsePromises.{commandFor};
 ghost use Rattle.commands.specs.Promises.{WithinLimits, Does, FieldsReady, answerMost, answerAbout, answersOf, listedOf, Removes, Deletes, widthOf};
 
-// Removes the dead entries of a key and some fields.
-fn sweep_fields(command: &[u8], fields: &[[usize; 2]], bytes: &mut [u8], key: &[u8], time: u64)
+// Removes the dead entries of a key and some fields. Where a field stands is kept as a hint at the number of its word.
+fn sweep_fields(
+    command: &[u8],
+    fields: &[[usize; 2]],
+    bytes: &mut [u8],
+    key: &[u8],
+    time: u64,
+    hints: &mut [usize; WORDS_MOST],
+)
     requires { ⌜ (Inside (now command) (now fields)) × (wellFormed (now bytes) ≡ true) ⌝ }
     ensures { λ _.
         let fs = wordsIn (now (command .entry)) (now (fields .entry)) in
@@ -38,7 +48,8 @@ fn sweep_fields(command: &[u8], fields: &[[usize; 2]], bytes: &mut [u8], key: &[
 {
     let mut i = 0;
     while i < fields.len() {
-        look(bytes, key, word(command, fields, i), time);
+        let found = look(bytes, key, word(command, fields, i), time);
+        hints[i] = hint_for(found);
         i += 1;
     }
 }
@@ -46,19 +57,20 @@ fn sweep_fields(command: &[u8], fields: &[[usize; 2]], bytes: &mut [u8], key: &[
 // The reply to a question about one field, found by its name.
 fn put_field(
     bytes: &[u8],
-    question: Question,
+    asking: Asking,
     key: &[u8],
     field: &[u8],
-    time: u64,
+    hint: usize,
     out: &mut [u8],
 ) -> usize
     requires { ⌜ (wellFormed (now bytes) ≡ true) × (answerMost ≤ length (now out)) ⌝ }
     ensures { λ r.
-        let answer = answerAbout time (now (bytes .entry)) (now (key .entry)) question (now (field .entry)) in
+        let answer = answerAbout (asking .time) (now (bytes .entry)) (now (key .entry)) (asking .question) (now (field .entry)) in
         ⌜ Laid answer (now (out .entry)) (now (out .exit)) r ⌝ }
 {
-    let found = find::named(bytes, key, field);
-    put_answer(bytes, question, key, field, found, time, out)
+    let found = find::named_near(bytes, key, field, hint);
+    let question = asking.question;
+    put_answer(bytes, question, key, field, found, asking.time, out)
 }
 
 // The answer about each of some fields.
@@ -66,24 +78,24 @@ fn put_answers(
     command: &[u8],
     fields: &[[usize; 2]],
     bytes: &[u8],
-    question: Question,
+    asking: Asking,
     key: &[u8],
-    time: u64,
+    hints: &[usize; WORDS_MOST],
     out: &mut [u8],
 ) -> usize
-    requires { let answers = answersOf time (now bytes) (now key) question (wordsIn (now command) (now fields)) in
+    requires { let answers = answersOf (asking .time) (now bytes) (now key) (asking .question) (wordsIn (now command) (now fields)) in
         ⌜ (Inside (now command) (now fields)) × (wellFormed (now bytes) ≡ true)
         × (answerMost + length (flatten answers) ≤ length (now out)) ⌝ }
     ensures { λ r.
         let fs = wordsIn (now (command .entry)) (now (fields .entry)) in
-        let answers = answersOf time (now (bytes .entry)) (now (key .entry)) question fs in
+        let answers = answersOf (asking .time) (now (bytes .entry)) (now (key .entry)) (asking .question) fs in
         ⌜ Laid (flatten answers) (now (out .entry)) (now (out .exit)) r ⌝ }
 {
     let mut at = 0;
     let mut i = 0;
     while i < fields.len() {
         let field = word(command, fields, i);
-        at = put_field(bytes, question, key, field, time, &mut out[at..]) + at;
+        at = put_field(bytes, asking, key, field, hints[i], &mut out[at..]) + at;
         i += 1;
     }
     at
@@ -104,17 +116,19 @@ fn get_many(
         let c = getMany (now (key .entry)) (wordsIn (now (command .entry)) (now (fields .entry))) question in
         ⌜ Does (runOn time c (decode (now (bytes .entry)))) (now (bytes .exit)) (now (out .entry)) (now (out .exit)) r ⌝ }
 {
-    sweep_fields(command, fields, bytes, key, time);
+    let mut hints = [0; WORDS_MOST];
+    sweep_fields(command, fields, bytes, key, time, &mut hints);
     let at = put_header(fields.len() as u64, out);
-    put_answers(command, fields, bytes, question, key, time, &mut out[at..]) + at
+    let asking = Asking { question, time };
+    put_answers(command, fields, bytes, asking, key, &hints, &mut out[at..]) + at
 }
 
 // Removes the entry of a key and a field, and answers how many that was.
-fn remove_field(bytes: &mut [u8], key: &[u8], field: &[u8]) -> u64
+fn remove_field(bytes: &mut [u8], key: &[u8], field: &[u8], hint: usize) -> u64
     requires { ⌜ wellFormed (now bytes) ≡ true ⌝ }
     ensures { λ r. ⌜ Removes (now (key .entry)) (now (field .entry)) (decode (now (bytes .entry))) (now (bytes .exit)) r ⌝ }
 {
-    let found = find::named(bytes, key, field);
+    let found = find::named_near(bytes, key, field, hint);
     let Found::At(i) = found else {
         return 0;
     };
@@ -123,7 +137,13 @@ fn remove_field(bytes: &mut [u8], key: &[u8], field: &[u8]) -> u64
 }
 
 // Removes the entries of a key and some fields, and answers how many that were.
-fn remove_fields(command: &[u8], fields: &[[usize; 2]], bytes: &mut [u8], key: &[u8]) -> u64
+fn remove_fields(
+    command: &[u8],
+    fields: &[[usize; 2]],
+    bytes: &mut [u8],
+    key: &[u8],
+    hints: &[usize; WORDS_MOST],
+) -> u64
     requires { ⌜ (Inside (now command) (now fields)) × (wellFormed (now bytes) ≡ true) ⌝ }
     ensures { λ r.
         let fs = wordsIn (now (command .entry)) (now (fields .entry)) in
@@ -132,7 +152,7 @@ fn remove_fields(command: &[u8], fields: &[[usize; 2]], bytes: &mut [u8], key: &
     let mut n = 0;
     let mut i = 0;
     while i < fields.len() {
-        n += remove_field(bytes, key, word(command, fields, i));
+        n += remove_field(bytes, key, word(command, fields, i), hints[i]);
         i += 1;
     }
     n
@@ -152,8 +172,9 @@ fn delete(
         let c = delete (now (key .entry)) (wordsIn (now (command .entry)) (now (fields .entry))) in
         ⌜ Does (runOn time c (decode (now (bytes .entry)))) (now (bytes .exit)) (now (out .entry)) (now (out .exit)) r ⌝ }
 {
-    sweep_fields(command, fields, bytes, key, time);
-    let n = remove_fields(command, fields, bytes, key);
+    let mut hints = [0; WORDS_MOST];
+    sweep_fields(command, fields, bytes, key, time, &mut hints);
+    let n = remove_fields(command, fields, bytes, key, &hints);
     put_number(n, out)
 }
 

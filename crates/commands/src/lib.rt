@@ -74,6 +74,12 @@ pub struct Sight {
     pub time: u64,
 }
 
+// What is asked about fields, and the time of the asking.
+pub struct Asking {
+    pub question: Question,
+    pub time: u64,
+}
+
 // What is done with one field; key and field are words 1 and 2 of the command, the value is word 3.
 pub enum FieldDeed {
     Assign(Condition, Versioning, Lifetime),

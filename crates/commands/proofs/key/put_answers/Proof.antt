@@ -14,30 +14,37 @@ use Rattle.commands.proofs.key.put_answers.Statement.{statement}
 use Rattle.commands.proofs.key.put_answers.Tie as tie
 
 abbrev Inv-loop : tie.InvT-loop
-Inv-loop command fields bytes question key time out₀ at₀ i₀ out at i =
-    Going (flatten (answersOf time bytes key question (wordsIn command fields))) (answersFrom (answerAbout time bytes key question) command fields i) out₀ out at
+Inv-loop command fields bytes asking key hints out₀ at₀ i₀ out at i =
+    Going (flatten (answersOf (asking .time) bytes key (asking .question) (wordsIn command fields))) (answersFrom (answerAbout (asking .time) bytes key (asking .question)) command fields i) out₀ out at
 
 abbrev μ-loop : tie.MeasureT-loop
-μ-loop command fields bytes question key time out₀ at₀ i₀ out at i = length fields - i
+μ-loop command fields bytes asking key hints out₀ at₀ i₀ out at i = length fields - i
 
 loop-holds : tie.Need-loop-holds Inv-loop μ-loop
 unfolding wordsFrom answersFrom
 loop-holds c = going-begins (laid-none _) refl (omega (arith, c .before .before .before .before .pre .2))
 
+-- the hint's place is that of a word
+mul-put-field : tie.Need-mul-put-field Inv-loop μ-loop
+mul-put-field c = omega (arith, c .before .loop-test .taken, c .before .before .before .before .before .before .before .pre .0 .most)
+
+element-copy-out-put-field : tie.Need-element-copy-out-put-field Inv-loop μ-loop
+element-copy-out-put-field c = omega (arith, c .before .loop-test .taken, c .before .before .before .before .before .before .before .pre .0 .most)
+
 sub-put-field : tie.Need-sub-put-field Inv-loop μ-loop
-sub-put-field c = going-start (c .before .before .loop .inv)
+sub-put-field c = going-start (c .before .before .before .loop .inv)
 
 part-put-field-start : tie.Need-part-put-field-start Inv-loop μ-loop
-part-put-field-start c = going-start (c .before .before .loop .inv)
+part-put-field-start c = going-start (c .before .before .before .loop .inv)
 
 put-field-requires : tie.Need-put-field-requires Inv-loop μ-loop
-put-field-requires c κs = let start = c .before .before .before .before .before .before .before .before in (start .pre .1, going-spare (c .before .before .before .loop .inv) answerMost (start .pre .2))
+put-field-requires c κs = let start = c .before .before .before .before .before .before .before .before .before in (start .pre .1, going-spare (c .before .before .before .before .loop .inv) answerMost (start .pre .2))
 
 add-at : tie.Need-add-at Inv-loop μ-loop
-add-at c = omega (arith, going-within (c .before .before .before .before .before .before .loop .inv) (answers-next _ _ _ _ (c .before .before .before .before .before .loop-test .taken) (c .before .before .before .before .word .ensures)) (c .before .before .put-field .ensures))
+add-at c = omega (arith, going-within (c .before .before .before .before .before .before .before .loop .inv) (answers-next _ _ _ _ (c .before .before .before .before .before .before .loop-test .taken) (c .before .before .before .before .before .word .ensures)) (c .before .before .put-field .ensures))
 
 loop-again : tie.Need-loop-again Inv-loop μ-loop
-loop-again c = going-on (c .before .before .before .before .before .before .loop .inv) (answers-next _ _ _ _ (c .before .before .before .before .before .loop-test .taken) (c .before .before .before .before .word .ensures)) (c .before .before .put-field .ensures)
+loop-again c = going-on (c .before .before .before .before .before .before .before .loop .inv) (answers-next _ _ _ _ (c .before .before .before .before .before .before .loop-test .taken) (c .before .before .before .before .before .word .ensures)) (c .before .before .put-field .ensures)
 
 same-length : tie.Need-same-length Inv-loop μ-loop
 same-length c = going-length (c .before .loop .inv)
@@ -53,6 +60,8 @@ put-answers-spec =
     μ-loop
     loop-holds
     (λ c κs. c .before .before .before .before .before .before .pre .0)
+    mul-put-field
+    element-copy-out-put-field
     sub-put-field
     part-put-field-start
     (λ c. search needs)
