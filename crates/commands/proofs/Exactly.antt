@@ -1,25 +1,28 @@
 -- Exactly which refusal a record gets, and exactly what one that is done gives.
 use mathlib.Core.Path.{_≡_, refl, sym, ap, _∙_}
 use mathlib.Core.Logic.{_⊎_, inl, inr, _↔_}
-use mathlib.Core.Bool.{Bool, true, false, _&&_}
+use mathlib.Core.Bool.{Bool, true, false, not, _&&_}
 use mathlib.Core.List.{List, [], _∷_}
-use mathlib.Core.Option.{Option, none, some}
+use mathlib.Core.Option.{Option, none, some, Option·getD}
 use Prim.Native.Nat.{ℕ, _≤_, _<_}
-use lib.Dec.{ltb}
+use lib.Dec.{leb, ltb}
 use native.Mathlib.Omega.{arith}
-use borrow.Author.Tests.{ltb-true}
-use Rattle.wire.specs.Lists.{all}
+use borrow.Author.Tests.{ltb-true, le-leb, lt-leb}
+use Rattle.wire.specs.Lists.{all, isSome, orElse}
+use Rattle.wire.specs.Words.{wordAt, wordsOf}
 use Rattle.wire.proofs.Lists.{and-left, and-right, impossible}
+use Rattle.store.specs.Layout.{timeLimit}
 use Rattle.store.specs.Store.{Store}
 use Rattle.store.specs.Time.{nowAt}
-use Rattle.commands.specs.Refusal.{Check, lowest, earlyMost}
+use Rattle.commands.specs.Refusal.{Check, _when_, lowest, earlyMost}
 use Rattle.commands.specs.Command.{Command, keyOf, fieldsOf}
-use Rattle.commands.specs.Parse.{parse}
+use Rattle.commands.specs.Parse.{Parsed, CommandRow, commands, commandNamed, laterChecks, checks, checksOf, parse}
 use Rattle.commands.specs.Parse.Parsed.{refused, accepted}
 use Rattle.commands.specs.Effect.{changeAll}
 use Rattle.commands.specs.Execute.{swept, lateChecks, Outcome, runOn, run, perform, exec}
-use Rattle.commands.specs.Claims.{Applies, LowestOf}
-use Rattle.commands.proofs.ParseChecks.{lowest-some, lowest-none}
+use Rattle.commands.specs.Claims.{Applies, earlyChecks, LowestOf}
+use Rattle.commands.proofs.ParseChecks.{lowest-some, lowest-none, Reads, reads}
+use Rattle.commands.proofs.ParseChecks.Reads.{damaged, clockOut, unknown, checked, passed}
 use Rattle.commands.proofs.Sweep.{sweep-again}
 use Rattle.commands.proofs.Went.{Went, went, sweptBy, effectOn, storeOf, accepted-refusal}
 use Rattle.commands.proofs.Went.Went.{early, late, done}
@@ -105,6 +108,61 @@ early-exactly clock command s n l = (go (went clock command s), back (went clock
     back (early k p) e = cc
     back (late c k p r) e = impossible cc
     back (done c p r) e = impossible cc
+
+-- the number of a refusal, none of an accepted command
+numberOf : Parsed → Option ℕ
+numberOf (refused n) = some n
+numberOf (accepted c) = none
+
+-- Parsing refuses with the first of the checks 10 to 18 that applies.
+parse-lowest : {now clock : ℕ} {s : List ℕ} {p : Parsed} → Reads now clock s p → lowest (earlyChecks now clock s) ≡ numberOf p
+unfolding earlyChecks lowest orElse isSome numberOf
+parse-lowest (damaged w) = rw w refl
+parse-lowest {now} {clock} (clockOut ws w k) = rw w (rw (le-leb timeLimit clock k) refl)
+parse-lowest {now} {clock} (unknown ws w k m) = rw w (rw (lt-leb timeLimit clock k) (rw m refl))
+parse-lowest {now} {clock} (checked ws r n w k m l) = rw w (rw (lt-leb timeLimit clock k) (rw m l))
+parse-lowest {now} {clock} (passed ws r w k m l) = rw w (rw (lt-leb timeLimit clock k) (rw m l))
+
+early-ascending : (now clock : ℕ) (s : List ℕ) → ascending (earlyChecks now clock s) ≡ true
+unfolding earlyChecks checks laterChecks ascending all orElse
+early-ascending now clock s = go (commandNamed commands (wordAt 0 (Option·getD (wordsOf s) [])))
+  where
+    go : (row : Option CommandRow)
+        → ascending
+        (10 when not (isSome (wordsOf s))
+        ∷ 11 when leb timeLimit clock
+        ∷ 12 when not (isSome row)
+        ∷ orElse row [] (λ r. checksOf now r (Option·getD (wordsOf s) []))) ≡ true
+    go none = refl
+    go (some r) = refl
+
+-- They are given exactly as their checks say: the lowest that applies.
+pub early-lowest : (clock : ℕ) (command : List ℕ) (s : Store) (n : ℕ) → n ≤ earlyMost
+    → (exec clock command s .refusal ≡ some n) ↔ LowestOf (earlyChecks (nowAt clock s) clock command) n
+unfolding numberOf
+early-lowest clock command s n l = (λ e. both .0 (there (early .0 e)), λ m. early .1 (back (both .1 m)))
+  where
+    early : (exec clock command s .refusal ≡ some n) ↔ (parse (nowAt clock s) clock command ≡ refused n)
+    early = early-exactly clock command s n l
+
+    cs : List Check
+    cs = earlyChecks (nowAt clock s) clock command
+
+    both : (lowest cs ≡ some n) ↔ LowestOf cs n
+    both = lowest-exactly cs n (early-ascending (nowAt clock s) clock command)
+
+    given : lowest cs ≡ numberOf (parse (nowAt clock s) clock command)
+    given = parse-lowest (reads (nowAt clock s) clock command)
+
+    there : parse (nowAt clock s) clock command ≡ refused n → lowest cs ≡ some n
+    there e = given ∙ ap numberOf e
+
+    refusing : (p : Parsed) → numberOf p ≡ some n → p ≡ refused n
+    refusing (refused k) e = cc
+    refusing (accepted c) e = impossible cc
+
+    back : lowest cs ≡ some n → parse (nowAt clock s) clock command ≡ refused n
+    back e = refusing (parse (nowAt clock s) clock command) (sym given ∙ e)
 
 -- 20 to 24 are given exactly as their checks say: the lowest that applies.
 pub late-exactly : (clock : ℕ) (command : List ℕ) (s : Store) (c : Command) → parse (nowAt clock s) clock command ≡ accepted c → (n : ℕ)

@@ -28,14 +28,14 @@ use Rattle.commands.specs.Refusal.{bufferLeast, errorLine}
 use Rattle.commands.specs.Command.{Command}
 use Rattle.commands.specs.Command.Command.{onField}
 use Rattle.commands.specs.Parse as P
-use Rattle.commands.specs.Parse.{commands, commandNamed, countFits, parse}
+use Rattle.commands.specs.Parse.{commands, commandNamed, countFits, parse, scannedOf, saidBy}
 use Rattle.commands.specs.Parse.Parsed.{refused, accepted}
 use Rattle.commands.specs.Execute.{runOn, run, perform, exec, execBytes}
 use Rattle.commands.specs.TablePromises.{leastOf}
 use Rattle.commands.specs.ParsePromises.{Divided, meant, deedOf, commandFor, isRefusal}
 use Rattle.commands.specs.Promises.{Does, Replied, Opened, WithinLimits}
 use Rattle.commands.proofs.Acts.{holds-self}
-use Rattle.commands.proofs.ParseChecks.{checks-clear, scannedOf, saidBy, parse-known, parse-accepted}
+use Rattle.commands.proofs.ParseChecks.{checks-clear, parse-known, parse-accepted}
 use Rattle.commands.proofs.Sound.{parse-clock}
 use Rattle.commands.proofs.Keeps.{now-early}
 

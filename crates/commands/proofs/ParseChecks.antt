@@ -15,8 +15,8 @@ use Rattle.wire.specs.Words.{Word, wordsOf, wordAt}
 use Rattle.store.specs.Layout.{timeLimit}
 use Rattle.commands.specs.Refusal.{table, earlyLeast, earlyMost, Check, _when_, lowest}
 use Rattle.commands.specs.Command.{Command}
-use Rattle.commands.specs.Options.{Given, scan, conflicting, readable, readableOperand}
-use Rattle.commands.specs.Parse.{Form, Count, CommandRow, Parsed, commands, commandNamed, countFits, allowed, optionWords, numberRange, build, tooLong, isZero, deedVersioning, beyond, deedLifetime, onDeed, laterChecks, checks, parseWords, parse}
+use Rattle.commands.specs.Options.{Given, conflicting, readable, readableOperand}
+use Rattle.commands.specs.Parse.{Form, Count, CommandRow, Parsed, commands, commandNamed, countFits, numberRange, tooLong, isZero, deedVersioning, beyond, deedLifetime, onDeed, laterChecks, checks, scannedOf, saidBy, checksOf, parseWords, parse}
 use Rattle.commands.specs.Parse.Parsed.{refused, accepted}
 use Rattle.commands.specs.ParsePromises.{isRefusal}
 
@@ -103,16 +103,6 @@ checks-clear form count ws scanned c h =
     record { counted = a .0; short = b .0; clean = d .0; readable = e .0; versioned = f .0; timed = g .0 }
 
 -- ---- the ways in which a command is read
-
--- the options that a command of a form gives, none where they are damaged, and what the command says with them
-abbrev pub scannedOf : Form → List Word → Option (List Given)
-scannedOf f ws = scan (allowed f) none (optionWords f ws)
-
-abbrev pub saidBy : ℕ → Form → List Word → Command
-saidBy now f ws = build now f ws (Option·getD (scannedOf f ws) [])
-
-abbrev pub checksOf : ℕ → CommandRow → List Word → List Check
-checksOf now r ws = checks (r .form) (r .count) ws (scannedOf (r .form) ws) (saidBy now (r .form) ws)
 
 -- not the protocol's array, the clock out of range, no command of that name, refused by 13 to 18, or accepted
 pub data Reads (now clock : ℕ) (s : List ℕ) : Parsed → Type 0 where

@@ -38,12 +38,11 @@ use Rattle.commands.specs.Command.{Deed, Command}
 use Rattle.commands.specs.Command.Deed.{persist, ask}
 use Rattle.commands.specs.Command.Command.{onField, setMany, getMany, delete, countLive, countHeld, list}
 use Rattle.commands.specs.Options.{signed64, expiryGroup, conditionGroup, versionGroup, minGroup, maxGroup, noExpGroup, operandRange, scan, conflicting, givenOf, readIn, readable, numberIn, naturalIn, instant, boundIn}
-use Rattle.commands.specs.Parse.{Form, allowed, optionWords, numberRange, pairsOf, build, isZero, deedVersioning, beyond, deedLifetime, onDeed}
+use Rattle.commands.specs.Parse.{Form, allowed, optionWords, numberRange, pairsOf, build, isZero, deedVersioning, beyond, deedLifetime, onDeed, saidBy}
 use Rattle.commands.specs.Parse.Form.{setForm, setManyForm, incrementForm, expireForm, persistForm, renumberForm, askForm, getManyForm, deleteForm, countForm, listForm}
 use Rattle.commands.specs.Parse.Parsed.{accepted}
 use Rattle.commands.specs.TablePromises.{listFamily, listingOf, firstForms, formOf, commandData, familyAt, argumentAt, commandOf, kindIn, unitOf}
 use Rattle.commands.specs.ParsePromises.{notGiven, givenAt, instantIn, readOf, versionedFor, termsFor, conditionFor, onInteger, sumFor, lowestSigned, highestSigned, boundGiven, sumOf, parseRest, deedOf, commandFor, meant}
-use Rattle.commands.proofs.ParseChecks.{saidBy}
 use Rattle.commands.proofs.TableRows.{row-form}
 use Rattle.commands.proofs.OperandWords.{instant-read}
 use Rattle.commands.proofs.OptionScanning.{option-some, option-none}

@@ -20,11 +20,11 @@ use Rattle.commands.specs.Refusal.{lowest}
 use Rattle.commands.specs.Command.{Command}
 use Rattle.commands.specs.Options.{Given}
 use Rattle.commands.specs.Parse as P
-use Rattle.commands.specs.Parse.{commands, commandNamed, countFits, build, tooLong, laterChecks, checks, parseWords}
+use Rattle.commands.specs.Parse.{commands, commandNamed, countFits, build, tooLong, laterChecks, checks, parseWords, scannedOf, saidBy}
 use Rattle.commands.specs.Parse.Parsed.{refused}
 use Rattle.commands.specs.TablePromises.{commandTable, commandOf}
 use Rattle.commands.specs.ParsePromises.{Divided, parseRest, meant}
-use Rattle.commands.proofs.ParseChecks.{check-applies, check-passed, scannedOf, saidBy}
+use Rattle.commands.proofs.ParseChecks.{check-applies, check-passed}
 use Rattle.commands.proofs.TableRows.{command-row}
 use Rattle.commands.proofs.Parsing.{givenIn}
 

@@ -32,11 +32,11 @@ use Rattle.commands.specs.declared.Parsed.the-variants as parses
 use Rattle.commands.specs.Refusal.{lowest}
 use Rattle.commands.specs.Options.{Given, _with_, signed64, expiryGroup, conditionGroup, versionGroup, groupCount, operandRange, scan, conflicting, givenOf, readIn, readable, numberIn, readableOperand, conditionOf, lifetime, versioning, condition, boundIn}
 use Rattle.commands.specs.Options.OptionKind.{bound}
-use Rattle.commands.specs.Parse.{Form, allowed, optionWords, numberRange, isZero, deedVersioning, beyond, deedLifetime, onDeed, laterChecks}
+use Rattle.commands.specs.Parse.{Form, allowed, optionWords, numberRange, isZero, deedVersioning, beyond, deedLifetime, onDeed, laterChecks, scannedOf, saidBy}
 use Rattle.commands.specs.Parse.Parsed.{refused, accepted}
 use Rattle.commands.specs.TablePromises.{kindIn}
 use Rattle.commands.specs.ParsePromises.{notGiven, numbered, optionAt, givenAt, Scanned, lifetimeBy, versionBy, readOf, timedFor, versionedFor, termChecks, termsFor, conditionFor, boundFor, boundGiven, parseRest, meant}
-use Rattle.commands.proofs.ParseChecks.{check-applies, check-passed, checks-end, scannedOf, saidBy}
+use Rattle.commands.proofs.ParseChecks.{check-applies, check-passed, checks-end}
 use Rattle.commands.proofs.OptionScanning.{option-some, option-none}
 use Rattle.commands.proofs.OptionsOneEach.{scan-allowed, all-groups}
 

@@ -17,12 +17,12 @@ use Rattle.store.specs.Store.{Entry, Slot, Store}
 use Rattle.store.specs.Time.{nowAt, live}
 use Rattle.commands.specs.Refusal.{RefusalRow, table, earlyLeast, earlyMost, lateLeast, lateMost, lineIn, errorLine, lowest}
 use Rattle.commands.specs.Command.{Command, keyOf, fieldsOf}
-use Rattle.commands.specs.Parse.{Parsed, parse}
+use Rattle.commands.specs.Parse.{Parsed, parse, scannedOf, saidBy}
 use Rattle.commands.specs.Parse.Parsed.{refused, accepted}
 use Rattle.commands.specs.Effect.{Effect}
 use Rattle.commands.specs.Execute.{lateChecks, Outcome, perform, exec}
 use Rattle.commands.specs.ParsePromises.{isRefusal}
-use Rattle.commands.proofs.ParseChecks.{lowest-number, lowest-between, checks-number, scannedOf, saidBy, Reads, reads, parse-refused, parse-known}
+use Rattle.commands.proofs.ParseChecks.{lowest-number, lowest-between, checks-number, Reads, reads, parse-refused, parse-known}
 use Rattle.commands.proofs.ParseChecks.Reads.{damaged, clockOut, unknown, checked, passed}
 use Rattle.commands.proofs.Sweep.{sweep-keeps-live}
 use Rattle.commands.proofs.Went.{Went, went, storeOf, sweptBy, effectOn, lateRefusal}

@@ -20,10 +20,10 @@ use Rattle.commands.specs.Command.Deed.{assign}
 use Rattle.commands.specs.Command.Command.{onField, countHeld, countLive}
 use Rattle.commands.specs.Options.{Given, givenOf, noExpGroup, lifetime, condition, versioning}
 use Rattle.commands.specs.Promises.{fieldsMost}
-use Rattle.commands.specs.Parse.{Form, pairsOf, build, tooLong, beyond, deedLifetime, onDeed, parse}
+use Rattle.commands.specs.Parse.{Form, pairsOf, build, tooLong, beyond, deedLifetime, onDeed, parse, scannedOf, saidBy}
 use Rattle.commands.specs.Parse.Form.{setForm, setManyForm, incrementForm, expireForm, persistForm, renumberForm, askForm, getManyForm, deleteForm, countForm, listForm}
 use Rattle.commands.specs.Parse.Parsed.{accepted}
-use Rattle.commands.proofs.ParseChecks.{checks-clear, Accepted, parse-accepted, scannedOf, saidBy}
+use Rattle.commands.proofs.ParseChecks.{checks-clear, Accepted, parse-accepted}
 
 -- a word of at most so many bytes
 pub record Bounded (most : ℕ) (w : Word) : Type 0 where

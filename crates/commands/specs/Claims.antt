@@ -1,18 +1,21 @@
 -- What the claims about commands speak of.
 use mathlib.Core.Path.{_≡_}
 use mathlib.Core.Logic.{_⊎_}
-use mathlib.Core.Bool.{Bool, true, false, cond, _&&_}
+use mathlib.Core.Bool.{Bool, true, false, cond, not, _&&_}
 use mathlib.Core.List.{List, [], _∷_}
-use mathlib.Core.Option.{Option, none, some}
+use mathlib.Core.Option.{Option, none, some, Option·getD}
 use Prim.Native.Nat.{ℕ, _≤_}
-use Rattle.wire.specs.Lists.{any, orElse}
+use lib.Dec.{leb}
+use Rattle.wire.specs.Lists.{any, isSome, orElse}
 use Rattle.wire.specs.Bytes.{same}
-use Rattle.wire.specs.Words.{Word}
+use Rattle.wire.specs.Words.{Word, wordAt, wordsOf}
+use Rattle.store.specs.Layout.{timeLimit}
 use Rattle.store.specs.declared.Expiry.the-variants.{Never}
 use Rattle.store.specs.Store.{Entry, Slot, Store}
 use Rattle.store.specs.Time.{entryOf}
-use Rattle.commands.specs.Refusal.{Check}
+use Rattle.commands.specs.Refusal.{Check, _when_}
 use Rattle.commands.specs.Command.{Pair, Command, keyOf, fieldsOf}
+use Rattle.commands.specs.Parse.{CommandRow, commands, commandNamed, checksOf}
 use Rattle.commands.specs.Effect.{Effect}
 use Rattle.commands.specs.Execute.{passes, exec}
 
@@ -20,6 +23,16 @@ use Rattle.commands.specs.Execute.{passes, exec}
 unfoldable pub Applies : ℕ → List Check → Type 0
 Applies n [] = ⊥
 Applies n (c ∷ cs) = ((c .number ≡ n) × (c .applies ≡ true)) ⊎ Applies n cs
+
+-- "10: not RESP as above; 11: record clock 4,102,444,800,000 or more; 12: unknown name"; then 13 to 18 of a command whose name is known
+unfoldable pub earlyChecks : ℕ → ℕ → List ℕ → List Check
+earlyChecks now clock s =
+    let ws : List Word = Option·getD (wordsOf s) [] in
+    let row : Option CommandRow = commandNamed commands (wordAt 0 ws) in
+    10 when not (isSome (wordsOf s))
+    ∷ 11 when leb timeLimit clock
+    ∷ 12 when not (isSome row)
+    ∷ orElse row [] (λ r. checksOf now r ws)
 
 -- "The lowest number that applies"
 pub record LowestOf (cs : List Check) (n : ℕ) : Type 0 where

@@ -233,16 +233,24 @@ checks form count ws scanned c =
     ∷ 14 when tooLong c
     ∷ laterChecks form ws scanned c
 
+-- the options that a command of a form gives, none where they are damaged, and what the command says with them
+abbrev pub scannedOf : Form → List Word → Option (List Given)
+scannedOf f ws = scan (allowed f) none (optionWords f ws)
+
+abbrev pub saidBy : ℕ → Form → List Word → Command
+saidBy now f ws = build now f ws (Option·getD (scannedOf f ws) [])
+
+-- the checks 13 to 18 of a command of a row
+abbrev pub checksOf : ℕ → CommandRow → List Word → List Check
+checksOf now r ws = checks (r .form) (r .count) ws (scannedOf (r .form) ws) (saidBy now (r .form) ws)
+
 -- a command, or the number of the refusal
 pub data Parsed : Type 0 where
   refused : ℕ → Parsed
   accepted : Command → Parsed
 
 unfoldable pub parseWords : ℕ → CommandRow → List Word → Parsed
-parseWords now r ws =
-    let scanned : Option (List Given) = scan (allowed (r .form)) none (optionWords (r .form) ws) in
-    let c : Command = build now (r .form) ws (Option·getD scanned []) in
-    orElse (lowest (checks (r .form) (r .count) ws scanned c)) (accepted c) refused
+parseWords now r ws = orElse (lowest (checksOf now r ws)) (accepted (saidBy now (r .form) ws)) refused
 
 -- 10: "not RESP as above"; 11: "record clock 4,102,444,800,000 or more"; 12: "unknown name"
 unfoldable pub parse : ℕ → ℕ → List ℕ → Parsed

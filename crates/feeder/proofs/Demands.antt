@@ -29,11 +29,11 @@ use Rattle.commands.specs.Parse.{parse}
 use Rattle.commands.specs.Parse.Parsed.{refused, accepted}
 use Rattle.commands.specs.Effect.{effect, changeAll}
 use Rattle.commands.specs.Execute.{sweep, swept, room, added, lateChecks, exec, execBytes}
-use Rattle.commands.specs.Claims.{LowestOf, Proper, names, lastOf, Written, Step, execAll}
+use Rattle.commands.specs.Claims.{earlyChecks, LowestOf, Proper, names, lastOf, Written, Step, execAll}
 use Rattle.commands.specs.Examples.{given, expected, markedExamples, workedCases, commandCases}
 use Rattle.commands.proofs.Examples as commandExamples
 use Rattle.commands.proofs.Refused.{protocol-exactly, refusal-number, refusal-row, late-refusal, refused-keeps-live}
-use Rattle.commands.proofs.Exactly.{early-exactly, late-exactly, done-gives, dead-as-missing}
+use Rattle.commands.proofs.Exactly.{early-exactly, early-lowest, late-exactly, done-gives, dead-as-missing}
 use Rattle.commands.proofs.Sweep.{room-sweep}
 use Rattle.commands.proofs.Others.{others-kept, others-from}
 use Rattle.commands.proofs.AllOrNone.{all-set}
@@ -92,6 +92,11 @@ protocol-exactly-if = protocol-exactly
 pub early-exactly-if : (clock : ℕ) (command : List ℕ) (s : Store) (n : ℕ) → n ≤ earlyMost
     → (exec clock command s .refusal ≡ some n) ↔ (parse (nowAt clock s) clock command ≡ refused n)
 early-exactly-if = early-exactly
+
+-- That number is the lowest of 10 to 18 that applies.
+pub early-lowest-if : (clock : ℕ) (command : List ℕ) (s : Store) (n : ℕ) → n ≤ earlyMost
+    → (exec clock command s .refusal ≡ some n) ↔ LowestOf (earlyChecks (nowAt clock s) clock command) n
+early-lowest-if = early-lowest
 
 -- Of a command that passes them the refusal is the lowest number of 20 to 24 that applies.
 pub late-exactly-if : (clock : ℕ) (command : List ℕ) (s : Store) (c : Command) → parse (nowAt clock s) clock command ≡ accepted c
