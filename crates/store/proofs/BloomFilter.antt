@@ -4,10 +4,10 @@ use mathlib.Core.Bool.{Bool, true, false, cond, not, and-true, and-false}
 use mathlib.Core.List.{List, [], _∷_}
 use mathlib.Core.Option.{none, some, Option·none-ne-some}
 use Prim.Native.Nat.{ℕ, zero, suc, _+_, _-_, _*_, _/_, _%_, _^_, _≤_, _<_, max}
-use native.Mathlib.Nat.{one-mul, mul-le-mul-right}
+use native.Mathlib.Nat.{one-mul}
 use native.Mathlib.Omega.{arith}
 use lib.Arith.{bin-ind, digits-mod}
-use lib.Bits.{bitOr, or-step, or-comm, or-self, or-shr}
+use lib.Bits.{bitOr, bitAnd, and-le-r, or-step, or-comm, or-self, or-shr}
 use lib.Dec.{eqb, lit<}
 use lib.ListN.{length, drop, getD, set, length-set, length-drop, drop-of-length-le}
 use lib.Pow.{shl-exact}
@@ -19,7 +19,7 @@ use Rattle.wire.proofs.Lists.{any-none, and-right, both-ways}
 use Rattle.store.specs.Layout.{headerSize, slotSize, stateAt, emptyState, keyMost, fieldMost}
 use Rattle.store.specs.Store.{Entry, Slot, decodeEntry, decodeSlot, encodeEntry, encodeSlot, slotsIn, slotWell, holds, clash, distinct}
 use Rattle.store.specs.Time.{emptySlot}
-use Rattle.store.specs.Promises.{SlotBytes, HeldBytes, slotAt, slotsOf, SlotsWell, slotsGood, keyWord, fieldWord, halvesSum, spreadOf, nameHash, FilterSize, wordOf, bitsOf, mayContain, withName, withSlotName, Covered, Turn, Turned}
+use Rattle.store.specs.Promises.{SlotBytes, HeldBytes, slotAt, slotsOf, SlotsWell, slotsGood, keySum, fieldSum, spreadOf, nameHash, FilterSize, wordOf, bitsOf, mayContain, withName, withSlotName, Covered, Turn, Turned}
 use Rattle.store.specs.Valid.{Fits, FitsSlot}
 use Rattle.store.proofs.Slots.{Named, holds-named, none-clash, clash-none}
 use Rattle.store.proofs.SlotBytes.{key-bytes, field-bytes}
@@ -39,7 +39,7 @@ module _ (t : List ℕ) (w : SlotBytes t) (e : Entry) (h : decodeSlot t ≡ some
   entry-back = ap encodeSlot (sym h) ∙ encode-decodeSlot t (w .size) (w .bytes) (w .well)
 
   -- a slot's name is that of its entry's key and field
-  name-entry : nameHash t ≡ spreadOf (keyWord (padded keyMost (e .key))) (fieldWord (padded fieldMost (e .field)))
+  name-entry : nameHash t ≡ spreadOf (keySum (padded keyMost (e .key))) (fieldSum (padded fieldMost (e .field)))
   unfolding nameHash
   name-entry = rw (← entry-back, key-bytes e entry-fits, field-bytes e entry-fits)
 
@@ -50,25 +50,6 @@ unfolding clash orElse
 clash-name t u v w d e p q h =
     let n : Named (d .key) (d .field) e = holds-named (d .key) (d .field) e h in
     rw (name-entry t v d p, name-entry u w e q, n .key, n .field)
-
--- the halves of two words, each times its factor, add up to a word
-halves-low : (x : ℕ) → x < 2 ^ 64 → x % 2 ^ 32 * 0x21db208f + x / 2 ^ 32 * 0x3d1c4bb3 < 2 ^ 63
-halves-low x l = omega arith
-
-halves-high : (y : ℕ) → y < 2 ^ 64 → y % 2 ^ 32 * 0x303ce9df + y / 2 ^ 32 * 0x26deceb9 < 2 ^ 63
-halves-high y l = omega arith
-
-add-fit : {a b : ℕ} → a < 2 ^ 63 → b < 2 ^ 63 → a + b < 2 ^ 64
-add-fit l k = omega arith
-
-pub halves-fit : (x y : ℕ) → x < 2 ^ 64 → y < 2 ^ 64 → halvesSum x y < 2 ^ 64
-unfolding halvesSum
-halves-fit x y l k = add-fit (halves-low x l) (halves-high y k)
-
--- a name's number is below 2 ^ 32
-pub hash-below : (t : List ℕ) → nameHash t < 2 ^ 32
-unfolding nameHash spreadOf
-hash-below t = omega arith
 
 -- ---- bits
 
@@ -111,13 +92,13 @@ bit-word a = shl-exact 1 (a % 64) 64 (lit< tt) (omega arith) ∙ one-mul (2 ^ (a
 
 module _ (name : ℕ) (m : List ℕ) where
   -- whether a name's bits are set, and the filter with them, by shifted ones
-  pub name-told : eqb (bitOr (getD m (name * length m / 2 ^ 32) 0) (bitOr (1 * 2 ^ (name % 64) % 2 ^ 64) (1 * 2 ^ (name / 64 % 64) % 2 ^ 64))) (getD m (name * length m / 2 ^ 32) 0) ≡ mayContain name m
+  pub name-told : eqb (bitOr (getD m (bitAnd name (length m - 1)) 0) (bitOr (1 * 2 ^ (name / 1024 % 64) % 2 ^ 64) (1 * 2 ^ (name / 65536 % 64) % 2 ^ 64))) (getD m (bitAnd name (length m - 1)) 0) ≡ mayContain name m
   unfolding mayContain wordOf bitsOf
-  name-told = rw (bit-word name, bit-word (name / 64))
+  name-told = rw (bit-word (name / 1024), bit-word (name / 65536))
 
-  pub name-written : set m (name * length m / 2 ^ 32) (bitOr (getD m (name * length m / 2 ^ 32) 0) (bitOr (1 * 2 ^ (name % 64) % 2 ^ 64) (1 * 2 ^ (name / 64 % 64) % 2 ^ 64))) ≡ withName name m
+  pub name-written : set m (bitAnd name (length m - 1)) (bitOr (getD m (bitAnd name (length m - 1)) 0) (bitOr (1 * 2 ^ (name / 1024 % 64) % 2 ^ 64) (1 * 2 ^ (name / 65536 % 64) % 2 ^ 64))) ≡ withName name m
   unfolding withName wordOf bitsOf
-  name-written = rw (bit-word name, bit-word (name / 64))
+  name-written = rw (bit-word (name / 1024), bit-word (name / 65536))
 
   -- the words are as many
   length-insert : length (withName name m) ≡ length m
@@ -138,26 +119,20 @@ module _ (name : ℕ) (m : List ℕ) where
   unfolding mayContain
   insert-keeps other h = rw (word-same other) (eq-eqb _ _ (bits-keep other (eqb-true _ _ h)))
 
-  module _ (below : name < 2 ^ 32) (size : FilterSize m) where
-    most-name : name * length m ≤ 4294967295 * length m
-    most-name = mul-le-mul-right (length m) (omega arith)
+  module _ (size : FilterSize m) where
+    -- the word's number lies in the filter
+    pub place-inside : bitAnd name (length m - 1) < length m
+    place-inside = omega (arith, and-le-r name (length m - 1), size .least)
 
-    -- the word's number is a word, and lies in the filter
-    pub place-fits : name * length m < 2 ^ 64
-    place-fits = omega (arith, most-name, size .most)
-
-    pub place-inside : name * length m / 2 ^ 32 < length m
-    place-inside = omega (arith, most-name, size .least)
-
-    pub place-scaled : name * length m / 2 ^ 32 * 8 < 2 ^ 64
+    pub place-scaled : bitAnd name (length m - 1) * 8 < 2 ^ 64
     place-scaled = omega (arith, place-inside, size .most)
 
     -- the name has its own bits
     own-bits : bitOr (getD (withName name m) (wordOf name m) 0) (bitsOf name) ≡ getD (withName name m) (wordOf name m) 0
     unfolding withName wordOf
     own-bits =
-        rw (getD-set-same m (name * length m / 2 ^ 32) (bitOr (getD m (name * length m / 2 ^ 32) 0) (bitsOf name)) 0 place-inside)
-        (or-join (getD m (name * length m / 2 ^ 32) 0) (bitsOf name) (bitsOf name) ∙ ap (bitOr (getD m (name * length m / 2 ^ 32) 0)) (or-self (bitsOf name)))
+        rw (getD-set-same m (bitAnd name (length m - 1)) (bitOr (getD m (bitAnd name (length m - 1)) 0) (bitsOf name)) 0 place-inside)
+        (or-join (getD m (bitAnd name (length m - 1)) 0) (bitsOf name) (bitsOf name) ∙ ap (bitOr (getD m (bitAnd name (length m - 1)) 0)) (or-self (bitsOf name)))
 
     insert-has : mayContain name (withName name m) ≡ true
     unfolding mayContain
@@ -220,13 +195,13 @@ module _ (count : ℕ) (b : List ℕ) (i : ℕ) (m : List ℕ) (c : Turn count b
   covered-again = record { size = size; names = names }
     where
       size : FilterSize (withSlotName (slotAt b i) m)
-      size = insert-either (slotAt b i) m (λ (l : List ℕ). FilterSize l) (c .covered .size) (length-kept (nameHash (slotAt b i)) m (hash-below (slotAt b i)) (c .covered .size))
+      size = insert-either (slotAt b i) m (λ (l : List ℕ). FilterSize l) (c .covered .size) (length-kept (nameHash (slotAt b i)) m (c .covered .size))
 
       keeps : (name : ℕ) → mayContain name m ≡ true → mayContain name (withSlotName (slotAt b i) m) ≡ true
       keeps name h = insert-either (slotAt b i) m (λ (l : List ℕ). mayContain name l ≡ true) h (insert-keeps (nameHash (slotAt b i)) m name h)
 
       own : (getD (slotAt b i) stateAt 0 ≡ emptyState → ⊥) → mayContain (nameHash (slotAt b i)) (withSlotName (slotAt b i) m) ≡ true
-      own h = rw (← insert-held (slotAt b i) m h) (insert-has (nameHash (slotAt b i)) m (hash-below (slotAt b i)) (c .covered .size))
+      own h = rw (← insert-held (slotAt b i) m h) (insert-has (nameHash (slotAt b i)) m (c .covered .size))
 
       go : (j : ℕ) → i ≤ j → j < count → (getD (slotAt b j) stateAt 0 ≡ emptyState → ⊥) → (x : Bool) → eqb i j ≡ x
           → mayContain (nameHash (slotAt b j)) (withSlotName (slotAt b i) m) ≡ true

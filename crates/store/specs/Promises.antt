@@ -4,7 +4,7 @@ use mathlib.Core.Bool.{Bool, true, false, cond, _&&_}
 use mathlib.Core.List.{List, _∷_, map, _++_}
 use mathlib.Core.Option.{Option, none, some, Option·map}
 use Prim.Native.Nat.{ℕ, _+_, _-_, _*_, _/_, _%_, _^_, _≤_, _<_}
-use lib.Bits.{bitOr, bitXor}
+use lib.Bits.{bitAnd, bitOr, bitXor}
 use lib.Dec.{eqb}
 use lib.ListN.{length, drop, getD, set}
 use Rattle.wire.specs.Lists.{every, all, any, orElse}
@@ -58,30 +58,27 @@ pub record SlotsWell (count : ℕ) (b : List ℕ) (from : ℕ) : Type 0 where
 unfoldable pub slotsGood : ℕ → List ℕ → Bool
 slotsGood count b = all slotWell (slotsIn count (drop headerSize b)) && distinct (slotsOf count b)
 
--- a word rotated to the left by k bits
-unfoldable pub rotated : ℕ → ℕ → ℕ
-rotated k n = bitOr (n * 2 ^ k % 2 ^ 64) (n / 2 ^ (64 - k))
+-- the bits of two halves of words of a place
+unfoldable pub halvesAt : ℕ → ℕ → List ℕ → ℕ
+halvesAt i j s = bitXor (fromLE (part i 4 s)) (fromLE (part j 4 s)) % 2 ^ 32
 
--- the words of a key and of a field, padded to their places, each as one
-unfoldable pub keyWord : List ℕ → ℕ
-keyWord k = bitXor (fromLE (part 0 8 k)) (rotated 4 (fromLE (part 8 8 k)))
+-- the halves of a key and of a field, padded to their places, each times its factor
+unfoldable pub keySum : List ℕ → ℕ
+keySum k = halvesAt 0 8 k * 0x11db208f + halvesAt 4 12 k * 0x1d1c4bb3
 
-unfoldable pub fieldWord : List ℕ → ℕ
-fieldWord f =
-    bitXor
-    (bitXor (fromLE (part 0 8 f)) (rotated 4 (fromLE (part 8 8 f))))
-    (bitXor (rotated 2 (fromLE (part 16 8 f))) (rotated 6 (fromLE (part 24 8 f))))
+unfoldable pub fieldSum : List ℕ → ℕ
+fieldSum f =
+    halvesAt 0 16 f * 0x103ce9df
+    + halvesAt 4 20 f * 0x16deceb9
+    + (halvesAt 8 24 f * 0x1a6b3c95 + halvesAt 12 28 f * 0x13579bdf)
 
--- two words as one number below 2 ^ 32: the sum of their halves, each times its factor, with what is high in it brought down
-unfoldable pub halvesSum : ℕ → ℕ → ℕ
-halvesSum x y = x % 2 ^ 32 * 0x21db208f + x / 2 ^ 32 * 0x3d1c4bb3 + (y % 2 ^ 32 * 0x303ce9df + y / 2 ^ 32 * 0x26deceb9)
-
+-- a number below 2 ^ 32 of two sums, with what is high in them brought down
 unfoldable pub spreadOf : ℕ → ℕ → ℕ
-spreadOf x y = bitXor (halvesSum x y) (halvesSum x y / 2 ^ 31) % 2 ^ 32
+spreadOf x y = bitXor (x + y) ((x + y) / 2 ^ 31) % 2 ^ 32
 
 -- a number of a slot's key and field
 unfoldable pub nameHash : List ℕ → ℕ
-nameHash t = spreadOf (keyWord (part keyAt keyMost t)) (fieldWord (part fieldAt fieldMost t))
+nameHash t = spreadOf (keySum (part keyAt keyMost t)) (fieldSum (part fieldAt fieldMost t))
 
 -- The names seen are kept in a Bloom filter: the hash of each sets two bits of one of its words.
 pub record FilterSize (m : List ℕ) : Type 0 where
@@ -89,10 +86,10 @@ pub record FilterSize (m : List ℕ) : Type 0 where
   pub most : length m ≤ 512
 
 unfoldable pub wordOf : ℕ → List ℕ → ℕ
-wordOf name m = name * length m / 2 ^ 32
+wordOf name m = bitAnd name (length m - 1)
 
 unfoldable pub bitsOf : ℕ → ℕ
-bitsOf name = bitOr (2 ^ (name % 64)) (2 ^ (name / 64 % 64))
+bitsOf name = bitOr (2 ^ (name / 1024 % 64)) (2 ^ (name / 65536 % 64))
 
 -- a name's bits are set where setting them changes nothing
 unfoldable pub mayContain : ℕ → List ℕ → Bool

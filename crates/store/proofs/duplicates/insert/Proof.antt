@@ -1,23 +1,20 @@
 use denote.Ref.{now}
-use Rattle.store.proofs.BloomFilter.{place-fits, place-scaled, place-inside, name-told, name-written}
+use Rattle.store.proofs.BloomFilter.{place-scaled, place-inside, name-told, name-written}
 use borrow.Author.Needs.{needs}
 use Rattle.store.proofs.duplicates.insert.Statement.{statement}
 use Rattle.store.proofs.duplicates.insert.Tie as tie
 
-mul-i : tie.Need-mul-i
-mul-i c = record { fits = place-fits (c .args .name) (now (c .args .filter)) (c .pre .1) (c .pre .0) }
-
 mul-old : tie.Need-mul-old
-mul-old c = record { fits = place-scaled (c .args .name) (now (c .args .filter)) (c .pre .1) (c .pre .0) }
+mul-old c = record { fits = place-scaled (c .args .name) (now (c .args .filter)) (c .pre) }
 
 slice-read-old : tie.Need-slice-read-old
-slice-read-old c = place-inside (c .before .args .name) (now (c .before .args .filter)) (c .before .pre .1) (c .before .pre .0)
+slice-read-old c = place-inside (c .before .args .name) (now (c .before .args .filter)) (c .before .pre)
 
 mul-filter : tie.Need-mul-filter
-mul-filter c = record { fits = place-scaled (c .before .args .name) (now (c .before .args .filter)) (c .before .pre .1) (c .before .pre .0) }
+mul-filter c = record { fits = place-scaled (c .before .args .name) (now (c .before .args .filter)) (c .before .pre) }
 
 slice-write-filter : tie.Need-slice-write-filter
-slice-write-filter c = place-inside (c .before .args .name) (now (c .before .args .filter)) (c .before .pre .1) (c .before .pre .0)
+slice-write-filter c = place-inside (c .before .args .name) (now (c .before .args .filter)) (c .before .pre)
 
 returns : tie.Need-returns
 returns c = (name-told (c .before .args .name) (now (c .before .args .filter)), name-written (c .before .args .name) (now (c .before .args .filter)))
@@ -26,7 +23,7 @@ pub insert-spec : {M : Type 1} → statement M
 insert-spec =
     tie.close
     (tie.spec
-    mul-i
+    (λ c. search needs)
     (λ c. search needs)
     (λ c. search needs)
     mul-old

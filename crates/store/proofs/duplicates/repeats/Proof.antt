@@ -2,7 +2,7 @@ use mathlib.Core.Path.{sym, _∙_}
 use borrow.Author.Tests.{not-true}
 use native.Mathlib.Omega.{arith}
 use Rattle.store.proofs.StoreChecks.{slot-size, slots-later}
-use Rattle.store.proofs.BloomFilter.{hash-below, turn-empty, turn-new, turn-contained, held-bytes}
+use Rattle.store.proofs.BloomFilter.{turn-empty, turn-new, turn-contained, held-bytes}
 use borrow.Author.Needs.{needs}
 use Rattle.store.proofs.duplicates.repeats.Statement.{statement}
 use Rattle.store.proofs.duplicates.repeats.Tie as tie
@@ -17,7 +17,7 @@ name-hash-requires : tie.Need-name-hash-requires
 name-hash-requires c κs = let back3 = c .before .before .before in let pre = back3 .before .before .before .pre in rw (back3 .bytes .ensures) (slot-size _ _ _ (pre .slots .size) (pre .inside))
 
 insert-requires : tie.Need-insert-requires
-insert-requires c κs = (c .before .before .before .before .before .before .before .pre .covered .size, rw (c .name-hash .ensures) (hash-below _))
+insert-requires c κs = c .before .before .before .before .before .before .before .pre .covered .size
 
 returns-2 : tie.Need-returns-2
 returns-2 c = let back3 = c .before .before .before in let insert = back3 .insert in let back4 = back3 .before in let name-hash = back4 .name-hash in let back6 = back4 .before .before in let back7 = back6 .before in let back8 = back7 .before in let bytes = back8 .bytes in turn-new _ _ _ _ (back8 .before .before .before .pre) (sym (rw (bytes .ensures) at (back7 .is-empty .ensures)) ∙ back6 .if1 .left) (rw (name-hash .ensures, bytes .ensures) at (insert .ensures .1)) (sym (rw (name-hash .ensures, bytes .ensures) at (insert .ensures .0)) ∙ not-true (insert .result) (c .if2 .taken))
