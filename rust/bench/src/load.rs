@@ -151,6 +151,15 @@ pub fn get(slots: usize, records: usize, order: Order) -> Load {
     Load::of_records(name, store, (0..records).map(one).collect())
 }
 
+/// One field at a time, where the check's filter has the same bits for all names.
+pub fn get_alike(slots: usize, records: usize) -> Load {
+    let mut random = Random::new(7);
+    let one = |_| record(&format!("EXHGET {MOB} {}", alike(random.below(slots))));
+    let name = format!("EXHGET, {slots} slots held, names that share their bits");
+    let store = store_of(slots, (0..slots).map(alike));
+    Load::of_records(name, store, (0..records).map(one).collect())
+}
+
 /// A record byte by byte, without its last byte: no call completes it.
 pub fn single_bytes(slots: usize) -> Load {
     let record = record(&format!("EXHMGET {MOB}{}", " tag0000".repeat(60)));
@@ -169,12 +178,20 @@ fn tag(number: usize) -> String {
     format!("tag{number:04}")
 }
 
-/// A store whose first slots hold a tag with value 1 and version 1.
+/// A field whose second half is its first.
+fn alike(number: usize) -> String {
+    format!("{number:016}").repeat(2)
+}
+
+/// A store whose first slots hold a tag.
 fn store(slots: usize, held: usize, order: Order) -> Vec<u8> {
+    store_of(slots, order.numbers(held).into_iter().map(tag))
+}
+
+/// A store whose first slots hold fields with value 1 and version 1.
+fn store_of(slots: usize, fields: impl Iterator<Item = String>) -> Vec<u8> {
     let mut store = vec![0; store_size(slots)];
-    let numbers = order.numbers(held);
-    for (slot, number) in store[HEADER..].chunks_mut(SLOT).zip(numbers) {
-        let field = tag(number);
+    for (slot, field) in store[HEADER..].chunks_mut(SLOT).zip(fields) {
         slot[STATE] = HELD;
         slot[KEY_LENGTH] = MOB.len() as u8;
         slot[FIELD_LENGTH] = field.len() as u8;

@@ -228,8 +228,13 @@ fn main() {
     };
     print_loads(&mut lent);
     print_growth(&mut lent);
-    let shuffled = load::get(MOST_SLOTS, RECORDS, Order::Shuffled);
-    print_row(&shuffled.name, &times(&shuffled, &mut lent));
+    let others = [
+        load::get(MOST_SLOTS, RECORDS, Order::Shuffled),
+        load::get_alike(MOST_SLOTS, 100),
+    ];
+    for load in others {
+        print_row(&load.name, &times(&load, &mut lent));
+    }
     print_single_byte(&mut lent);
     println!("\nMedians of {ROUNDS} rounds, in turns; the buffers are not cleared before a call.");
 }

@@ -118,16 +118,16 @@ fn a_damaged_state_waits_with_all_its_places() {
 }
 
 /// The length of fields that are alike.
-const ALIKE: usize = 16;
+const ALIKE: usize = 32;
 
-/// A field whose second word, turned, is its first: the check marks all such fields alike.
+/// A field whose second half is its first: the check's filter has the same bits for all such fields.
 fn alike(number: u64) -> [u8; ALIKE] {
-    let words = [number, number.rotate_right(4)].map(u64::to_le_bytes);
-    words.concat().try_into().unwrap()
+    let half = [number, 0].map(u64::to_le_bytes).concat();
+    half.repeat(2).try_into().unwrap()
 }
 
 #[test]
-fn names_that_share_their_marks_are_told_apart() {
+fn names_that_share_their_bits_are_told_apart() {
     let mut store = vec![0; store_size(SLOTS_MOST)];
     let slots = store[HEADER_SIZE..].chunks_mut(SLOT_SIZE);
     for (number, slot) in (1..).zip(slots) {
