@@ -8,25 +8,25 @@ use Prim.Native.String.{String}
 use native.Mathlib.Omega.{arith}
 use borrow.Author.Tests.{ltb-true, not-true}
 use lib.Dec.{ltb, eqb}
-use lib.ListN.{length, getD, drop, replicate, length-append, List·getD-map}
+use lib.ListN.{length, getD, drop, length-append, length-drop, List·getD-map}
 use lib.Pow.{areBytes}
 use lib.Seq.{getD-at, getD-append-add, drop-at, take-append-seam}
 use Rattle.wire.specs.declared.names.RowFound.{RowFound}
 use Rattle.wire.specs.declared.names.RowFound.the-variants as rows
 use Rattle.wire.specs.Lists.{all, any, onlyIf, orElse}
-use Rattle.wire.specs.Bytes.{fromLE, part, padded, same, text, upper, spells}
+use Rattle.wire.specs.Bytes.{fromLE, part, same, text, upper, spells}
 use Rattle.wire.specs.Words.{Word}
 use Rattle.wire.specs.Promises.{rowSize, nameIn, rowFrom, rowNamed, rowFor, Table}
 use Rattle.wire.proofs.Lists.{and-left, and-right, all-at}
 use Rattle.wire.proofs.NameRows.{row-at}
-use Rattle.wire.proofs.ByteLaws.{same-true, length-padded}
+use Rattle.wire.proofs.ByteLaws.{same-true}
 use Rattle.wire.proofs.ByteLoops.{fromLE-at}
 use Rattle.commands.specs.Options.{OptionRow, OptionKind, _means_, options, optionCount, groupCount, group, optionNamed}
 use Rattle.commands.specs.Options.OptionKind.{noExp}
 use Rattle.commands.specs.Parse.{CommandRow, row, commands, commandCount, commandNamed}
 use Rattle.commands.specs.Parse.Count.{atLeast}
 use Rattle.commands.specs.Parse.Form.{setForm}
-use Rattle.commands.specs.TablePromises.{nameRow, familyOf, unitNumber, unitOf, questionNumber, questionOf, listingNumber, listingOf, argumentOf, formOf, leastOf, moreOf, namesOf, commandData, commandTable, commandOf, conditionNumber, versioningNumber, saidOf, expiryKind, conditionBy, versioningBy, kindIn, sizeOf, optionData, optionTable, optionOf}
+use Rattle.commands.specs.TablePromises.{filler, nameRow, familyOf, unitNumber, unitOf, questionNumber, questionOf, listingNumber, listingOf, argumentOf, formOf, leastOf, moreOf, namesOf, commandData, commandTable, commandOf, conditionNumber, versioningNumber, saidOf, expiryKind, conditionBy, versioningBy, kindIn, sizeOf, optionData, optionTable, optionOf}
 use Rattle.commands.specs.ParsePromises.{notGiven}
 use Rattle.commands.proofs.Computing.{computing}
 
@@ -51,23 +51,29 @@ none-of (suc k) n h = omega (arith, none-of k n (h .0), h .1)
 abbrev pub ShortName : String → Type 0
 ShortName t = length (text t) < rowSize
 
+filler-length : length (text filler) ≡ 15
+unfolding text
+filler-length = refl
+
 module _ (t : String) (short : ShortName t) where
   length-row : length (nameRow t) ≡ rowSize
   unfolding nameRow
-  length-row = length-padded rowSize (length (text t) ∷ text t) short
+  length-row =
+      let fill : length (drop (length (text t)) (text filler)) ≡ 15 - length (text t) = rw (length-drop, filler-length) in
+      rw length-append (omega (arith, fill))
 
   -- the name of the row after i rows
   name-row : (before after : List ℕ) (i : ℕ) → length before ≡ rowSize * i → nameIn (before ++ (nameRow t ++ after)) i ≡ text t
-  unfolding nameIn part nameRow padded
+  unfolding nameIn part nameRow
   name-row before after i n =
       let size : ℕ = length (text t) in
-      let zeros : List ℕ = replicate (rowSize - suc size) 0 in
-      let rest : List ℕ = (text t ++ zeros) ++ after in
+      let fill : List ℕ = drop size (text filler) in
+      let rest : List ℕ = (text t ++ fill) ++ after in
       let here : getD (before ++ size ∷ rest) (rowSize * i) 0 ≡ size = getD-at before size rest 0 (rowSize * i) n in
       let front : length (before ++ (size ∷ [])) ≡ rowSize * i + 1 = rw length-append (omega arith) in
       let split : before ++ size ∷ rest ≡ (before ++ (size ∷ [])) ++ rest = sym (append-assoc before (size ∷ []) rest) in
       let behind : drop (rowSize * i + 1) (before ++ size ∷ rest) ≡ rest = rw split (drop-at (before ++ (size ∷ [])) rest (rowSize * i + 1) front) in
-      rw (here, behind, append-assoc (text t) zeros after) (take-append-seam (text t) (zeros ++ after))
+      rw (here, behind, append-assoc (text t) fill after) (take-append-seam (text t) (fill ++ after))
 
 module _ {A : Type 0} (name : A → String) where
   unfoldable pub tableOf : List A → List ℕ
@@ -117,7 +123,7 @@ module _ {A : Type 0} (name : A → String) where
 
     -- the length of its name stands at its start
     row-first : getD (tableOf (r ∷ rs)) 0 0 < rowSize
-    unfolding tableOf flatMap nameRow padded
+    unfolding tableOf flatMap nameRow
     row-first = row-short
 
   -- the rows of the bytes are the rows of the list

@@ -1,13 +1,12 @@
 -- What the code's tables of commands and options hold, computed from the definitions: the forms of its contracts.
 use mathlib.Core.Bool.{true, false, cond}
-use mathlib.Core.List.{List, [], _∷_, flatMap}
+use mathlib.Core.List.{List, [], _∷_, _++_, flatMap}
 use Prim.Native.Nat.{ℕ}
 use Prim.Native.String.{String}
 use lib.Dec.{eqb}
-use lib.ListN.{length, getD}
+use lib.ListN.{length, drop, getD}
 use Rattle.wire.specs.Lists.{isSome}
-use Rattle.wire.specs.Bytes.{text, padded}
-use Rattle.wire.specs.Promises.{rowSize}
+use Rattle.wire.specs.Bytes.{text}
 use Rattle.commands.specs.declared.Condition.{Condition}
 use Rattle.commands.specs.declared.Condition.the-variants as conditions
 use Rattle.commands.specs.declared.Versioning.{Versioning}
@@ -22,9 +21,12 @@ use Rattle.commands.specs.Parse.{Form, Count, CommandRow, row, commands}
 use Rattle.commands.specs.Parse.Count.{exactly, atLeast, evenFrom}
 use Rattle.commands.specs.Parse.Form.{setForm, setManyForm, incrementForm, expireForm, persistForm, renumberForm, askForm, getManyForm, deleteForm, countForm, listForm}
 
--- a row of a table: the name's length and the name
+-- a row of a table: the name's length, the name, and letters that fill it
+abbrev pub filler : String
+filler = "abcdefghijklmno"
+
 unfoldable pub nameRow : String → List ℕ
-nameRow t = padded rowSize (length (text t) ∷ text t)
+nameRow t = length (text t) ∷ (text t ++ drop (length (text t)) (text filler))
 
 -- no more numbers than this belong to a row
 abbrev pub dataSize : ℕ

@@ -64,32 +64,32 @@ pub const EACH_PAIR: usize = 2;
 
 pub const ONE_FIELD: usize = 3;
 
-// The commands.
+// The commands. Small letters fill a row: a run of equal bytes would be stored by itself wherever the table is lent.
 const COMMAND_COUNT: usize = 23;
 
-const COMMANDS: [u8; ROW_SIZE * COMMAND_COUNT] = *b"\x06EXHSET\0\0\0\0\0\0\0\0\0\
-    \x07EXHMSET\0\0\0\0\0\0\0\0\
-    \x09EXHINCRBY\0\0\0\0\0\0\
-    \x09EXHEXPIRE\0\0\0\0\0\0\
-    \x0bEXHEXPIREAT\0\0\0\0\
-    \x0aEXHPEXPIRE\0\0\0\0\0\
-    \x0cEXHPEXPIREAT\0\0\0\
-    \x0aEXHPERSIST\0\0\0\0\0\
-    \x09EXHSETVER\0\0\0\0\0\0\
-    \x07EXHPTTL\0\0\0\0\0\0\0\0\
-    \x06EXHTTL\0\0\0\0\0\0\0\0\0\
-    \x06EXHVER\0\0\0\0\0\0\0\0\0\
-    \x06EXHGET\0\0\0\0\0\0\0\0\0\
-    \x09EXHSTRLEN\0\0\0\0\0\0\
-    \x09EXHEXISTS\0\0\0\0\0\0\
-    \x0dEXHGETWITHVER\0\0\
-    \x07EXHMGET\0\0\0\0\0\0\0\0\
-    \x0eEXHMGETWITHVER\0\
-    \x06EXHDEL\0\0\0\0\0\0\0\0\0\
-    \x06EXHLEN\0\0\0\0\0\0\0\0\0\
-    \x07EXHKEYS\0\0\0\0\0\0\0\0\
-    \x07EXHVALS\0\0\0\0\0\0\0\0\
-    \x09EXHGETALL\0\0\0\0\0\0";
+const COMMANDS: [u8; ROW_SIZE * COMMAND_COUNT] = *b"\x06EXHSETghijklmno\
+    \x07EXHMSEThijklmno\
+    \x09EXHINCRBYjklmno\
+    \x09EXHEXPIREjklmno\
+    \x0bEXHEXPIREATlmno\
+    \x0aEXHPEXPIREklmno\
+    \x0cEXHPEXPIREATmno\
+    \x0aEXHPERSISTklmno\
+    \x09EXHSETVERjklmno\
+    \x07EXHPTTLhijklmno\
+    \x06EXHTTLghijklmno\
+    \x06EXHVERghijklmno\
+    \x06EXHGETghijklmno\
+    \x09EXHSTRLENjklmno\
+    \x09EXHEXISTSjklmno\
+    \x0dEXHGETWITHVERno\
+    \x07EXHMGEThijklmno\
+    \x0eEXHMGETWITHVERo\
+    \x06EXHDELghijklmno\
+    \x06EXHLENghijklmno\
+    \x07EXHKEYShijklmno\
+    \x07EXHVALShijklmno\
+    \x09EXHGETALLjklmno";
 
 // The numbers of an option's row: its group, what it says in its group, and how many words it is.
 pub const GROUP_AT: usize = 0;
@@ -125,18 +125,18 @@ pub const MATCHED: usize = 0;
 // The options.
 const OPTION_COUNT: usize = 12;
 
-const OPTIONS: [u8; ROW_SIZE * OPTION_COUNT] = *b"\x02EX\0\0\0\0\0\0\0\0\0\0\0\0\0\
-    \x04EXAT\0\0\0\0\0\0\0\0\0\0\0\
-    \x02PX\0\0\0\0\0\0\0\0\0\0\0\0\0\
-    \x04PXAT\0\0\0\0\0\0\0\0\0\0\0\
-    \x07KEEPTTL\0\0\0\0\0\0\0\0\
-    \x02NX\0\0\0\0\0\0\0\0\0\0\0\0\0\
-    \x02XX\0\0\0\0\0\0\0\0\0\0\0\0\0\
-    \x03VER\0\0\0\0\0\0\0\0\0\0\0\0\
-    \x03ABS\0\0\0\0\0\0\0\0\0\0\0\0\
-    \x03MIN\0\0\0\0\0\0\0\0\0\0\0\0\
-    \x03MAX\0\0\0\0\0\0\0\0\0\0\0\0\
-    \x05NOEXP\0\0\0\0\0\0\0\0\0\0";
+const OPTIONS: [u8; ROW_SIZE * OPTION_COUNT] = *b"\x02EXcdefghijklmno\
+    \x04EXATefghijklmno\
+    \x02PXcdefghijklmno\
+    \x04PXATefghijklmno\
+    \x07KEEPTTLhijklmno\
+    \x02NXcdefghijklmno\
+    \x02XXcdefghijklmno\
+    \x03VERdefghijklmno\
+    \x03ABSdefghijklmno\
+    \x03MINdefghijklmno\
+    \x03MAXdefghijklmno\
+    \x05NOEXPfghijklmno";
 
 // The number of the command that a word names.
 pub fn command_named(word: &[u8]) -> RowFound
