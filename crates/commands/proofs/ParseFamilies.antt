@@ -333,10 +333,6 @@ module _ (time : ℕ) (ws : List Word) where
 
 -- ---- a row
 
--- a number from n on that is not n lies behind it
-pub behind : (n : ℕ) {k : ℕ} → n ≤ k → (k ≡ n → ⊥) → suc n ≤ k
-behind n l ne = omega (arith, ne)
-
 -- the family behind all others
 pub list-form : (family n : ℕ) → listFamily ≤ family → formOf family n ≡ listForm (listingOf n)
 unfolding formOf

@@ -3,29 +3,30 @@ use mathlib.Core.Path.{_≡_, refl, sym, ap, _∙_}
 use mathlib.Core.Bool.{Bool, true, false, cond, not, _&&_}
 use mathlib.Core.List.{List, [], _∷_, _++_, map, flatMap, append-assoc}
 use mathlib.Core.Option.{Option, none, some, Option·map, Option·none-ne-some}
-use Prim.Native.Nat.{ℕ, zero, suc, _+_, _-_, _*_, _/_, _≤_, _<_}
+use Prim.Native.Nat.{ℕ, zero, suc, _+_, _-_, _*_, _/_, _%_, _^_, _≤_, _<_}
 use Prim.Native.String.{String}
-use native.Mathlib.Nat.{not-suc-le-zero}
 use native.Mathlib.Omega.{arith}
-use borrow.Author.Tests.{ltb-true, leb-true, not-true}
-use lib.Dec.{leb, ltb, eqb}
-use lib.ListN.{length, getD, drop, replicate, length-append, List·getD-append, List·getD-map}
+use borrow.Author.Tests.{ltb-true, not-true}
+use lib.Dec.{ltb, eqb}
+use lib.ListN.{length, getD, drop, length-append, length-drop, List·getD-map}
+use lib.Pow.{areBytes}
 use lib.Seq.{getD-at, getD-append-add, drop-at, take-append-seam}
 use Rattle.wire.specs.declared.names.RowFound.{RowFound}
 use Rattle.wire.specs.declared.names.RowFound.the-variants as rows
 use Rattle.wire.specs.Lists.{all, any, onlyIf, orElse}
-use Rattle.wire.specs.Bytes.{part, padded, same, text, upper, spells}
+use Rattle.wire.specs.Bytes.{fromLE, part, same, text, upper, spells}
 use Rattle.wire.specs.Words.{Word}
-use Rattle.wire.specs.Promises.{nameSize, dataSize, rowSize, nameIn, rowFrom, rowNamed, rowFor, datumIn, Table}
+use Rattle.wire.specs.Promises.{rowSize, nameIn, rowFrom, rowNamed, rowFor, Table}
 use Rattle.wire.proofs.Lists.{and-left, and-right, all-at}
 use Rattle.wire.proofs.NameRows.{row-at}
-use Rattle.wire.proofs.ByteLaws.{same-true, length-padded, padded-at}
+use Rattle.wire.proofs.ByteLaws.{same-true}
+use Rattle.wire.proofs.ByteLoops.{fromLE-at}
 use Rattle.commands.specs.Options.{OptionRow, OptionKind, _means_, options, optionCount, groupCount, group, optionNamed}
 use Rattle.commands.specs.Options.OptionKind.{noExp}
 use Rattle.commands.specs.Parse.{CommandRow, row, commands, commandCount, commandNamed}
 use Rattle.commands.specs.Parse.Count.{atLeast}
 use Rattle.commands.specs.Parse.Form.{setForm}
-use Rattle.commands.specs.TablePromises.{nameRow, familyOf, unitNumber, unitOf, questionNumber, questionOf, listingNumber, listingOf, argumentOf, formOf, leastOf, moreOf, namesOf, commandData, commandTable, commandOf, conditionNumber, versioningNumber, saidOf, expiryKind, conditionBy, versioningBy, kindIn, sizeOf, optionData, optionTable, optionOf}
+use Rattle.commands.specs.TablePromises.{filler, nameRow, familyOf, unitNumber, unitOf, questionNumber, questionOf, listingNumber, listingOf, argumentOf, formOf, leastOf, moreOf, namesOf, commandData, commandTable, commandOf, conditionNumber, versioningNumber, saidOf, expiryKind, conditionBy, versioningBy, kindIn, sizeOf, optionData, optionTable, optionOf}
 use Rattle.commands.specs.ParsePromises.{notGiven}
 use Rattle.commands.proofs.Computing.{computing}
 
@@ -34,49 +35,49 @@ unfoldable pub tables : Unit {0}
 unfolding computing nameRow familyOf unitNumber questionNumber listingNumber argumentOf leastOf moreOf namesOf commandData unitOf questionOf listingOf formOf conditionNumber versioningNumber saidOf sizeOf optionData expiryKind conditionBy versioningBy kindIn
 tables = tt
 
+-- a number that is none of the first k is beyond them
+unfoldable pub NoneOf : ℕ → ℕ → Type 0
+NoneOf zero n = Unit {0}
+NoneOf (suc k) n = NoneOf k n × (n ≡ k → ⊥)
+
+pub none-of : (k n : ℕ) → NoneOf k n → k ≤ n
+unfolding NoneOf
+none-of zero n h = omega arith
+none-of (suc k) n h = omega (arith, none-of k n (h .0), h .1)
+
 -- ---- rows of names
 
 -- a name fits its row
 abbrev pub ShortName : String → Type 0
-ShortName t = length (text t) < nameSize
+ShortName t = length (text t) < rowSize
 
--- a name and numbers that fit their row
-module _ (t : String) (numbers : List ℕ) (short : ShortName t) (few : length numbers ≤ dataSize) where
-  length-name : length (padded nameSize (length (text t) ∷ text t)) ≡ nameSize
-  length-name = length-padded nameSize (length (text t) ∷ text t) short
+filler-length : length (text filler) ≡ 15
+unfolding text
+filler-length = refl
 
-  length-row : length (nameRow t numbers) ≡ rowSize
+module _ (t : String) (short : ShortName t) where
+  length-row : length (nameRow t) ≡ rowSize
   unfolding nameRow
-  length-row = rw length-append (omega (arith, length-name, length-padded dataSize numbers few))
+  length-row =
+      let fill : length (drop (length (text t)) (text filler)) ≡ 15 - length (text t) = rw (length-drop, filler-length) in
+      rw length-append (omega (arith, fill))
 
   -- the name of the row after i rows
-  name-row : (before after : List ℕ) (i : ℕ) → length before ≡ rowSize * i → nameIn (before ++ (nameRow t numbers ++ after)) i ≡ text t
-  unfolding nameIn part nameRow padded
+  name-row : (before after : List ℕ) (i : ℕ) → length before ≡ rowSize * i → nameIn (before ++ (nameRow t ++ after)) i ≡ text t
+  unfolding nameIn part nameRow
   name-row before after i n =
       let size : ℕ = length (text t) in
-      let zeros : List ℕ = replicate (nameSize - suc size) 0 in
-      let nums : List ℕ = padded dataSize numbers in
-      let rest : List ℕ = ((text t ++ zeros) ++ nums) ++ after in
+      let fill : List ℕ = drop size (text filler) in
+      let rest : List ℕ = (text t ++ fill) ++ after in
       let here : getD (before ++ size ∷ rest) (rowSize * i) 0 ≡ size = getD-at before size rest 0 (rowSize * i) n in
       let front : length (before ++ (size ∷ [])) ≡ rowSize * i + 1 = rw length-append (omega arith) in
       let split : before ++ size ∷ rest ≡ (before ++ (size ∷ [])) ++ rest = sym (append-assoc before (size ∷ []) rest) in
       let behind : drop (rowSize * i + 1) (before ++ size ∷ rest) ≡ rest = rw split (drop-at (before ++ (size ∷ [])) rest (rowSize * i + 1) front) in
-      let flat : rest ≡ text t ++ (zeros ++ (nums ++ after)) = simp append-assoc in
-      rw (here, behind, flat) (take-append-seam (text t) (zeros ++ (nums ++ after)))
+      rw (here, behind, append-assoc (text t) fill after) (take-append-seam (text t) (fill ++ after))
 
-  -- its numbers
-  datum-row : (after : List ℕ) (k : ℕ) → k < dataSize → getD (nameRow t numbers ++ after) (nameSize + k) 0 ≡ getD numbers k 0
-  unfolding nameRow
-  datum-row after k l =
-      let front : List ℕ = padded nameSize (length (text t) ∷ text t) in
-      let nums : List ℕ = padded dataSize numbers in
-      let n : nameSize + k ≡ length front + k = omega (arith, length-name) in
-      let inside : k < length nums = omega (arith, length-padded dataSize numbers few) in
-      rw (append-assoc front nums after, n, getD-append-add front (nums ++ after) k 0, List·getD-append nums after 0 k inside) (padded-at dataSize numbers k)
-
-module _ {A : Type 0} (name : A → String) (numbers : A → List ℕ) where
+module _ {A : Type 0} (name : A → String) where
   unfoldable pub tableOf : List A → List ℕ
-  tableOf rows = flatMap (λ r. nameRow (name r) (numbers r)) rows
+  tableOf rows = flatMap (λ r. nameRow (name r)) rows
 
   -- the first row whose name a word spells, and its number, counted from i
   unfoldable pub named : List A → Word → Option A
@@ -92,7 +93,7 @@ module _ {A : Type 0} (name : A → String) (numbers : A → List ℕ) where
       cond (spells (name r) w) (some i) later
 
   abbrev fits : A → Bool
-  fits r = ltb (length (text (name r))) nameSize && leb (length (numbers r)) dataSize
+  fits r = ltb (length (text (name r))) rowSize
 
   unfoldable pub allFit : List A → Bool
   allFit rows = all fits rows
@@ -107,25 +108,22 @@ module _ {A : Type 0} (name : A → String) (numbers : A → List ℕ) where
     later-fit = and-right (fits r) (allFit rs) h
 
     row-short : ShortName (name r)
-    row-short = ltb-true (length (text (name r))) nameSize (and-left (ltb (length (text (name r))) nameSize) (leb (length (numbers r)) dataSize) row-fits)
+    row-short = ltb-true (length (text (name r))) rowSize row-fits
 
-    row-few : length (numbers r) ≤ dataSize
-    row-few = leb-true (length (numbers r)) dataSize (and-right (ltb (length (text (name r))) nameSize) (leb (length (numbers r)) dataSize) row-fits)
-
-    row-length : length (nameRow (name r) (numbers r)) ≡ rowSize
-    row-length = length-row (name r) (numbers r) row-short row-few
+    row-length : length (nameRow (name r)) ≡ rowSize
+    row-length = length-row (name r) row-short
 
     -- what stands behind the row
     row-after : (n m : ℕ) → n ≡ rowSize + m → getD (tableOf (r ∷ rs)) n 0 ≡ getD (tableOf rs) m 0
     unfolding tableOf flatMap
     row-after n m e =
-        let bytes : List ℕ = nameRow (name r) (numbers r) in
+        let bytes : List ℕ = nameRow (name r) in
         let at : n ≡ length bytes + m = omega (arith, row-length) in
         rw at (getD-append-add bytes (tableOf rs) m 0)
 
     -- the length of its name stands at its start
-    row-first : getD (tableOf (r ∷ rs)) 0 0 < nameSize
-    unfolding tableOf flatMap nameRow padded
+    row-first : getD (tableOf (r ∷ rs)) 0 0 < rowSize
+    unfolding tableOf flatMap nameRow
     row-first = row-short
 
   -- the rows of the bytes are the rows of the list
@@ -134,11 +132,11 @@ module _ {A : Type 0} (name : A → String) (numbers : A → List ℕ) where
   unfolding rowFrom numberFrom tableOf flatMap spells
   rows-from [] w before i n h = refl
   rows-from (r ∷ rs) w before i n h =
-      let bytes : List ℕ = nameRow (name r) (numbers r) in
+      let bytes : List ℕ = nameRow (name r) in
       let size : length (before ++ bytes) ≡ rowSize * suc i = rw length-append (omega (arith, row-length r rs h)) in
       let later : rowFrom (length rs) (suc i) ((before ++ bytes) ++ tableOf rs) w ≡ numberFrom (suc i) rs w = rows-from rs w (before ++ bytes) (suc i) size (later-fit r rs h) in
       let assoc : (before ++ bytes) ++ tableOf rs ≡ before ++ (bytes ++ tableOf rs) = append-assoc before bytes (tableOf rs) in
-      rw (name-row (name r) (numbers r) (row-short r rs h) (row-few r rs h) before (tableOf rs) i n, ← assoc, later)
+      rw (name-row (name r) (row-short r rs h) before (tableOf rs) i n, ← assoc, later)
 
   length-table : (rows : List A) → allFit rows ≡ true → length (tableOf rows) ≡ rowSize * length rows
   unfolding tableOf flatMap
@@ -152,18 +150,11 @@ module _ {A : Type 0} (name : A → String) (numbers : A → List ℕ) where
   unfolding rowNamed
   row-number rows w h = rw (table-rows rows h) (rows-from rows w [] 0 refl h)
 
-  short-from : (rows : List A) (i : ℕ) → allFit rows ≡ true → getD (tableOf rows) (rowSize * i) 0 < nameSize
+  short-from : (rows : List A) (i : ℕ) → allFit rows ≡ true → getD (tableOf rows) (rowSize * i) 0 < rowSize
   unfolding tableOf flatMap
   short-from [] i h = omega arith
   short-from (r ∷ rs) zero h = row-first r rs h
   short-from (r ∷ rs) (suc i) h = omega (arith, short-from rs i (later-fit r rs h), row-after r rs h (rowSize * suc i) (rowSize * i) (omega arith))
-
-  -- number k of row i
-  pub datum-from : (rows : List A) (d : A) (i k : ℕ) → allFit rows ≡ true → i < length rows → k < dataSize → datumIn (tableOf rows) i k ≡ getD (numbers (getD rows i d)) k 0
-  unfolding datumIn tableOf flatMap
-  datum-from [] d i k h l m = absurd (not-suc-le-zero l)
-  datum-from (r ∷ rs) d zero k h l m = datum-row (name r) (numbers r) (row-short r rs h) (row-few r rs h) (tableOf rs) k m
-  datum-from (r ∷ rs) d (suc i) k h l m = row-after r rs h (rowSize * suc i + nameSize + k) (rowSize * i + nameSize + k) (omega arith) ∙ datum-from rs d i k (later-fit r rs h) (omega arith) m
 
   pub table-of : (rows : List A) → allFit rows ≡ true → Table (tableOf rows)
   table-of rows h = record { whole = omega (arith, length-table rows h); short = λ i. short-from rows i h }
@@ -205,11 +196,11 @@ module _ {A : Type 0} (name : A → String) (numbers : A → List ℕ) where
 
 -- ---- the tables
 
-commands-fit : allFit (λ r. r .name) commandData commands ≡ true
+commands-fit : allFit (λ r. r .name) commands ≡ true
 unfolding allFit tables
 commands-fit = refl
 
-options-fit : allFit (λ r. r .name) optionData options ≡ true
+options-fit : allFit (λ r. r .name) options ≡ true
 unfolding allFit tables
 options-fit = refl
 
@@ -225,29 +216,35 @@ options-counted = refl
 -- the bytes of the rows are a table
 pub command-table : Table commandTable
 unfolding tableOf commandTable
-command-table = table-of (λ r. r .name) commandData commands commands-fit
+command-table = table-of (λ r. r .name) commands commands-fit
 
 pub option-table : Table optionTable
 unfolding tableOf optionTable
-option-table = table-of (λ r. r .name) optionData options options-fit
+option-table = table-of (λ r. r .name) options options-fit
 
--- the numbers of a row
-module _ (i k : ℕ) where
-  pub command-inside : i < commandCount → i < length commandTable / rowSize
-  unfolding tableOf commandTable
-  command-inside l = omega (arith, table-rows (λ r. r .name) commandData commands commands-fit, commands-counted)
+-- ---- the numbers of a row
 
-  pub command-datum : i < commandCount → k < dataSize → datumIn commandTable i k ≡ getD (commandData (commandOf i)) k 0
-  unfolding tableOf commandTable commandOf
-  command-datum l = datum-from (λ r. r .name) commandData commands (row "EXHSET" (atLeast 4) setForm) i k commands-fit (omega (arith, commands-counted))
+-- they are bytes, computed at each row
+command-bytes : all (λ r. areBytes (commandData r)) commands ≡ true
+unfolding tables
+command-bytes = refl
 
-  pub option-inside : i < optionCount → i < length optionTable / rowSize
-  unfolding tableOf optionTable
-  option-inside l = omega (arith, table-rows (λ r. r .name) optionData options options-fit, options-counted)
+option-bytes : all (λ r. areBytes (optionData r)) options ≡ true
+unfolding tables
+option-bytes = refl
 
-  pub option-datum : i < optionCount → k < dataSize → datumIn optionTable i k ≡ getD (optionData (optionOf i)) k 0
-  unfolding tableOf optionTable optionOf
-  option-datum l = datum-from (λ r. r .name) optionData options ("NOEXP" means noExp) i k options-fit (omega (arith, options-counted))
+-- so each is a byte of the number that they spell
+pub command-number-at : (i k : ℕ) → i < commandCount → fromLE (commandData (commandOf i)) / 2 ^ (8 * k) % 256 ≡ getD (commandData (commandOf i)) k 0
+unfolding commandOf
+command-number-at i k l =
+    let first : CommandRow = row "EXHSET" (atLeast 4) setForm in
+    fromLE-at k (commandData (commandOf i)) (all-at (λ r. areBytes (commandData r)) commands first command-bytes i (omega (arith, commands-counted)))
+
+pub option-number-at : (i k : ℕ) → i < optionCount → fromLE (optionData (optionOf i)) / 2 ^ (8 * k) % 256 ≡ getD (optionData (optionOf i)) k 0
+unfolding optionOf
+option-number-at i k l =
+    let last : OptionRow = "NOEXP" means noExp in
+    fromLE-at k (optionData (optionOf i)) (all-at (λ r. areBytes (optionData r)) options last option-bytes i (omega (arith, options-counted)))
 
 -- ---- what a row's numbers mean
 
@@ -291,7 +288,7 @@ row-below i l =
 
 -- ---- what a row's number means
 
-command-named : (rows : List CommandRow) (w : Word) → commandNamed rows w ≡ named (λ r. r .name) commandData rows w
+command-named : (rows : List CommandRow) (w : Word) → commandNamed rows w ≡ named (λ r. r .name) rows w
 unfolding commandNamed named
 command-named [] w = refl
 command-named (r ∷ rs) w = rw (command-named rs w)
@@ -299,11 +296,11 @@ command-named (r ∷ rs) w = rw (command-named rs w)
 -- the command of a word is the row of its number
 pub command-row : (w : Word) → commandNamed commands w ≡ Option·map commandOf (rowNamed commandTable w)
 unfolding tableOf commandTable commandOf
-command-row w = command-named commands w ∙ sym (row-named (λ r. r .name) commandData commands w (row "EXHSET" (atLeast 4) setForm) commands-fit)
+command-row w = command-named commands w ∙ sym (row-named (λ r. r .name) commands w (row "EXHSET" (atLeast 4) setForm) commands-fit)
 
 command-below : (w : Word) (i : ℕ) → rowNamed commandTable w ≡ some i → i < commandCount
 unfolding tableOf commandTable
-command-below w i e = omega (arith, commands-counted, number-inside (λ r. r .name) commandData commands w i commands-fit e)
+command-below w i e = omega (arith, commands-counted, number-inside (λ r. r .name) commands w i commands-fit e)
 
 pub command-number : (w : Word) {r : RowFound} → r ≡ rowFor (rowNamed commandTable w) → (i : ℕ) → r ≡ rows.At i → i < commandCount
 command-number w e i h = command-below w i (row-at (rowNamed commandTable w) i (sym e ∙ h))
@@ -332,7 +329,7 @@ module _ (w : Word) (allowed : List ℕ) where
   abbrev pub meant : OptionRow → Option OptionKind
   meant r = onlyIf (any (eqb (group (r .kind))) allowed) (r .kind)
 
-  option-named : (rows : List OptionRow) → distinct rows ≡ true → optionNamed rows allowed w ≡ orElse (named (λ r. r .name) optionData rows w) none meant
+  option-named : (rows : List OptionRow) → distinct rows ≡ true → optionNamed rows allowed w ≡ orElse (named (λ r. r .name) rows w) none meant
   unfolding optionNamed named distinct orElse onlyIf
   option-named [] h = refl
   option-named (r ∷ rs) h =
@@ -346,8 +343,8 @@ module _ (w : Word) (allowed : List ℕ) where
       (option-named rs (and-right others (distinct rs) h))
     where
       go : (t a : Bool) → spells (r .name) w ≡ t → any (eqb (group (r .kind))) allowed ≡ a → (spells (r .name) w ≡ true → optionNamed rs allowed w ≡ none)
-          → optionNamed rs allowed w ≡ orElse (named (λ q. q .name) optionData rs w) none meant
-          → cond (t && a) (some (r .kind)) (optionNamed rs allowed w) ≡ orElse (cond t (some r) (named (λ q. q .name) optionData rs w)) none meant
+          → optionNamed rs allowed w ≡ orElse (named (λ q. q .name) rs w) none meant
+          → cond (t && a) (some (r .kind)) (optionNamed rs allowed w) ≡ orElse (cond t (some r) (named (λ q. q .name) rs w)) none meant
       go true true e f once later = rw f
       go true false e f once later = rw f (once e)
       go false a e f once later = later
@@ -357,7 +354,7 @@ module _ (w : Word) (allowed : List ℕ) where
   unfolding tableOf optionTable optionOf orElse
   option-row =
       option-named options options-distinct
-      ∙ ap (λ o. orElse o none meant) (sym (row-named (λ r. r .name) optionData options w ("NOEXP" means noExp) options-fit))
+      ∙ ap (λ o. orElse o none meant) (sym (row-named (λ r. r .name) options w ("NOEXP" means noExp) options-fit))
       ∙ go (rowNamed optionTable w)
     where
       go : (o : Option ℕ) → orElse (Option·map optionOf o) none meant ≡ orElse o none (λ i. meant (optionOf i))
@@ -366,7 +363,7 @@ module _ (w : Word) (allowed : List ℕ) where
 
 option-below : (w : Word) (i : ℕ) → rowNamed optionTable w ≡ some i → i < optionCount
 unfolding tableOf optionTable
-option-below w i e = omega (arith, options-counted, number-inside (λ r. r .name) optionData options w i options-fit e)
+option-below w i e = omega (arith, options-counted, number-inside (λ r. r .name) options w i options-fit e)
 
 pub option-number : (w : Word) {r : RowFound} → r ≡ rowFor (rowNamed optionTable w) → (i : ℕ) → r ≡ rows.At i → i < optionCount
 option-number w e i h = option-below w i (row-at (rowNamed optionTable w) i (sym e ∙ h))

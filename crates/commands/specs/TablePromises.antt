@@ -4,10 +4,9 @@ use mathlib.Core.List.{List, [], _∷_, _++_, flatMap}
 use Prim.Native.Nat.{ℕ}
 use Prim.Native.String.{String}
 use lib.Dec.{eqb}
-use lib.ListN.{length, getD}
+use lib.ListN.{length, drop, getD}
 use Rattle.wire.specs.Lists.{isSome}
-use Rattle.wire.specs.Bytes.{text, padded}
-use Rattle.wire.specs.Promises.{nameSize, dataSize}
+use Rattle.wire.specs.Bytes.{text}
 use Rattle.commands.specs.declared.Condition.{Condition}
 use Rattle.commands.specs.declared.Condition.the-variants as conditions
 use Rattle.commands.specs.declared.Versioning.{Versioning}
@@ -22,9 +21,16 @@ use Rattle.commands.specs.Parse.{Form, Count, CommandRow, row, commands}
 use Rattle.commands.specs.Parse.Count.{exactly, atLeast, evenFrom}
 use Rattle.commands.specs.Parse.Form.{setForm, setManyForm, incrementForm, expireForm, persistForm, renumberForm, askForm, getManyForm, deleteForm, countForm, listForm}
 
--- a row of a table: the name's length, the name, and the numbers beside it
-unfoldable pub nameRow : String → List ℕ → List ℕ
-nameRow t numbers = padded nameSize (length (text t) ∷ text t) ++ padded dataSize numbers
+-- a row of a table: the name's length, the name, and letters that fill it
+abbrev pub filler : String
+filler = "abcdefghijklmno"
+
+unfoldable pub nameRow : String → List ℕ
+nameRow t = length (text t) ∷ (text t ++ drop (length (text t)) (text filler))
+
+-- no more numbers than this belong to a row
+abbrev pub dataSize : ℕ
+dataSize = 5
 
 -- ---- the table of commands
 
@@ -209,7 +215,7 @@ namesOf deleteForm = eachField
 namesOf countForm = noneNamed
 namesOf (listForm l) = noneNamed
 
--- the numbers beside a command's name, and the place of each among them
+-- the numbers of a command, and the place of each among them
 unfoldable pub commandData : CommandRow → List ℕ
 commandData r = familyOf (r .form) ∷ argumentOf (r .form) ∷ leastOf (r .count) ∷ moreOf (r .count) ∷ namesOf (r .form) ∷ []
 
@@ -229,7 +235,7 @@ abbrev pub namesAt : ℕ
 namesAt = 4
 
 unfoldable pub commandTable : List ℕ
-commandTable = flatMap (λ r. nameRow (r .name) (commandData r)) commands
+commandTable = flatMap (λ r. nameRow (r .name)) commands
 
 -- a command by its number in the table; past its end EXHSET
 unfoldable pub commandOf : ℕ → CommandRow
@@ -297,7 +303,7 @@ kindIn g n =
 unfoldable pub sizeOf : OptionKind → ℕ
 sizeOf m = cond (isSome (operandRange m)) 2 1
 
--- the numbers beside an option's name, and the place of each among them
+-- the numbers of an option, and the place of each among them
 unfoldable pub optionData : OptionRow → List ℕ
 optionData r = group (r .kind) ∷ saidOf (r .kind) ∷ sizeOf (r .kind) ∷ []
 
@@ -311,7 +317,7 @@ abbrev pub sizeAt : ℕ
 sizeAt = 2
 
 unfoldable pub optionTable : List ℕ
-optionTable = flatMap (λ r. nameRow (r .name) (optionData r)) options
+optionTable = flatMap (λ r. nameRow (r .name)) options
 
 -- an option by its number in the table; past its end NOEXP
 unfoldable pub optionOf : ℕ → OptionRow

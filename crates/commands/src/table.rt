@@ -1,15 +1,15 @@
-// The commands and their options: a row of a table for each, its name and the numbers that parsing asks of it.
+// The commands and their options: for each its name, a row of a table, and the numbers that parsing asks of it.
 use wire::names::ROW_SIZE;
 use wire::names::RowFound;
-use wire::names::datum;
 use wire::names::find;
 ghost use mathlib.Core.Path.{_≡_};
-ghost use Prim.Native.Nat.{_<_};
+ghost use Prim.Native.Nat.{_*_, _/_, _%_, _^_, _<_};
 ghost use lib.ListN.{getD};
-ghost use Rattle.wire.specs.Promises.{rowFor, rowNamed, dataSize};
+ghost use Rattle.wire.specs.Bytes.{fromLE};
+ghost use Rattle.wire.specs.Promises.{rowFor, rowNamed};
 ghost use Rattle.commands.specs.Options.{optionCount};
 ghost use Rattle.commands.specs.Parse.{commandCount};
-ghost use Rattle.commands.specs.TablePromises.{commandTable, commandData, commandOf, optionTable, optionData, optionOf};
+ghost use Rattle.commands.specs.TablePromises.{dataSize, commandTable, commandData, commandOf, optionTable, optionData, optionOf};
 
 // The numbers of a command's row: its family; its unit, question or listing; the least number of its words; whether more may follow; which of them are a field or a value.
 pub const FAMILY_AT: usize = 0;
@@ -64,33 +64,32 @@ pub const EACH_PAIR: usize = 2;
 
 pub const ONE_FIELD: usize = 3;
 
-// The commands.
+// The commands. Small letters fill a row: a run of equal bytes would be stored by itself wherever the table is lent.
 const COMMAND_COUNT: usize = 23;
 
-const COMMANDS: [u8; ROW_SIZE * COMMAND_COUNT] =
-    *b"\x06EXHSET\0\0\0\0\0\0\0\0\0\x00\x00\x04\x01\x04\
-    \x07EXHMSET\0\0\0\0\0\0\0\0\x01\x00\x04\x02\x02\
-    \x09EXHINCRBY\0\0\0\0\0\0\x02\x00\x04\x01\x03\
-    \x09EXHEXPIRE\0\0\0\0\0\0\x03\x00\x04\x01\x03\
-    \x0bEXHEXPIREAT\0\0\0\0\x03\x01\x04\x01\x03\
-    \x0aEXHPEXPIRE\0\0\0\0\0\x03\x02\x04\x01\x03\
-    \x0cEXHPEXPIREAT\0\0\0\x03\x03\x04\x01\x03\
-    \x0aEXHPERSIST\0\0\0\0\0\x04\x00\x03\x00\x03\
-    \x09EXHSETVER\0\0\0\0\0\0\x05\x00\x04\x00\x03\
-    \x07EXHPTTL\0\0\0\0\0\0\0\0\x06\x06\x03\x00\x03\
-    \x06EXHTTL\0\0\0\0\0\0\0\0\0\x06\x05\x03\x00\x03\
-    \x06EXHVER\0\0\0\0\0\0\0\0\0\x06\x04\x03\x00\x03\
-    \x06EXHGET\0\0\0\0\0\0\0\0\0\x06\x00\x03\x00\x03\
-    \x09EXHSTRLEN\0\0\0\0\0\0\x06\x01\x03\x00\x03\
-    \x09EXHEXISTS\0\0\0\0\0\0\x06\x02\x03\x00\x03\
-    \x0dEXHGETWITHVER\0\0\x06\x03\x03\x00\x03\
-    \x07EXHMGET\0\0\0\0\0\0\0\0\x07\x00\x03\x01\x01\
-    \x0eEXHMGETWITHVER\0\x07\x03\x03\x01\x01\
-    \x06EXHDEL\0\0\0\0\0\0\0\0\0\x08\x00\x03\x01\x01\
-    \x06EXHLEN\0\0\0\0\0\0\0\0\0\x09\x00\x02\x01\x00\
-    \x07EXHKEYS\0\0\0\0\0\0\0\0\x0a\x00\x02\x00\x00\
-    \x07EXHVALS\0\0\0\0\0\0\0\0\x0a\x01\x02\x00\x00\
-    \x09EXHGETALL\0\0\0\0\0\0\x0a\x02\x02\x00\x00";
+const COMMANDS: [u8; ROW_SIZE * COMMAND_COUNT] = *b"\x06EXHSETghijklmno\
+    \x07EXHMSEThijklmno\
+    \x09EXHINCRBYjklmno\
+    \x09EXHEXPIREjklmno\
+    \x0bEXHEXPIREATlmno\
+    \x0aEXHPEXPIREklmno\
+    \x0cEXHPEXPIREATmno\
+    \x0aEXHPERSISTklmno\
+    \x09EXHSETVERjklmno\
+    \x07EXHPTTLhijklmno\
+    \x06EXHTTLghijklmno\
+    \x06EXHVERghijklmno\
+    \x06EXHGETghijklmno\
+    \x09EXHSTRLENjklmno\
+    \x09EXHEXISTSjklmno\
+    \x0dEXHGETWITHVERno\
+    \x07EXHMGEThijklmno\
+    \x0eEXHMGETWITHVERo\
+    \x06EXHDELghijklmno\
+    \x06EXHLENghijklmno\
+    \x07EXHKEYShijklmno\
+    \x07EXHVALShijklmno\
+    \x09EXHGETALLjklmno";
 
 // The numbers of an option's row: its group, what it says in its group, and how many words it is.
 pub const GROUP_AT: usize = 0;
@@ -126,19 +125,18 @@ pub const MATCHED: usize = 0;
 // The options.
 const OPTION_COUNT: usize = 12;
 
-const OPTIONS: [u8; ROW_SIZE * OPTION_COUNT] =
-    *b"\x02EX\0\0\0\0\0\0\0\0\0\0\0\0\0\x00\x00\x02\x00\x00\
-    \x04EXAT\0\0\0\0\0\0\0\0\0\0\0\x00\x01\x02\x00\x00\
-    \x02PX\0\0\0\0\0\0\0\0\0\0\0\0\0\x00\x02\x02\x00\x00\
-    \x04PXAT\0\0\0\0\0\0\0\0\0\0\0\x00\x03\x02\x00\x00\
-    \x07KEEPTTL\0\0\0\0\0\0\0\0\x00\x04\x01\x00\x00\
-    \x02NX\0\0\0\0\0\0\0\0\0\0\0\0\0\x01\x00\x01\x00\x00\
-    \x02XX\0\0\0\0\0\0\0\0\0\0\0\0\0\x01\x01\x01\x00\x00\
-    \x03VER\0\0\0\0\0\0\0\0\0\0\0\0\x02\x00\x02\x00\x00\
-    \x03ABS\0\0\0\0\0\0\0\0\0\0\0\0\x02\x01\x02\x00\x00\
-    \x03MIN\0\0\0\0\0\0\0\0\0\0\0\0\x03\x00\x02\x00\x00\
-    \x03MAX\0\0\0\0\0\0\0\0\0\0\0\0\x04\x00\x02\x00\x00\
-    \x05NOEXP\0\0\0\0\0\0\0\0\0\0\x05\x00\x01\x00\x00";
+const OPTIONS: [u8; ROW_SIZE * OPTION_COUNT] = *b"\x02EXcdefghijklmno\
+    \x04EXATefghijklmno\
+    \x02PXcdefghijklmno\
+    \x04PXATefghijklmno\
+    \x07KEEPTTLhijklmno\
+    \x02NXcdefghijklmno\
+    \x02XXcdefghijklmno\
+    \x03VERdefghijklmno\
+    \x03ABSdefghijklmno\
+    \x03MINdefghijklmno\
+    \x03MAXdefghijklmno\
+    \x05NOEXPfghijklmno";
 
 // The number of the command that a word names.
 pub fn command_named(word: &[u8]) -> RowFound
@@ -147,12 +145,52 @@ pub fn command_named(word: &[u8]) -> RowFound
     find(&COMMANDS, word)
 }
 
+// The number at a place among the numbers of a row.
+fn number_at(numbers: u64, place: usize) -> usize
+    requires { ⌜ place < dataSize ⌝ }
+    ensures { λ r. ⌜ r ≡ numbers / 2 ^ (8 * place) % 256 ⌝ }
+{
+    ((numbers >> (8 * place)) % 256) as usize
+}
+
+// The numbers of a command's row, a byte each, the first lowest.
+fn command_numbers(row: usize) -> u64
+    requires { ⌜ row < commandCount ⌝ }
+    ensures { λ r. ⌜ r ≡ fromLE (commandData (commandOf row)) ⌝ }
+{
+    match row {
+        0 => 0x04_01_04_00_00,
+        1 => 0x02_02_04_00_01,
+        2 => 0x03_01_04_00_02,
+        3 => 0x03_01_04_00_03,
+        4 => 0x03_01_04_01_03,
+        5 => 0x03_01_04_02_03,
+        6 => 0x03_01_04_03_03,
+        7 => 0x03_00_03_00_04,
+        8 => 0x03_00_04_00_05,
+        9 => 0x03_00_03_06_06,
+        10 => 0x03_00_03_05_06,
+        11 => 0x03_00_03_04_06,
+        12 => 0x03_00_03_00_06,
+        13 => 0x03_00_03_01_06,
+        14 => 0x03_00_03_02_06,
+        15 => 0x03_00_03_03_06,
+        16 => 0x01_01_03_00_07,
+        17 => 0x01_01_03_03_07,
+        18 => 0x01_01_03_00_08,
+        19 => 0x00_01_02_00_09,
+        20 => 0x00_00_02_00_0a,
+        21 => 0x00_00_02_01_0a,
+        _ => 0x00_00_02_02_0a,
+    }
+}
+
 // A number of a command's row.
 pub fn command_datum(row: usize, place: usize) -> usize
     requires { ⌜ (row < commandCount) × (place < dataSize) ⌝ }
     ensures { λ r. ⌜ r ≡ getD (commandData (commandOf row)) place 0 ⌝ }
 {
-    datum(&COMMANDS, row, place)
+    number_at(command_numbers(row), place)
 }
 
 // The number of the option that a word names.
@@ -162,10 +200,31 @@ pub fn option_named(word: &[u8]) -> RowFound
     find(&OPTIONS, word)
 }
 
+// The numbers of an option's row, a byte each, the first lowest.
+fn option_numbers(row: usize) -> u64
+    requires { ⌜ row < optionCount ⌝ }
+    ensures { λ r. ⌜ r ≡ fromLE (optionData (optionOf row)) ⌝ }
+{
+    match row {
+        0 => 0x02_00_00,
+        1 => 0x02_01_00,
+        2 => 0x02_02_00,
+        3 => 0x02_03_00,
+        4 => 0x01_04_00,
+        5 => 0x01_00_01,
+        6 => 0x01_01_01,
+        7 => 0x02_00_02,
+        8 => 0x02_01_02,
+        9 => 0x02_00_03,
+        10 => 0x02_00_04,
+        _ => 0x01_00_05,
+    }
+}
+
 // A number of an option's row.
 pub fn option_datum(row: usize, place: usize) -> usize
     requires { ⌜ (row < optionCount) × (place < dataSize) ⌝ }
     ensures { λ r. ⌜ r ≡ getD (optionData (optionOf row)) place 0 ⌝ }
 {
-    datum(&OPTIONS, row, place)
+    number_at(option_numbers(row), place)
 }

@@ -127,6 +127,17 @@ fromLE-drop (suc n) (b ∷ s) h =
     let high : (b + 256 * fromLE s) / 256 ≡ fromLE s = omega arith in
     rw (pow-byte n, ← div-div-eq-div-mul (b + 256 * fromLE s) 256 (2 ^ (8 * n)), high) (fromLE-drop n s (bytes-tail b s h))
 
+-- a byte of the number that bytes spell
+fromLE-first : (n : ℕ) (s : List ℕ) → Bytes s → fromLE (drop n s) % 256 ≡ getD s n 0
+unfolding fromLE
+fromLE-first zero [] h = refl
+fromLE-first (suc n) [] h = refl
+fromLE-first zero (b ∷ s) h = omega (arith, bytes-head b s h)
+fromLE-first (suc n) (b ∷ s) h = fromLE-first n s (bytes-tail b s h)
+
+pub fromLE-at : (n : ℕ) (s : List ℕ) → Bytes s → fromLE s / 2 ^ (8 * n) % 256 ≡ getD s n 0
+fromLE-at n s h = rw (fromLE-drop n s h) (fromLE-first n s h)
+
 -- The first i bytes are read.
 pub record Reading (s : List ℕ) (x i : ℕ) : Type 0 where
   pub inside : i ≤ length s

@@ -100,15 +100,9 @@ nextOf count i = cond (ltb i count) (nexts.Word i) nexts.End
 
 -- ---- names
 
--- A row of a table of names: the name's length, the name in capitals, and numbers that the table's owner has beside it.
-abbrev pub nameSize : ℕ
-nameSize = 16
-
-abbrev pub dataSize : ℕ
-dataSize = 5
-
+-- A row of a table of names: the name's length, and the name in capitals.
 abbrev pub rowSize : ℕ
-rowSize = 21
+rowSize = 16
 
 unfoldable pub nameIn : List ℕ → ℕ → List ℕ
 nameIn table i = part (rowSize * i + 1) (getD table (rowSize * i) 0) table
@@ -127,14 +121,10 @@ unfoldable pub rowFor : Option ℕ → RowFound
 rowFor none = rows.Nothing
 rowFor (some i) = rows.At i
 
--- number k of the numbers of row i
-unfoldable pub datumIn : List ℕ → ℕ → ℕ → ℕ
-datumIn table i k = getD table (rowSize * i + nameSize + k) 0
-
 -- a table is whole rows, and no name is longer than its place
 pub record Table (table : List ℕ) : Type 0 where
   pub whole : length table ≡ rowSize * (length table / rowSize)
-  pub short : (i : ℕ) → getD table (rowSize * i) 0 < nameSize
+  pub short : (i : ℕ) → getD table (rowSize * i) 0 < rowSize
 
 -- ---- replies
 

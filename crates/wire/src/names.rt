@@ -1,16 +1,11 @@
-// Names in a table, compared without regard to case. A row of the table is the name's length, the name in capitals in 15 bytes, and 5 numbers that say what the table's
-// owner has to know of what is named.
+// Names in a table, compared without regard to case. A row of the table is the name's length and the name in capitals in 15 bytes.
 ghost use mathlib.Core.Path.{_≡_};
 ghost use mathlib.Core.List.{map};
-ghost use Prim.Native.Nat.{_/_, _<_};
-ghost use lib.ListN.{length};
 ghost use Rattle.wire.specs.Bytes.{same, upper};
-ghost use Rattle.wire.specs.Promises.{Table, rowSize, dataSize, rowNamed, rowFor, datumIn};
+ghost use Rattle.wire.specs.Promises.{Table, rowNamed, rowFor};
 
-// The bytes of a row: up to the end of its name, and in all.
-const NAME_SIZE: usize = 16;
-
-pub const ROW_SIZE: usize = 21;
+// The bytes of a row.
+pub const ROW_SIZE: usize = 16;
 
 // The row of a name, or that there is none.
 pub enum RowFound {
@@ -62,13 +57,4 @@ pub fn find(table: &[u8], word: &[u8]) -> RowFound
         i += 1;
     }
     RowFound::Nothing
-}
-
-// Number k of the numbers of a row.
-pub fn datum(table: &[u8], row: usize, k: usize) -> usize
-    requires { ⌜ (row < length (now table) / rowSize) × (k < dataSize) ⌝ }
-    ensures { λ r. ⌜ r ≡ datumIn (now (table .entry)) row k ⌝ }
-{
-    let at = ROW_SIZE * row + NAME_SIZE + k;
-    table[at] as usize
 }

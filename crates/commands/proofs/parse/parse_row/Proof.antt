@@ -1,8 +1,8 @@
 use mathlib.Core.Path.{sym, ap, _∙_}
-use native.Mathlib.Omega.{arith}
 use Rattle.commands.specs.Parse.Form.{setForm, setManyForm, incrementForm, expireForm, persistForm, renumberForm, askForm, getManyForm, deleteForm, countForm, listForm}
-use Rattle.commands.specs.TablePromises.{unitOf, formOf}
-use Rattle.commands.proofs.ParseFamilies.{fixed-pairs, fixed-persist, fixed-ask, fixed-many, fixed-delete, fixed-list, behind, list-form, row-parsed}
+use Rattle.commands.specs.TablePromises.{listFamily, unitOf, formOf}
+use Rattle.commands.proofs.ParseFamilies.{fixed-pairs, fixed-persist, fixed-ask, fixed-many, fixed-delete, fixed-list, list-form, row-parsed}
+use Rattle.commands.proofs.TableRows.{NoneOf, none-of}
 use borrow.Author.Needs.{needs}
 use Rattle.commands.proofs.parse.parse_row.Statement.{statement}
 use Rattle.commands.proofs.parse.parse_row.Tie as tie
@@ -48,7 +48,8 @@ unfolding formOf
 returns-10 c = let a = c .before in let b = a .before in let d = b .before in let e = d .before .before in row-parsed (e .args .time) (e .args .row) _ (d .command-datum .ensures) (b .command-datum2 .ensures) countForm (rw (a .match .keys10)) _ (c .parse-count .ensures (e .args .time))
 
 returns-11 : tie.Need-returns-11
-returns-11 c = let a = c .before in let b = a .before in let d = b .before in let e = d .before .before in row-parsed (e .args .time) (e .args .row) _ (d .command-datum .ensures) (b .command-datum2 .ensures) (listForm (c .listing .result)) (list-form (d .command-datum .result) (b .command-datum2 .result) (behind 9 (behind 8 (behind 7 (behind 6 (behind 5 (behind 4 (behind 3 (behind 2 (behind 1 (behind 0 (omega arith) (a .match .rest .0 .0 .0 .0 .0 .0 .0 .0 .0 .1)) (a .match .rest .0 .0 .0 .0 .0 .0 .0 .0 .1)) (a .match .rest .0 .0 .0 .0 .0 .0 .0 .1)) (a .match .rest .0 .0 .0 .0 .0 .0 .1)) (a .match .rest .0 .0 .0 .0 .0 .1)) (a .match .rest .0 .0 .0 .0 .1)) (a .match .rest .0 .0 .0 .1)) (a .match .rest .0 .0 .1)) (a .match .rest .0 .1)) (a .match .rest .1)) ∙ ap listForm (sym (c .listing .ensures))) _ (fixed-list (e .args .time) _ (c .listing .result))
+unfolding NoneOf
+returns-11 c = let a = c .before in let b = a .before in let d = b .before in let e = d .before .before in row-parsed (e .args .time) (e .args .row) _ (d .command-datum .ensures) (b .command-datum2 .ensures) (listForm (c .listing .result)) (list-form (d .command-datum .result) (b .command-datum2 .result) (none-of listFamily (d .command-datum .result) (a .match .rest)) ∙ ap listForm (sym (c .listing .ensures))) _ (fixed-list (e .args .time) _ (c .listing .result))
 
 pub parse-row-spec : {M : Type 1} → statement M
 parse-row-spec =

@@ -1,18 +1,12 @@
--- The bytes of the code are those of the definition, computed.
+-- A number of a row is a byte of the number that its numbers spell.
 use mathlib.Core.Path.{_∙_}
-use Rattle.commands.specs.TablePromises.{commandTable}
-use Rattle.commands.proofs.TableRows.{tables, command-inside, command-datum}
+use Rattle.commands.proofs.TableRows.{command-number-at}
 use borrow.Author.Needs.{needs}
 use Rattle.commands.proofs.table.command_datum.Statement.{statement}
 use Rattle.commands.proofs.table.command_datum.Tie as tie
 
-datum-requires : tie.Need-datum-requires
-unfolding tables commandTable
-datum-requires c κs = (command-inside (c .before .args .row) (c .before .args .place) (c .before .pre .0), c .before .pre .1)
-
 returns : tie.Need-returns
-unfolding tables commandTable
-returns c = let a = c .before .before in c .datum .ensures ∙ command-datum (a .args .row) (a .args .place) (a .pre .0) (a .pre .1)
+returns c = let a = c .before .before in c .number-at .ensures ∙ rw (c .before .command-numbers .ensures) (command-number-at (a .args .row) (a .args .place) (a .pre .0))
 
 pub command-datum-spec : {M : Type 1} → statement M
-command-datum-spec = tie.close (tie.spec (λ c. search needs) datum-requires returns)
+command-datum-spec = tie.close (tie.spec (λ c κs. search needs) (λ c κs. search needs) returns)
