@@ -11,18 +11,12 @@ use lib.Dec.{eqb}
 use lib.ListN.{length, take, drop, getD, drop-of-length-le}
 use lib.Pow.{pow-add, pow-mono, shl-exact}
 use lib.Seq.{take-all, take-suc, drop-cons, drop-length, length-take-le}
-use borrow.Author.Tests.{eq-eqb, ne-eqb}
+use borrow.Author.Tests.{ne-eqb}
 use Rattle.wire.specs.Lists.{all}
 use Rattle.wire.specs.Bytes.{Bytes, fromLE, toLE, allZero, same}
 use Rattle.wire.proofs.ByteLaws.{bytes-head, bytes-tail, same-true, same-refl, eqb-sym, length-toLE}
 
 -- ---- two lists compared
-
--- The first i elements are the same: whether the lists are is left to the others.
-pub record Comparing (a b : List ℕ) (i : ℕ) : Type 0 where
-  pub inside : i ≤ length a
-  pub sizes : length a ≡ length b
-  pub rest : same a b ≡ same (drop i a) (drop i b)
 
 -- Lists that differ anywhere are not the same.
 pub not-same : (a b : List ℕ) → (a ≡ b → ⊥) → same a b ≡ false
@@ -31,24 +25,6 @@ not-same a b d = go (same a b) refl
     go : (t : Bool) → same a b ≡ t → t ≡ false
     go true p = absurd (d (same-true a b p))
     go false p = refl
-
-pub compare-begins : (a b : List ℕ) → length a ≡ length b → Comparing a b 0
-compare-begins a b e = record { inside = omega arith; sizes = e; rest = refl }
-
-pub compare-goes-on : (a b : List ℕ) (i : ℕ) → Comparing a b i → i < length a → getD a i 0 ≡ getD b i 0 → Comparing a b (i + 1)
-unfolding same
-compare-goes-on a b i f l e =
-    let m : i < length b = omega (arith, f .sizes) in
-    record {
-      inside = omega arith;
-      sizes = f .sizes;
-      rest = rw (f .rest, drop-cons a i 0 l, drop-cons b i 0 m, eq-eqb (getD a i 0) (getD b i 0) e, add-one);
-    }
-
-pub compare-ends : (a b : List ℕ) (i : ℕ) → Comparing a b i → length a ≤ i → same a b ≡ true
-compare-ends a b i f h =
-    let m : length b ≤ i = omega (arith, f .sizes) in
-    rw (f .rest, drop-of-length-le a h, drop-of-length-le b m) (same-refl [])
 
 -- The elements from i on are the same.
 pub record Matching (a b : List ℕ) (i : ℕ) : Type 0 where

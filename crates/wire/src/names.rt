@@ -23,19 +23,19 @@ fn capital(b: u8) -> u8
     b
 }
 
-// Whether a word spells a name that is written in capitals.
+// Whether a word spells a name that is written in capitals. They are compared from the last letter, since names share their first ones.
 pub fn spells(word: &[u8], name: &[u8]) -> bool
     ensures { λ r. ⌜ r ≡ same (map upper (now (word .entry))) (now (name .entry)) ⌝ }
 {
     if word.len() != name.len() {
         return false;
     }
-    let mut i = 0;
-    while i < word.len() {
+    let mut i = word.len();
+    while 0 < i {
+        i -= 1;
         if capital(word[i]) != name[i] {
             return false;
         }
-        i += 1;
     }
     true
 }
