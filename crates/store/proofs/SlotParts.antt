@@ -12,7 +12,7 @@ use lib.Seq.{take-all}
 use borrow.Author.Tests.{eq-eqb, ne-eqb, eqb-true, eqb-false}
 use Rattle.wire.specs.Lists.{orElse}
 use Rattle.wire.specs.Bytes.{Bytes, part, padded, same, fromLE}
-use Rattle.wire.proofs.ByteLaws.{bytes-part, toLE-fromLE, same-refl, fromLE-padded}
+use Rattle.wire.proofs.ByteLaws.{bytes-part, same-refl, spelled, fromLE-padded}
 use Rattle.wire.proofs.ByteLoops.{not-same}
 use Rattle.store.specs.declared.Expiry.the-variants.{Never, At}
 use Rattle.store.specs.Layout.{stateAt, keyLengthAt, fieldLengthAt, emptyState, expiringState, expiryAt, expirySize, keyAt, keyMost, fieldAt, fieldMost}
@@ -120,10 +120,6 @@ key-are-bytes t h = bytes-part keyAt (getD t keyLengthAt 0) t (h .slot .bytes)
 length-parts : (at : ℕ) (x y : List ℕ) → length x ≡ length y → length (part at 8 x) ≡ length (part at 8 y)
 unfolding part
 length-parts at x y e = rw (length-take, length-drop, length-take, length-drop, e)
-
--- bytes that spell the same number are the same
-spelled : (x y : List ℕ) → Bytes x → Bytes y → length x ≡ length y → fromLE x ≡ fromLE y → x ≡ y
-spelled x y p q e f = sym (toLE-fromLE x p) ∙ rw (e, f) (toLE-fromLE y q)
 
 two-words : (s : List ℕ) → length s ≤ 16 → part 0 8 s ++ part 8 8 s ≡ s
 unfolding part
