@@ -11,18 +11,21 @@ ghost use Rattle.store.specs.Store.{decode, wellFormed, holds};
 ghost use Rattle.store.specs.Time.{lowestSlot, emptySlot, deadSlot, roomSlot, ofKey, liveOfKey, keyExists};
 ghost use Rattle.store.specs.Promises.{foundFor, lowestFrom, Skips};
 
-// The lowest slot from a slot on whose field has a fingerprint, else the number of slots.
+// A slot from a slot on before which no field has a fingerprint: the lowest that has it, else one of the last. Two slots are looked at in a turn.
 fn next_marked(store: &[u8], fingerprint: u64, start: usize) -> usize
     requires { ⌜ wellFormed (now store) ≡ true ⌝ }
     ensures { λ r. ⌜ Skips fingerprint start (decode (now (store .entry)) .slots) r ⌝ }
 {
-    let count = slots(store);
+    let last = slots(store) - 1;
     let mut i = start;
-    while i < count {
-        if slot::fingerprint(slot::bytes(store, i)) == fingerprint {
+    while i < last {
+        if slot::fingerprint_at(slot::bytes(store, i)) == fingerprint {
             return i;
         }
-        i += 1;
+        if slot::fingerprint_at(slot::bytes(store, i + 1)) == fingerprint {
+            return i + 1;
+        }
+        i += 2;
     }
     i
 }
@@ -36,7 +39,7 @@ pub fn named(store: &[u8], key: &[u8], field: &[u8]) -> Found
     let fingerprint = slot::fingerprint_of(field);
     let mut i = next_marked(store, fingerprint, 0);
     while i < count {
-        if slot::holds(slot::bytes(store, i), key, field) {
+        if slot::holds_with(slot::bytes(store, i), fingerprint, key, field) {
             return Found::At(i);
         }
         i = next_marked(store, fingerprint, i + 1);
@@ -52,7 +55,8 @@ pub fn named_near(store: &[u8], key: &[u8], field: &[u8], hint: usize) -> Found
     if slots(store) <= hint {
         return named(store, key, field);
     }
-    if slot::holds(slot::bytes(store, hint), key, field) {
+    let fingerprint = slot::fingerprint_of(field);
+    if slot::holds_with(slot::bytes(store, hint), fingerprint, key, field) {
         return Found::At(hint);
     }
     named(store, key, field)

@@ -121,7 +121,18 @@ pub fn value(t: &[u8]) -> &[u8]
     &t[VALUE_AT..end]
 }
 
-// Whether the slot holds an entry of a key, by the key's two words and its length.
+// Whether the slot holds an entry of a key.
+pub fn of_key(t: &[u8], k: &[u8]) -> bool
+    requires { ⌜ SlotBytes (now t) ⌝ }
+    ensures { λ r. ⌜ r ≡ ofKey (now (k .entry)) (decodeSlot (now (t .entry))) ⌝ }
+{
+    if t[STATE_AT] == EMPTY_STATE {
+        return false;
+    }
+    equal(key(t), k)
+}
+
+// The same by the key's two words and its length.
 pub fn of_key_with(t: &[u8], low: u64, high: u64, k: &[u8]) -> bool
     requires { ⌜ SlotBytes (now t) ⌝ }
     requires { ⌜ (low ≡ fromLE (part 0 8 (now k))) × (high ≡ fromLE (part 8 8 (now k))) ⌝ }
@@ -185,10 +196,29 @@ pub fn fingerprint_of(f: &[u8]) -> u64
 }
 
 // The same of a slot's place for the field: that of its field, since zero stands after it.
-pub fn fingerprint(t: &[u8]) -> u64
+pub fn fingerprint_at(t: &[u8]) -> u64
     requires { ⌜ length (now t) ≡ slotSize ⌝ }
     ensures { λ r. ⌜ r ≡ fingerprintOf (part fieldAt fieldMost (now (t .entry))) ⌝ }
 {
     let field = &t[FIELD_AT..VALUE_AT];
     word(field, 0) ^ word(field, WORD)
+}
+
+// The same as `holds`, by the field's fingerprint first: where the slot has another, nothing else of it is looked at, and where a field of at most a
+// word has the same, nothing else of the field.
+pub fn holds_with(t: &[u8], fingerprint: u64, k: &[u8], f: &[u8]) -> bool
+    requires { ⌜ SlotBytes (now t) ⌝ }
+    requires { ⌜ fingerprint ≡ fingerprintOf (now f) ⌝ }
+    ensures { λ r. ⌜ r ≡ holds (now (k .entry)) (now (f .entry)) (decodeSlot (now (t .entry))) ⌝ }
+{
+    if fingerprint_at(t) != fingerprint {
+        return false;
+    }
+    if WORD < f.len() {
+        return holds(t, k, f);
+    }
+    if t[FIELD_LENGTH_AT] as usize != f.len() {
+        return false;
+    }
+    of_key(t, k)
 }

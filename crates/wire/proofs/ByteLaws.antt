@@ -131,10 +131,6 @@ same-sym [] (y ∷ ys) = refl
 same-sym (x ∷ xs) [] = refl
 same-sym (x ∷ xs) (y ∷ ys) = rw (eqb-sym x y, same-sym xs ys)
 
--- bytes that spell the same number are the same
-pub spelled : (x y : List ℕ) → Bytes x → Bytes y → length x ≡ length y → fromLE x ≡ fromLE y → x ≡ y
-spelled x y p q e f = sym (toLE-fromLE x p) ∙ rw (e, f) (toLE-fromLE y q)
-
 -- ---- zero
 
 pub zero-replicate : (n : ℕ) → allZero (replicate n 0) ≡ true

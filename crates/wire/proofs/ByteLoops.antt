@@ -8,14 +8,13 @@ use native.Mathlib.Numerals.{add-one}
 use native.Mathlib.Omega.{arith}
 use lib.Bits.{bitOr, or-zero-l, or-add-and, and-le-r}
 use lib.Dec.{eqb}
-use lib.ListN.{length, take, drop, getD, length-take, length-drop, take-append-drop, drop-of-length-le}
+use lib.ListN.{length, take, drop, getD, drop-of-length-le}
 use lib.Pow.{pow-add, pow-mono, shl-exact}
-use lib.Seq.{take-all, take-suc, drop-cons, drop-drop, drop-length, length-take-le}
-use borrow.Author.Tests.{eq-eqb, ne-eqb, eqb-true, eqb-false}
+use lib.Seq.{take-all, take-suc, drop-cons, drop-length, length-take-le}
+use borrow.Author.Tests.{eq-eqb, ne-eqb}
 use Rattle.wire.specs.Lists.{all}
-use Rattle.wire.specs.Bytes.{Bytes, fromLE, toLE, part, allZero, same}
-use Rattle.wire.proofs.Lists.{both-ways}
-use Rattle.wire.proofs.ByteLaws.{bytes-head, bytes-tail, bytes-take, bytes-drop, same-true, same-refl, eqb-sym, spelled, length-toLE}
+use Rattle.wire.specs.Bytes.{Bytes, fromLE, toLE, allZero, same}
+use Rattle.wire.proofs.ByteLaws.{bytes-head, bytes-tail, same-true, same-refl, eqb-sym, length-toLE}
 
 -- ---- two lists compared
 
@@ -76,62 +75,6 @@ match-goes-on a b i f l e =
 pub match-ends : (a b : List ℕ) (i : ℕ) → Matching a b i → i ≤ 0 → same a b ≡ true
 match-ends a b zero f h = rw (f .rest) (same-refl b)
 match-ends a b (suc i) f h = absurd (omega arith)
-
--- Words are the same exactly if they spell the same number.
-pub same-words : (at : ℕ) (a b : List ℕ) (x y : ℕ) → Bytes a → Bytes b → at + 8 ≤ length a → at + 8 ≤ length b
-    → x ≡ fromLE (take (at + 8 - at) (drop at a)) → y ≡ fromLE (take (at + 8 - at) (drop at b))
-    → eqb x y ≡ same (part at 8 a) (part at 8 b)
-unfolding part
-same-words at a b x y p q l m e f = go (eqb x y) refl
-  where
-    k : at + 8 - at ≡ 8
-    k = omega arith
-
-    sizes : length (take 8 (drop at a)) ≡ length (take 8 (drop at b))
-    sizes = rw (length-take, length-drop, length-take, length-drop) (omega arith)
-
-    go : (t : Bool) → eqb x y ≡ t → t ≡ same (take 8 (drop at a)) (take 8 (drop at b))
-    go true h =
-        let spell : fromLE (take 8 (drop at a)) ≡ fromLE (take 8 (drop at b)) = rw k at (sym e ∙ eqb-true x y h ∙ f) in
-        let equal : take 8 (drop at a) ≡ take 8 (drop at b)
-        = spelled (take 8 (drop at a)) (take 8 (drop at b)) (bytes-take 8 (drop at a) (bytes-drop at a p)) (bytes-take 8 (drop at b) (bytes-drop at b q)) sizes spell in
-        rw equal (sym (same-refl (take 8 (drop at b))))
-    go false h =
-        sym (not-same (take 8 (drop at a)) (take 8 (drop at b)) (λ d. eqb-false x y h (e ∙ rw k (ap fromLE d) ∙ sym f)))
-
--- The word before i is the same.
-pub match-word : (a b : List ℕ) (i : ℕ) → Matching a b i → 8 < i → same (part (i - 8) 8 a) (part (i - 8) 8 b) ≡ true → Matching a b (i - 8)
-unfolding part
-match-word a b i f l h =
-    let k : i - 8 + 8 ≡ i = omega arith in
-    let word : take 8 (drop (i - 8) a) ≡ take 8 (drop (i - 8) b) = same-true (take 8 (drop (i - 8) a)) (take 8 (drop (i - 8) b)) h in
-    let left : drop 8 (drop (i - 8) a) ≡ drop 8 (drop (i - 8) b) = rw (drop-drop, drop-drop, k) (f .rest) in
-    record {
-      inside = omega (arith, f .inside);
-      sizes = f .sizes;
-      rest = sym (take-append-drop 8 (drop (i - 8) a)) ∙ rw (word, left) (take-append-drop 8 (drop (i - 8) b));
-    }
-
--- A word that differs.
-pub match-not : (at : ℕ) (a b : List ℕ) → same (part at 8 a) (part at 8 b) ≡ false → same a b ≡ false
-match-not at a b h = not-same a b (λ e. both-ways (rw e (same-refl (part at 8 b))) h)
-
--- The first word is all that is left.
-pub match-first : (a b : List ℕ) (i : ℕ) → Matching a b i → i ≤ 8 → same (part 0 8 a) (part 0 8 b) ≡ same a b
-unfolding part
-match-first a b i f l = go (same (take 8 a) (take 8 b)) refl
-  where
-    k : i + (8 - i) ≡ 8
-    k = omega arith
-
-    left : drop 8 a ≡ drop 8 b
-    left = rw k at (rw (drop-drop, drop-drop) at (ap (λ (s : List ℕ). drop (8 - i) s) (f .rest)))
-
-    go : (t : Bool) → same (take 8 a) (take 8 b) ≡ t → t ≡ same a b
-    go true h =
-        let whole : a ≡ b = sym (take-append-drop 8 a) ∙ rw (same-true (take 8 a) (take 8 b) h, left) (take-append-drop 8 b) in
-        rw whole (sym (same-refl b))
-    go false h = sym (match-not 0 a b h)
 
 -- ---- bits that tell whether all are zero
 

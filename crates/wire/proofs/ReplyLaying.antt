@@ -108,11 +108,6 @@ module _ (y s : List ℕ) (i n : ℕ) (t : List ℕ) (f : Filling y s i t) (l : 
   pub fill-last-size : length (laidAt (length y - n) (part (length y - n) n y) t) ≡ length s
   fill-last-size = filled .size
 
--- The first 8 elements and the last 8 are all of y.
-pub fill-two : (y s : List ℕ) → 8 ≤ length y → length y ≤ 16 → length y ≤ length s
-    → laidAt (length y - 8) (part (length y - 8) 8 y) (laidAt 0 (part 0 8 y) s) ≡ laidOver y s
-fill-two y s l m h = fill-last y s 8 8 (laidAt 0 (part 0 8 y) s) (fill-part y s 0 0 8 s (fill-begins y s h) (omega arith) (omega arith) (omega arith)) l (omega arith)
-
 -- A word read at a place and written at the same place is laid there.
 pub word-laid : (at : ℕ) (y t u : List ℕ) (x : ℕ) → Bytes y → at + 8 ≤ length y → at + 8 ≤ length t
     → x ≡ fromLE (take (at + 8 - at) (drop at y)) → u ≡ toLE (length (take (at + 8 - at) (drop at t))) x
@@ -125,55 +120,6 @@ word-laid at y t u x b l m e f =
     let w : toLE 8 (fromLE (take 8 (drop at y))) ≡ take 8 (drop at y)
     = ap (λ (v : ℕ). toLE v (fromLE (take 8 (drop at y)))) (sym p) ∙ toLE-fromLE (take 8 (drop at y)) (bytes-take 8 (drop at y) (bytes-drop at y b)) in
     rw (f, e, k, n, w, p, drop-drop)
-
--- What stands after two lists, and what they are.
-seam-take : (a b c : List ℕ) (k : ℕ) → length a + length b ≡ k → take k (a ++ (b ++ c)) ≡ a ++ b
-seam-take a b c k e =
-    let s : length (a ++ b) ≡ k = length-append a b ∙ e in
-    ap (λ (l : List ℕ). take k l) (sym (append-assoc a b c)) ∙ rw (← s) (take-append-seam (a ++ b) c)
-
-seam-drop : (a b c : List ℕ) (k n : ℕ) → length a + length b ≡ k → drop (k + n) (a ++ (b ++ c)) ≡ drop n c
-seam-drop a b c k n e =
-    let s : length (a ++ b) ≡ k = length-append a b ∙ e in
-    ap (λ (l : List ℕ). drop (k + n) l) (sym (append-assoc a b c)) ∙ rw (← s) (drop-append-add (a ++ b) c n)
-
-length-laid-at : (at : ℕ) (x s : List ℕ) → at + length x ≤ length s → length (laidAt at x s) ≡ length s
-unfolding laidAt
-length-laid-at at x s h = rw (length-append, length-append, length-take, length-drop) (omega arith)
-
--- Two parts of y laid one after the other are one.
-pub laid-next : (y t : List ℕ) (at m n : ℕ) → at + (m + n) ≤ length y → at + (m + n) ≤ length t
-    → laidAt (at + m) (part (at + m) n y) (laidAt at (part at m y) t) ≡ laidAt at (part at (m + n) y) t
-unfolding laidAt part
-laid-next y t at m n l w =
-    let one : length (take m (drop at y)) ≡ m = rw (length-take, length-drop) (omega arith) in
-    let two : length (take n (drop (at + m) y)) ≡ n = rw (length-take, length-drop) (omega arith) in
-    let both : length (take (m + n) (drop at y)) ≡ m + n = rw (length-take, length-drop) (omega arith) in
-    let before : length (take at t) ≡ at = length-take-le at t (omega arith) in
-    let sums : at + m + n ≡ at + (m + n) = omega arith in
-    let front : take (at + m) (take at t ++ (take m (drop at y) ++ drop (at + m) t)) ≡ take at t ++ take m (drop at y)
-    = seam-take (take at t) (take m (drop at y)) (drop (at + m) t) (at + m) (omega (arith, before, one)) in
-    let back : drop (at + m + n) (take at t ++ (take m (drop at y) ++ drop (at + m) t)) ≡ drop (at + (m + n)) t
-    = seam-drop (take at t) (take m (drop at y)) (drop (at + m) t) (at + m) n (omega (arith, before, one)) ∙ rw (drop-drop, sums) in
-    rw (one, two, both, front, back, take-add m n (drop at y), drop-drop, append-assoc, append-assoc)
-
-part-most : (at n : ℕ) (y : List ℕ) → length (part at n y) ≤ n
-unfolding part
-part-most at n y = rw (length-take, length-drop) (omega arith)
-
--- Two words, read and then written.
-pub two-laid : (at : ℕ) (y t u v : List ℕ) (x z : ℕ) → Bytes y → at + 16 ≤ length y → at + 16 ≤ length t
-    → x ≡ fromLE (take (at + 8 - at) (drop at y)) → z ≡ fromLE (take (at + 8 + 8 - (at + 8)) (drop (at + 8) y))
-    → u ≡ toLE (length (take (at + 8 - at) (drop at t))) x
-    → v ≡ toLE (length (take (at + 8 + 8 - (at + 8)) (drop (at + 8) (putMid at (at + 8 - at) t u)))) z
-    → putMid (at + 8) (at + 8 + 8 - (at + 8)) (putMid at (at + 8 - at) t u) v ≡ laidAt at (part at 16 y) t
-two-laid at y t u v x z b l m e f g h =
-    let first : putMid at (at + 8 - at) t u ≡ laidAt at (part at 8 y) t = word-laid at y t u x b (omega arith) (omega arith) e g in
-    let size : length (putMid at (at + 8 - at) t u) ≡ length t
-    = ap length first ∙ length-laid-at at (part at 8 y) t (omega (arith, part-most at 8 y)) in
-    word-laid (at + 8) y (putMid at (at + 8 - at) t u) v z b (omega arith) (omega (arith, size)) f h
-    ∙ ap (λ (s : List ℕ). laidAt (at + 8) (part (at + 8) 8 y) s) first
-    ∙ laid-next y t at 8 8 (omega arith) (omega arith)
 
 -- ---- one piece after the other
 

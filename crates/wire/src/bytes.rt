@@ -1,14 +1,10 @@
 // Bytes: numbers low byte first, and slices compared, copied and cleared.
 ghost use mathlib.Core.Path.{_≡_};
-ghost use Prim.Native.Nat.{_+_, _≤_, _<_};
+ghost use Prim.Native.Nat.{_+_, _≤_};
 ghost use lib.ListN.{length, replicate};
 ghost use Rattle.wire.specs.Bytes.{fromLE, toLE, part, same, allZero};
 ghost use Rattle.wire.specs.Replies.{laidOver};
 ghost use Rattle.wire.specs.Promises.{laidAt};
-
-// The bytes of a word.
-const WORD: usize = 8;
-const TWO_WORDS: usize = 16;
 
 // The number that a slice spells.
 pub fn read_le(s: &[u8]) -> u64
@@ -37,11 +33,13 @@ pub fn write_le(s: &mut [u8], x: u64)
     }
 }
 
-// Whether two slices as long as each other hold the same bytes, one by one from the last.
-fn equal_bytes(a: &[u8], b: &[u8]) -> bool
-    requires { ⌜ length (now a) ≡ length (now b) ⌝ }
+// Whether two slices hold the same bytes. They are compared from the last, since names tend to differ there.
+pub fn equal(a: &[u8], b: &[u8]) -> bool
     ensures { λ r. ⌜ r ≡ same (now (a .entry)) (now (b .entry)) ⌝ }
 {
+    if a.len() != b.len() {
+        return false;
+    }
     let mut i = a.len();
     while 0 < i {
         i -= 1;
@@ -50,37 +48,6 @@ fn equal_bytes(a: &[u8], b: &[u8]) -> bool
         }
     }
     true
-}
-
-// Whether the words at a place are the same.
-fn equal_word(a: &[u8], b: &[u8], at: usize) -> bool
-    requires { ⌜ (at + 8 ≤ length (now a)) × (at + 8 ≤ length (now b)) ⌝ }
-    ensures { λ r. ⌜ r ≡ same (part at 8 (now (a .entry))) (part at 8 (now (b .entry))) ⌝ }
-{
-    let end = at + WORD;
-    read_le(&a[at..end]) == read_le(&b[at..end])
-}
-
-// Whether two slices hold the same bytes. A word or more is compared by words from the last, since names tend to differ there; the first of them may
-// be compared in part before.
-pub fn equal(a: &[u8], b: &[u8]) -> bool
-    ensures { λ r. ⌜ r ≡ same (now (a .entry)) (now (b .entry)) ⌝ }
-{
-    let size = a.len();
-    if size != b.len() {
-        return false;
-    }
-    if size < WORD {
-        return equal_bytes(a, b);
-    }
-    let mut i = size;
-    while WORD < i {
-        i -= WORD;
-        if !equal_word(a, b, i) {
-            return false;
-        }
-    }
-    equal_word(a, b, 0)
 }
 
 // Whether every byte is zero. Their bits are gathered, with no early end, so that the loop can run on vectors.
@@ -95,6 +62,9 @@ pub fn all_zero(s: &[u8]) -> bool
     }
     bits == 0
 }
+
+// The bytes of a word.
+const WORD: usize = 8;
 
 // Copies bytes one by one.
 fn copy_bytes(from: &[u8], to: &mut [u8])
@@ -117,22 +87,10 @@ fn copy_word(from: &[u8], at: usize, to: &mut [u8])
     write_le(&mut to[at..end], read_le(&from[at..end]));
 }
 
-// Copies the two words at a place to the same place.
-fn copy_two(from: &[u8], at: usize, to: &mut [u8])
-    requires { ⌜ (at + 16 ≤ length (now from)) × (at + 16 ≤ length (now to)) ⌝ }
-    ensures { λ _. ⌜ now (to .exit) ≡ laidAt at (part at 16 (now (from .entry))) (now (to .entry)) ⌝ }
-{
-    let middle = at + WORD;
-    let end = middle + WORD;
-    let low = read_le(&from[at..middle]);
-    let high = read_le(&from[middle..end]);
-    write_le(&mut to[at..middle], low);
-    write_le(&mut to[middle..end], high);
-}
-
-// Copies less than two words.
-fn copy_short(from: &[u8], to: &mut [u8])
-    requires { ⌜ (length (now from) < 16) × (length (now from) ≤ length (now to)) ⌝ }
+// Copies all of `from` to the start of `to`; the bytes beyond keep their contents. A word or more goes by words, of which the last is the one that
+// ends with `from`, whatever of it was copied before.
+pub fn copy(from: &[u8], to: &mut [u8])
+    requires { ⌜ length (now from) ≤ length (now to) ⌝ }
     ensures { λ _. ⌜ now (to .exit) ≡ laidOver (now (from .entry)) (now (to .entry)) ⌝ }
 {
     let size = from.len();
@@ -140,28 +98,13 @@ fn copy_short(from: &[u8], to: &mut [u8])
         copy_bytes(from, to);
         return;
     }
-    copy_word(from, 0, to);
-    copy_word(from, size - WORD, to);
-}
-
-// Copies all of `from` to the start of `to`; the bytes beyond keep their contents. Two words or more go two at a time, of which the last are those
-// that end with `from`, whatever of them was copied before.
-pub fn copy(from: &[u8], to: &mut [u8])
-    requires { ⌜ length (now from) ≤ length (now to) ⌝ }
-    ensures { λ _. ⌜ now (to .exit) ≡ laidOver (now (from .entry)) (now (to .entry)) ⌝ }
-{
-    let size = from.len();
-    if size < TWO_WORDS {
-        copy_short(from, to);
-        return;
-    }
-    let last = size - TWO_WORDS;
+    let last = size - WORD;
     let mut i = 0;
     while i < last {
-        copy_two(from, i, to);
-        i += TWO_WORDS;
+        copy_word(from, i, to);
+        i += WORD;
     }
-    copy_two(from, last, to);
+    copy_word(from, last, to);
 }
 
 // Fills a slice with zero.

@@ -22,17 +22,17 @@ loop-holds c =
 bytes-requires : tie.Need-bytes-requires Inv-loop μ-loop
 bytes-requires c κs = walk-inside (c .before .loop .inv .walk) (c .loop-test .taken)
 
-holds-requires : tie.Need-holds-requires Inv-loop μ-loop
-holds-requires c κs = walk-bytes (c .before .before .loop .inv .walk) (c .before .loop-test .taken) (c .bytes .ensures)
+holds-with-requires : tie.Need-holds-with-requires Inv-loop μ-loop
+holds-with-requires c κs = (walk-bytes (c .before .before .loop .inv .walk) (c .before .loop-test .taken) (c .bytes .ensures), c .before .before .before .before .fingerprint-of .ensures)
 
 returns : tie.Need-returns Inv-loop μ-loop
-returns c = seek-finds (c .before .before .before .before .loop .inv) (c .before .before .before .loop-test .taken) (c .before .before .bytes .ensures) (c .before .holds .ensures) (c .if1 .taken)
+returns c = seek-finds (c .before .before .before .before .loop .inv) (c .before .before .before .loop-test .taken) (c .before .before .bytes .ensures) (c .before .holds-with .ensures) (c .if1 .taken)
 
 loop-again : tie.Need-loop-again Inv-loop μ-loop
 loop-again c =
     let back5 = c .before .before .before .before .before in let args = back5 .before .before .before .before .before .before .before .args in
     seek-skips (now (args .key)) (now (args .field))
-    (seek-goes-on (back5 .loop .inv) (c .before .before .before .before .loop-test .taken) (c .before .before .before .bytes .ensures) (c .before .before .holds .ensures) (c .before .if1 .left))
+    (seek-goes-on (back5 .loop .inv) (c .before .before .before .before .loop-test .taken) (c .before .before .before .bytes .ensures) (c .before .before .holds-with .ensures) (c .before .if1 .left))
     (back5 .before .before .fingerprint-of .ensures) (c .next-marked2 .ensures)
 
 returns-2 : tie.Need-returns-2 Inv-loop μ-loop
@@ -49,7 +49,7 @@ named-spec =
     (λ c κs. search needs)
     loop-holds
     bytes-requires
-    holds-requires
+    holds-with-requires
     returns
     (λ c. search needs)
     (λ c κs. search needs)

@@ -18,19 +18,19 @@ loop-holds : tie.Need-loop-holds Inv-loop μ-loop
 loop-holds c = fill-begins _ _ (c .before .before .before .pre)
 
 loop-again : tie.Need-loop-again Inv-loop μ-loop
-loop-again c = rw (c .before .before .copy-two .ensures) (fill-part _ _ _ _ 16 _ (c .before .before .before .before .before .loop .inv) (omega arith) (omega arith) (omega arith))
+loop-again c = rw (c .before .before .copy-word .ensures) (fill-part _ _ _ _ 8 _ (c .before .before .before .before .before .loop .inv) (omega arith) (omega arith) (omega arith))
 
 same-length-2 : tie.Need-same-length-2 Inv-loop μ-loop
 same-length-2 c =
     let back5 = c .before .before .before .before .before in let args = back5 .before .before .before .before .args in
-    ap length (c .before .before .copy-two2 .ensures)
-    ∙ fill-last-size (now (args .from)) (now (args .to)) (back5 .loop .i) 16 (back5 .loop .to) (back5 .loop .inv) (back5 .before .if1 .left) (c .before .before .before .before .loop-test .left)
+    ap length (c .before .before .copy-word2 .ensures)
+    ∙ fill-last-size (now (args .from)) (now (args .to)) (back5 .loop .i) 8 (back5 .loop .to) (back5 .loop .inv) (back5 .before .if1 .left) (c .before .before .before .before .loop-test .left)
 
 returns-2 : tie.Need-returns-2 Inv-loop μ-loop
 returns-2 c =
     let back5 = c .before .before .before .before .before in let args = back5 .before .before .before .before .args in
-    c .before .before .copy-two2 .ensures
-    ∙ fill-last (now (args .from)) (now (args .to)) (back5 .loop .i) 16 (back5 .loop .to) (back5 .loop .inv) (back5 .before .if1 .left) (c .before .before .before .before .loop-test .left)
+    c .before .before .copy-word2 .ensures
+    ∙ fill-last (now (args .from)) (now (args .to)) (back5 .loop .i) 8 (back5 .loop .to) (back5 .loop .inv) (back5 .before .if1 .left) (c .before .before .before .before .loop-test .left)
 
 pub copy-spec : {M : Type 1} → statement M
 copy-spec =
