@@ -11,8 +11,8 @@ ghost use Rattle.store.specs.Store.{decode, wellFormed, holds};
 ghost use Rattle.store.specs.Time.{lowestSlot, emptySlot, deadSlot, roomSlot, ofKey, liveOfKey, keyExists};
 ghost use Rattle.store.specs.Promises.{foundFor, lowestFrom, Skips};
 
-// A slot from a slot on before which no field has a fingerprint: the lowest that has it, else one of the last. Two slots are looked at in a turn.
-fn next_marked(store: &[u8], fingerprint: u64, start: usize) -> usize
+// The lowest slot from a slot on whose field has a fingerprint, else one of the last: none before it has. Two slots are looked at in a turn.
+fn next_candidate(store: &[u8], fingerprint: u64, start: usize) -> usize
     requires { ⌜ wellFormed (now store) ≡ true ⌝ }
     ensures { λ r. ⌜ Skips fingerprint start (decode (now (store .entry)) .slots) r ⌝ }
 {
@@ -37,12 +37,12 @@ pub fn named(store: &[u8], key: &[u8], field: &[u8]) -> Found
 {
     let count = slots(store);
     let fingerprint = slot::fingerprint_of(field);
-    let mut i = next_marked(store, fingerprint, 0);
+    let mut i = next_candidate(store, fingerprint, 0);
     while i < count {
         if slot::holds_with(slot::bytes(store, i), fingerprint, key, field) {
             return Found::At(i);
         }
-        i = next_marked(store, fingerprint, i + 1);
+        i = next_candidate(store, fingerprint, i + 1);
     }
     Found::Nothing
 }
@@ -102,7 +102,14 @@ pub fn key_word(key: &[u8], at: usize) -> u64
 }
 
 // The lowest slot from a slot on that holds an entry of a key live at a time, by the key's two words.
-pub fn next_live_with(store: &[u8], low: u64, high: u64, key: &[u8], time: u64, from: usize) -> Found
+pub fn next_live_with(
+    store: &[u8],
+    low: u64,
+    high: u64,
+    key: &[u8],
+    time: u64,
+    from: usize,
+) -> Found
     requires { ⌜ wellFormed (now store) ≡ true ⌝ }
     requires { ⌜ (low ≡ fromLE (part 0 8 (now key))) × (high ≡ fromLE (part 8 8 (now key))) ⌝ }
     ensures { λ r. ⌜ r ≡ foundFor (lowestFrom from (liveOfKey time (now (key .entry))) (decode (now (store .entry)) .slots)) ⌝ }

@@ -17,7 +17,7 @@ abbrev μ-loop : tie.MeasureT-loop
 loop-holds : tie.Need-loop-holds Inv-loop μ-loop
 loop-holds c =
     let start = c .before .before .before .before .before .before in let k = now (start .args .key) in let f = now (start .args .field) in
-    seek-skips k f (seek-begins (holds k f) (now (start .args .store)) (start .pre) (c .before .before .slots .ensures)) (c .before .fingerprint-of .ensures) (c .next-marked .ensures)
+    seek-skips k f (seek-begins (holds k f) (now (start .args .store)) (start .pre) (c .before .before .slots .ensures)) (c .before .fingerprint-of .ensures) (c .next-candidate .ensures)
 
 bytes-requires : tie.Need-bytes-requires Inv-loop μ-loop
 bytes-requires c κs = walk-inside (c .before .loop .inv .walk) (c .loop-test .taken)
@@ -33,7 +33,7 @@ loop-again c =
     let back5 = c .before .before .before .before .before in let args = back5 .before .before .before .before .before .before .before .args in
     seek-skips (now (args .key)) (now (args .field))
     (seek-goes-on (back5 .loop .inv) (c .before .before .before .before .loop-test .taken) (c .before .before .before .bytes .ensures) (c .before .before .holds-with .ensures) (c .before .if1 .left))
-    (back5 .before .before .fingerprint-of .ensures) (c .next-marked2 .ensures)
+    (back5 .before .before .fingerprint-of .ensures) (c .next-candidate2 .ensures)
 
 returns-2 : tie.Need-returns-2 Inv-loop μ-loop
 returns-2 c = seek-ends (c .before .loop .inv) (c .loop-test .left)
@@ -53,6 +53,6 @@ named-spec =
     returns
     (λ c. search needs)
     (λ c κs. search needs)
-    (λ c. omega (arith, c .next-marked2 .ensures .later))
+    (λ c. omega (arith, c .next-candidate2 .ensures .later))
     loop-again
     returns-2)

@@ -7,8 +7,8 @@ use Rattle.store.specs.Store.{decode}
 use Rattle.store.specs.Promises.{Skips}
 use Rattle.store.proofs.Encode.{decode-valid}
 use Rattle.store.proofs.Finding.{Walk, walk-inside, walk-bytes, skips-none, skips-on}
-use Rattle.store.proofs.find.next_marked.Statement.{statement}
-use Rattle.store.proofs.find.next_marked.Tie as tie
+use Rattle.store.proofs.find.next_candidate.Statement.{statement}
+use Rattle.store.proofs.find.next_candidate.Tie as tie
 
 abbrev Inv-loop : tie.InvT-loop
 Inv-loop store fingerprint start last i₀ i = Walk store (last + 1) × Skips fingerprint start (decode store .slots) i
@@ -48,8 +48,8 @@ loop-again c =
     let e : loop .i + 1 + 1 ≡ loop .i + 2 = omega arith in
     (loop .inv .0, rw e at (skips-on (loop .inv .0) (omega (arith, more)) (c .before .before .bytes2 .ensures) one (c .before .fingerprint-at2 .ensures) (c .if2 .left)))
 
-pub next-marked-spec : {M : Type 1} → statement M
-next-marked-spec =
+pub next-candidate-spec : {M : Type 1} → statement M
+next-candidate-spec =
     tie.close
     (tie.spec
     Inv-loop
