@@ -3,7 +3,7 @@ use mathlib.Core.Path.{_≡_, refl, sym, ap, subst, _∙_}
 use mathlib.Core.Bool.{Bool, true, false, cond, not, _||_}
 use mathlib.Core.List.{List, [], _∷_, map}
 use mathlib.Core.Option.{Option, none, some}
-use Prim.Native.Nat.{ℕ, suc, _+_, _≤_, _<_}
+use Prim.Native.Nat.{ℕ, suc, _+_, _-_, _≤_, _<_}
 use native.Mathlib.Omega.{arith}
 use borrow.Author.Tests.{ltb-false, lt-ltb, le-ltb, ne-eqb}
 use lib.Dec.{ltb, eqb}
@@ -15,6 +15,7 @@ use Rattle.wire.specs.Promises.{wordsIn, Inside}
 use Rattle.wire.proofs.Lists.{or-left, or-right, or-neither, length-keep}
 use Rattle.store.specs.Layout.{keyMost, fieldMost, valueMost, versionMost}
 use Rattle.store.specs.declared.Found.{Found}
+use Rattle.store.specs.declared.Found.the-variants as founds
 use Rattle.store.specs.Store.{Entry, entry, Slot, Store, decode, holds}
 use Rattle.store.specs.Time.{lowestSlot, put}
 use Rattle.store.specs.declared.Expiry.the-variants.{Never}
@@ -29,7 +30,7 @@ use Rattle.commands.specs.Effect.{change, changeAll, nextExpiry, written
 use Rattle.commands.specs.Effect.Change.{write}
 use Rattle.commands.specs.Execute.{passes}
 use Rattle.commands.specs.Promises.{Sought, entryFor, withPut, heldVersion}
-use Rattle.commands.specs.Promises.{fieldsIn, timesIn, versionIn, overflowing, missing, newField, surveyOf, pairEntry, Pairing, Placing, withAll}
+use Rattle.commands.specs.Promises.{fieldsIn, timesIn, versionIn, overflowing, missing, newField, Telling, surveyOf, pairEntry, Pairing, Placing, withAll}
 use Rattle.commands.proofs.FieldDeeds.{sought-entry}
 use Rattle.commands.proofs.FieldLoops.{wordsFrom, next-word, length-from}
 use Rattle.commands.proofs.Sound.{pair-count}
@@ -129,6 +130,32 @@ module _ (s : List ℕ) (places : List (List ℕ)) (i : ℕ) {f : Word} {r : ℕ
   pub again-few : Inside s places → r ≤ wordsMost
   again-few w = omega (arith, again-is, few-times f (namedFrom s places (i + 2)), few-named s places (i + 2) w)
 
+-- ---- what these times tell
+
+-- they tell it themselves
+pub telling-all : {found : Found} {held times n : ℕ} → n ≡ times → Telling found held times n
+telling-all e = record { most = omega arith; passes = rw e; added = rw e }
+
+-- of a field that is held, with a version far from the largest, 0 tells as much
+pub telling-none : {found : Found} {held times j : ℕ} → found ≡ founds.At j → held < versionMost - wordsMost → times ≤ wordsMost → Telling found held times 0
+unfolding newField
+telling-none {found} {held} {times} e l m =
+    record {
+      most = omega arith;
+      passes = le-ltb versionMost (held + (0 + 1)) (omega arith) ∙ sym (le-ltb versionMost (held + (times + 1)) (omega arith));
+      added = rw e;
+    }
+
+module _ (s : List ℕ) (places : List (List ℕ)) (i : ℕ) where
+  pub times-few : Inside s places → timesIn (wordAt i (wordsIn s places)) (fieldsIn (drop (i + 2) (wordsIn s places))) ≤ wordsMost
+  times-few w = again-few s places i refl refl w
+
+  pub telling-is : {found : Found} {held n : ℕ} {f : Word} → f ≡ wordAt i (wordsIn s places)
+      → Telling found held (timesIn (wordAt i (wordsIn s places)) (fieldsIn (drop (i + 2) (wordsIn s places)))) n
+      → Telling found held (timesIn f (namedFrom s places (i + 2))) n
+  unfolding namedFrom wordsFrom
+  telling-is q t = rw q t
+
 -- ---- what the pairs would do
 
 -- a field is among some if it comes again
@@ -180,12 +207,13 @@ module _ {k : Word} {fields rest : List Word} {ss : List Slot} {n : ℕ} (s : Su
       let m : n ≡ missing k fields ss = omega (arith, s .sum, ap (λ (fs : List Word). missing k fs ss) q) in
       rw (← (s .same), q, ← m)
 
-  module _ {f : Word} {more : List Word} {held again : ℕ} (q : rest ≡ f ∷ more) (v : held ≡ versionIn k ss f) (a : again ≡ timesIn f more) where
+  module _ {f : Word} {more : List Word} {found : Found} {held again : ℕ} (q : rest ≡ f ∷ more) (v : held ≡ versionIn k ss f)
+      (a : Telling found held (timesIn f more) again) where
     passes-here : ltb versionMost (held + (again + 1)) || overflowing (versionIn k ss) more ≡ overflowing (versionIn k ss) fields
     unfolding overflowing
     passes-here =
-        let e : again + 1 ≡ suc again = omega arith in
-        rw (e, v, a) (ap (overflowing (versionIn k ss)) (sym q) ∙ s .same)
+        let e : timesIn f more + 1 ≡ suc (timesIn f more) = omega arith in
+        rw (a .passes, e, v) (ap (overflowing (versionIn k ss)) (sym q) ∙ s .same)
 
     -- the field passes the largest version
     pub surveying-over : versionMost < held + (again + 1) → surveys.Overflow ≡ surveyOf k fields ss
@@ -193,12 +221,12 @@ module _ {k : Word} {fields rest : List Word} {ss : List Slot} {n : ℕ} (s : Su
     surveying-over h = rw (← passes-here, lt-ltb versionMost (held + (again + 1)) h)
 
     -- or not
-    pub surveying-on : held + (again + 1) ≤ versionMost → {found : Found} {r : ℕ} → found ≡ foundFor (lowestSlot (holds k f) ss)
+    pub surveying-on : held + (again + 1) ≤ versionMost → {r : ℕ} → found ≡ foundFor (lowestSlot (holds k f) ss)
         → r ≡ newField found again
         → Surveying k fields more ss (n + r)
     surveying-on h g w =
         record {
-          sum = omega (arith, s .sum, ap (λ (fs : List Word). missing k fs ss) q, missing-more k f more ss g a, w);
+          sum = omega (arith, s .sum, ap (λ (fs : List Word). missing k fs ss) q, missing-more k f more ss g refl, w, a .added);
           same = rw (le-ltb versionMost (held + (again + 1)) h) at passes-here;
         }
 

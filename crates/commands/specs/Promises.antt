@@ -203,6 +203,13 @@ unfoldable pub newField : Found → ℕ → ℕ
 newField (founds.At i) again = 0
 newField founds.Nothing again = cond (eqb again 0) 1 0
 
+-- a number that tells what the times of a field that was found or not, with a version, would tell: whether the version passes its largest, and whether
+-- the field is new
+pub record Telling (found : Found) (held times n : ℕ) : Type 0 where
+  pub most : n ≤ times
+  pub passes : ltb versionMost (held + (n + 1)) ≡ ltb versionMost (held + (times + 1))
+  pub added : newField found n ≡ newField found times
+
 -- what writing fields one after the other would do
 unfoldable pub surveyOf : Word → List Word → List Slot → Survey
 surveyOf k fs ss = cond (overflowing (versionIn k ss) fs) surveys.Overflow (surveys.Added (missing k fs ss))

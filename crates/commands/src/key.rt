@@ -215,10 +215,12 @@ fn put_listed(bytes: &[u8], listing: Listing, key: &[u8], time: u64, out: &mut [
         ⌜ Laid shown (now (out .entry)) (now (out .exit)) r ⌝ }
 {
     let count = read::slots(bytes);
+    let low = find::key_word(key, 0);
+    let high = find::key_word(key, 8);
     let mut at = 0;
     let mut from = 0;
     while from < count {
-        let found = find::next_live(bytes, key, time, from);
+        let found = find::next_live_with(bytes, low, high, key, time, from);
         let Found::At(i) = found else {
             return at;
         };

@@ -24,7 +24,7 @@ ghost use Rattle.store.specs.Promises.{Holds};
 ghost use Rattle.commands.specs.Command.Command.{setMany};
 ghost use Rattle.commands.specs.Parse.{pairsOf};
 ghost use Rattle.commands.specs.Execute.{swept, room, runOn};
-ghost use Rattle.commands.specs.Promises.{withPut, WithinLimits, Does, FieldsReady, fieldsIn, timesIn, pairEntry, Pairing, Placing, withAll, surveyOf, newField};
+ghost use Rattle.commands.specs.Promises.{withPut, WithinLimits, Does, FieldsReady, fieldsIn, timesIn, pairEntry, Pairing, Placing, withAll, surveyOf, newField, Telling};
 
 // What the pairs would do: pass the largest version (23), or add so many fields.
 pub enum Survey {
@@ -73,6 +73,22 @@ fn repeats(command: &[u8], pairs: &[[usize; 2]], i: usize) -> u64
     n
 }
 
+// The same where it matters: a held field far from the largest version passes it in no case, and is not new.
+fn relevant_repeats(command: &[u8], pairs: &[[usize; 2]], i: usize, found: Found, held: u64) -> u64
+    requires { ⌜ (Inside (now command) (now pairs)) × (i + 1 < length (now pairs)) ⌝ }
+    ensures { λ r.
+        let ws = wordsIn (now (command .entry)) (now (pairs .entry)) in
+        ⌜ Telling found held (timesIn (wordAt i ws) (fieldsIn (drop (i + 2) ws))) r ⌝ }
+{
+    let Found::At(_) = found else {
+        return repeats(command, pairs, i);
+    };
+    if held < VERSION_MOST - WORDS_MOST as u64 {
+        return 0;
+    }
+    repeats(command, pairs, i)
+}
+
 // 1 where a field is missing and does not come again, else 0.
 fn new_field(found: Found, again: u64) -> usize
     ensures { λ r. ⌜ r ≡ newField found again ⌝ }
@@ -103,8 +119,8 @@ fn survey_pairs(
     let mut i = 0;
     while i + 1 < pairs.len() {
         let found = find::named_near(bytes, key, word(command, pairs, i), hints[i]);
-        let again = repeats(command, pairs, i);
         let held = held_version(bytes, found);
+        let again = relevant_repeats(command, pairs, i, found, held);
         if VERSION_MOST < held + (again + 1) {
             return Survey::Overflow;
         }

@@ -11,10 +11,12 @@ use lib.Seq.{drop-cons, getD-drop}
 use Rattle.wire.specs.Lists.{any, keep, isSome, orElse}
 use Rattle.wire.proofs.Lists.{both-ways, impossible}
 use Rattle.store.specs.declared.Found.the-variants as founds
-use Rattle.store.specs.Layout.{headerSize, slotSize}
+use Rattle.wire.specs.Bytes.{part}
+use Rattle.store.specs.Layout.{headerSize, slotSize, fieldAt, fieldMost}
 use Rattle.store.specs.Store.{Slot, decodeSlot, slotCount, decode, wellFormed, holds}
 use Rattle.store.specs.Time.{lowestSlot, emptySlot}
-use Rattle.store.specs.Promises.{SlotBytes, Held, foundFor, lowestFrom, slotAt}
+use Rattle.store.specs.Promises.{SlotBytes, Held, fingerprintOf, foundFor, lowestFrom, Skips, slotAt}
+use Rattle.store.proofs.SlotParts.{other-fingerprint}
 use Rattle.store.proofs.Slots.{Lowest, lowest-some, lowest-only}
 use Rattle.store.proofs.Encode.{length-decode, decode-valid}
 use Rattle.store.proofs.ReadAt.{slot-inside, slot-bytes, slot-means}
@@ -171,6 +173,26 @@ module _ {p : Slot → Bool} {b : List ℕ} {n i : ℕ} {o : Option ℕ} (s : Se
           walk = s .walk;
           rest = sym (lowest-skip p (decode b .slots) i (within (s .walk) l) (walk-test (s .walk) l e p q h)) ∙ s .rest;
         }
+
+-- ---- slots of another fingerprint are skipped
+
+pub skips-none : (x from : ℕ) (ss : List Slot) → Skips x from ss from
+skips-none x from ss = record { later = omega arith; rest = λ k f e. refl }
+
+pub skips-on : {x from n i y : ℕ} {b t : List ℕ} → Walk b n → i < n → t ≡ slotAt b i → Skips x from (decode b .slots) i
+    → y ≡ fingerprintOf (part fieldAt fieldMost t) → (y ≡ x → ⊥) → Skips x from (decode b .slots) (i + 1)
+skips-on {x} {i = i} {b = b} {t = t} w l e s q n =
+    record {
+      later = omega (arith, s .later);
+      rest = λ k f h. s .rest k f h
+          ∙ lowest-skip (holds k f) (decode b .slots) i (within w l)
+          (walk-test w l e {x = false} (holds k f) refl (other-fingerprint t k f (walk-bytes w l e) (λ p. n (q ∙ p ∙ sym h))));
+    }
+
+-- a search goes on after them
+pub seek-skips : (k f : List ℕ) {b : List ℕ} {n i x r : ℕ} {o : Option ℕ} → Seek (holds k f) b n i o → x ≡ fingerprintOf f → Skips x i (decode b .slots) r
+    → Seek (holds k f) b n r o
+seek-skips k f s e h = record { walk = s .walk; rest = sym (h .rest k f e) ∙ s .rest }
 
 -- slot i holds a name: no other does
 pub hint-finds : (k f : List ℕ) {b t : List ℕ} {n i : ℕ} {r : Bool} → Walk b n → i < n → t ≡ slotAt b i → r ≡ holds k f (decodeSlot t) → r ≡ true

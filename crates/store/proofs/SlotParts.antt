@@ -1,11 +1,11 @@
 -- What a slot's parts are, in the forms in which the code takes them.
 use mathlib.Core.Path.{_≡_, refl, sym, ap, _∙_}
-use mathlib.Core.Bool.{Bool, true, false, cond, not, _&&_, and-false}
+use mathlib.Core.Bool.{Bool, true, false, cond, not, _&&_, and-true, and-false}
 use mathlib.Core.List.{List, _++_}
 use mathlib.Core.Option.{none, some}
 use Prim.Native.Nat.{ℕ, _+_, _-_, _≤_, _<_}
 use native.Mathlib.Omega.{arith}
-use lib.Bits.{bitXor}
+use lib.Bits.{bitXor, xor-zero-r}
 use lib.Dec.{eqb}
 use lib.ListN.{length, take, drop, getD, length-take, length-drop, take-append-drop, drop-of-length-le}
 use lib.Seq.{take-all}
@@ -209,3 +209,48 @@ other-fingerprint t k f w n = go (eqb (getD t stateAt 0) emptyState) refl
     go false e =
         let u : getD t stateAt 0 ≡ emptyState → ⊥ = eqb-false (getD t stateAt 0) emptyState e in
         rw (holds-held t k f u, not-same (decodeEntry t .field) f (other (record { slot = w; held = u }))) (and-false (same (decodeEntry t .key) k))
+
+-- ---- a field of at most one word
+
+short-print : (f : List ℕ) → length f ≤ 8 → fingerprintOf f ≡ fromLE f
+unfolding fingerprintOf part fromLE
+short-print f l = rw (take-all 8 f l, drop-of-length-le f l, xor-zero-r (fromLE f))
+
+module _ (t k f : List ℕ) (w : SlotBytes t) where
+  field-length : HeldBytes t → length (decodeEntry t .field) ≡ getD t fieldLengthAt 0
+  unfolding decodeEntry
+  field-length h = length-part fieldAt (getD t fieldLengthAt 0) t (field-inside t h)
+
+  field-are-bytes : Bytes (decodeEntry t .field)
+  unfolding decodeEntry
+  field-are-bytes = bytes-part fieldAt (getD t fieldLengthAt 0) t (w .bytes)
+
+  -- a field of another length is another
+  pub other-size : (getD t fieldLengthAt 0 ≡ length f → ⊥) → holds k f (decodeSlot t) ≡ false
+  unfolding holds orElse
+  other-size n = go (eqb (getD t stateAt 0) emptyState) refl
+    where
+      go : (x : Bool) → eqb (getD t stateAt 0) emptyState ≡ x → holds k f (decodeSlot t) ≡ false
+      go true e = rw (state-empty t (eqb-true (getD t stateAt 0) emptyState e))
+      go false e =
+          let u : getD t stateAt 0 ≡ emptyState → ⊥ = eqb-false (getD t stateAt 0) emptyState e in
+          let h : HeldBytes t = record { slot = w; held = u } in
+          rw (holds-held t k f u, not-same (decodeEntry t .field) f (λ d. n (sym (field-length h) ∙ ap length d))) (and-false (same (decodeEntry t .key) k))
+
+  -- one of the same length and fingerprint is the same, so that the key decides
+  pub short-holds : Bytes f → length f ≤ 8 → getD t fieldLengthAt 0 ≡ length f → fingerprintOf (part fieldAt fieldMost t) ≡ fingerprintOf f
+      → holds k f (decodeSlot t) ≡ ofKey k (decodeSlot t)
+  unfolding holds ofKey orElse
+  short-holds b l e q = go (eqb (getD t stateAt 0) emptyState) refl
+    where
+      field-is : HeldBytes t → decodeEntry t .field ≡ f
+      field-is h =
+          let n : length (decodeEntry t .field) ≡ length f = field-length h ∙ e in
+          let p : fingerprintOf (decodeEntry t .field) ≡ fingerprintOf f = sym (fingerprint-padded fieldMost (decodeEntry t .field)) ∙ ap fingerprintOf (field-padded t h) ∙ q in
+          spelled (decodeEntry t .field) f field-are-bytes b n (sym (short-print (decodeEntry t .field) (omega arith)) ∙ p ∙ short-print f l)
+
+      go : (x : Bool) → eqb (getD t stateAt 0) emptyState ≡ x → holds k f (decodeSlot t) ≡ ofKey k (decodeSlot t)
+      go true d = rw (state-empty t (eqb-true (getD t stateAt 0) emptyState d))
+      go false d =
+          let u : getD t stateAt 0 ≡ emptyState → ⊥ = eqb-false (getD t stateAt 0) emptyState d in
+          rw (holds-held t k f u, key-held t k u, field-is (record { slot = w; held = u }), same-refl f) (and-true (same (decodeEntry t .key) k))

@@ -1,7 +1,7 @@
 -- One slot's bytes, written place by place.
 use mathlib.Core.Path.{_≡_, refl, sym, ap, _∙_}
 use mathlib.Core.List.{List, [], _∷_, _++_, flatten, append-assoc, append-nil}
-use Prim.Native.Nat.{ℕ, _+_, _-_, _%_, _≤_}
+use Prim.Native.Nat.{ℕ, zero, suc, _+_, _-_, _%_, _≤_}
 use native.Mathlib.Omega.{arith}
 use lib.ListN.{length, take, drop, set, replicate, length-append, length-set, length-drop, drop-of-length-le}
 use lib.Seq.{take-all, take-append-seam, drop-drop, length-take-le}
@@ -17,15 +17,15 @@ use Rattle.store.specs.Promises.{Writable, stamped, stampedBytes}
 
 -- ---- a place
 
--- bytes laid over it and the rest cleared: the bytes with zero after them
-pub padded-over : (x s t u : List ℕ) → length x ≤ length s → t ≡ laidOver x s → u ≡ replicate (length (midOf (length x) (length t - length x) t)) 0
-    → putMid (length x) (length t - length x) t u ≡ padded (length s) x
-unfolding padded
-padded-over x s t u l p q =
-    let n : length t ≡ length s = rw p (length-laid x s l) in
-    let front : take (length x) t ≡ x = rw p (take-laid x s) in
-    let m : length (drop (length x) t) ≡ length t - length x = length-drop (length x) t in
-    rw (front, q, take-all (length t - length x) (drop (length x) t) (omega arith), drop-of-length-le (drop (length x) t) {i = length t - length x} (omega arith), m, n, append-nil)
+-- it is cleared and bytes are laid over it: the bytes with zero after them
+pub padded-over : (x s t u : List ℕ) → t ≡ replicate (length s) 0 → u ≡ laidOver x t → u ≡ padded (length s) x
+unfolding padded laidOver
+padded-over x s t u p q = rw (q, p) (ap (λ (l : List ℕ). x ++ l) (drop-replicate (length x) (length s)))
+  where
+    drop-replicate : (m n : ℕ) → drop m (replicate {A = ℕ} n 0) ≡ replicate (n - m) 0
+    drop-replicate zero n = let z : n - 0 ≡ n = omega arith in rw z
+    drop-replicate (suc m) zero = let z : 0 - suc m ≡ 0 = omega arith in rw z
+    drop-replicate (suc m) (suc n) = let z : suc n - suc m ≡ n - m = omega arith in rw z (drop-replicate m n)
 
 -- ---- state, version and expiry
 

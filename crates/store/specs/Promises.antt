@@ -145,6 +145,11 @@ foundFor (some i) = founds.At i
 unfoldable pub lowestFrom : ℕ → (Slot → Bool) → List Slot → Option ℕ
 lowestFrom i p ss = Option·map (λ j. i + j) (lowestSlot p (drop i ss))
 
+-- from a slot to another, no slot holds a field of a fingerprint
+pub record Skips (fingerprint from : ℕ) (ss : List Slot) (r : ℕ) : Type 0 where
+  pub later : from ≤ r
+  pub rest : (k f : List ℕ) → fingerprint ≡ fingerprintOf f → lowestFrom from (holds k f) ss ≡ lowestFrom r (holds k f) ss
+
 -- ---- changes
 
 abbrev pub withSlot : ℕ → Slot → Store → Store

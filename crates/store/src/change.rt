@@ -45,14 +45,13 @@ pub fn remove(store: &mut [u8], i: usize)
     clear(&mut store[start..end]);
 }
 
-// Writes bytes over a place, with zero after them.
+// Writes bytes over a place, with zero after them. All of it is cleared, since the place has a fixed size.
 fn write_padded(from: &[u8], to: &mut [u8])
     requires { ⌜ length (now from) ≤ length (now to) ⌝ }
     ensures { λ _. ⌜ now (to .exit) ≡ padded (length (now (to .entry))) (now (from .entry)) ⌝ }
 {
+    clear(to);
     copy(from, to);
-    let end = from.len();
-    clear(&mut to[end..]);
 }
 
 // The state of a slot that holds an entry.

@@ -20,7 +20,7 @@ ghost use mathlib.Core.Bool.{true, false};
 ghost use Prim.Native.Nat.{_+_, _*_, _<_, _≤_};
 ghost use lib.ListN.{length};
 ghost use Rattle.wire.specs.Bytes.{fromLE, part};
-ghost use Rattle.store.specs.Layout.{headerSize, slotSize};
+ghost use Rattle.store.specs.Layout.{headerSize, slotSize, fieldAt, fieldMost};
 ghost use Rattle.store.specs.Store.{decodeSlot, decodeEntry, decodeExpiry, holds};
 ghost use Rattle.store.specs.Time.{emptySlot, liveSlot, deadSlot, ofKey, liveOfKey};
 ghost use Rattle.store.specs.Promises.{SlotBytes, HeldBytes, fingerprintOf};
@@ -132,18 +132,7 @@ pub fn of_key(t: &[u8], k: &[u8]) -> bool
     equal(key(t), k)
 }
 
-// Whether the slot holds an entry of a key that is live at a time.
-pub fn is_live_of(t: &[u8], k: &[u8], time: u64) -> bool
-    requires { ⌜ SlotBytes (now t) ⌝ }
-    ensures { λ r. ⌜ r ≡ liveOfKey time (now (k .entry)) (decodeSlot (now (t .entry))) ⌝ }
-{
-    if is_live(t, time) {
-        return of_key(t, k);
-    }
-    false
-}
-
-// The same as `of_key`, by the key's two words and its length.
+// The same by the key's two words and its length.
 pub fn of_key_with(t: &[u8], low: u64, high: u64, k: &[u8]) -> bool
     requires { ⌜ SlotBytes (now t) ⌝ }
     requires { ⌜ (low ≡ fromLE (part 0 8 (now k))) × (high ≡ fromLE (part 8 8 (now k))) ⌝ }
@@ -162,7 +151,7 @@ pub fn of_key_with(t: &[u8], low: u64, high: u64, k: &[u8]) -> bool
     word(key, WORD) == high
 }
 
-// The same as `is_live_of`, by the key's two words and its length.
+// Whether the slot holds an entry of a key that is live at a time, by the key's two words and its length.
 pub fn is_live_with(t: &[u8], low: u64, high: u64, k: &[u8], time: u64) -> bool
     requires { ⌜ SlotBytes (now t) ⌝ }
     requires { ⌜ (low ≡ fromLE (part 0 8 (now k))) × (high ≡ fromLE (part 8 8 (now k))) ⌝ }
@@ -206,15 +195,30 @@ pub fn fingerprint_of(f: &[u8]) -> u64
     word_padded(f, 0) ^ word_padded(f, WORD)
 }
 
-// The same as `holds`, by the field's fingerprint first: where the slot has another, nothing else of it is looked at.
+// The same of a slot's place for the field: that of its field, since zero stands after it.
+pub fn fingerprint_at(t: &[u8]) -> u64
+    requires { ⌜ length (now t) ≡ slotSize ⌝ }
+    ensures { λ r. ⌜ r ≡ fingerprintOf (part fieldAt fieldMost (now (t .entry))) ⌝ }
+{
+    let field = &t[FIELD_AT..VALUE_AT];
+    word(field, 0) ^ word(field, WORD)
+}
+
+// The same as `holds`, by the field's fingerprint first: where the slot has another, nothing else of it is looked at, and where a field of at most a
+// word has the same, nothing else of the field.
 pub fn holds_with(t: &[u8], fingerprint: u64, k: &[u8], f: &[u8]) -> bool
     requires { ⌜ SlotBytes (now t) ⌝ }
     requires { ⌜ fingerprint ≡ fingerprintOf (now f) ⌝ }
     ensures { λ r. ⌜ r ≡ holds (now (k .entry)) (now (f .entry)) (decodeSlot (now (t .entry))) ⌝ }
 {
-    let field = &t[FIELD_AT..VALUE_AT];
-    if word(field, 0) ^ word(field, WORD) != fingerprint {
+    if fingerprint_at(t) != fingerprint {
         return false;
     }
-    holds(t, k, f)
+    if WORD < f.len() {
+        return holds(t, k, f);
+    }
+    if t[FIELD_LENGTH_AT] as usize != f.len() {
+        return false;
+    }
+    of_key(t, k)
 }
