@@ -202,6 +202,7 @@ commandCases =
     ∷ request 1000 "EXHMGETWITHVER m c a" "*2\r\n$-1\r\n*2\r\n$1\r\n1\r\n:1\r\n"
     ∷ request 1000 "EXHKEYS m" "*2\r\n$1\r\na\r\n$1\r\nb\r\n"
     ∷ request 1000 "EXHVALS m" "*2\r\n$1\r\n1\r\n$2\r\n22\r\n"
+    ∷ request 1000 "EXHGETALL m" "*4\r\n$1\r\na\r\n$1\r\n1\r\n$1\r\nb\r\n$2\r\n22\r\n"
     ∷ request 1000 "EXHLEN m" ":2\r\n"
     ∷ request 1000 "EXHDEL m a c a" ":1\r\n"
     ∷ request 1000 "EXHKEYS n" "*0\r\n"
@@ -246,6 +247,7 @@ commandCases =
     (request 1000 "EXHSET m a 1" ":1\r\n"
     ∷ request 2000 "EXHPEXPIREAT m a 1500" ":1\r\n"
     ∷ request 900 "EXHLEN m" ":1\r\n"
+    ∷ request 900 "EXHLEN m NOEXP" ":0\r\n"
     ∷ request 900 "EXHPERSIST m a" ":0\r\n"
     ∷ [])
     2000 none none
@@ -267,7 +269,11 @@ commandCases =
     ∷ refusal 2000 "EXHSET m a 2" 23 "-ERR version overflow\r\n"
     ∷ [])
     2000 (entry "m" "a" "1" 4294967295 Never) none
-    ∷ case "24: a repeated field is counted once"
-    (request 1000 "EXHSET m a 1" ":1\r\n" ∷ request 1000 "EXHMSET m b 1 b 2" "+OK\r\n" ∷ [])
-    1000 (entry "m" "a" "1" 1 Never) (entry "m" "b" "2" 2 Never)
+    ∷ case "21; 24, where a repeated field is counted once"
+    (request 1000 "EXHSET m a x" ":1\r\n"
+    ∷ refusal 1000 "EXHINCRBY m a 1" 21 "-ERR hash value is not an integer\r\n"
+    ∷ request 1000 "EXHMSET m b 1 b 2" "+OK\r\n"
+    ∷ refusal 1000 "EXHSET m c 1" 24 "-ERR store is full\r\n"
+    ∷ [])
+    1000 (entry "m" "a" "x" 1 Never) (entry "m" "b" "2" 2 Never)
     ∷ []

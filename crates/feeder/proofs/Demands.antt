@@ -104,11 +104,12 @@ pub late-exactly-if : (clock : ℕ) (command : List ℕ) (s : Store) (c : Comman
     (n : ℕ) → (exec clock command s .refusal ≡ some n) ↔ LowestOf (lateChecks (nowAt clock s) (effect (nowAt clock s) c left) left) n
 late-exactly-if = late-exactly
 
--- The number of a refused command is one of 10 to 18 or of 20 to 24, and a row of the table has it; its line is the row's text and CR LF.
+-- The number of a refused command is one of 10 to 18 or of 20 to 24.
 pub refusal-numbered : (clock : ℕ) (command : List ℕ) (s : Store) (n : ℕ) → exec clock command s .refusal ≡ some n
     → ((earlyLeast ≤ n) × (n ≤ earlyMost)) ⊎ ((lateLeast ≤ n) × (n ≤ lateMost))
 refusal-numbered = refusal-number
 
+-- A row of the table has that number; its line is the row's text and CR LF.
 pub refusal-in-table : (clock : ℕ) (command : List ℕ) (s : Store) (n : ℕ) → exec clock command s .refusal ≡ some n
     → (r : RefusalRow) × List·Mem r table × (r .number ≡ n) × (errorLine n ≡ text (r .reply) ++ crlf)
 unfolding line
@@ -139,12 +140,13 @@ pub late-refusal-leaves : (clock : ℕ) (command : List ℕ) (s : Store) (n : �
     × (n ≤ lateMost)
 late-refusal-leaves = late-refusal
 
--- A refused command keeps every entry that is live at its now, in its slot; the slot's bytes are as they were.
+-- A refused command keeps every entry that is live at its now, in its slot.
 pub refused-keeps : (clock : ℕ) (command : List ℕ) (s : Store) (n : ℕ) → exec clock command s .refusal ≡ some n
     → (i : ℕ) (e : Entry) → getD (s .slots) i none ≡ some e → live (nowAt clock s) e ≡ true
     → getD (exec clock command s .store .slots) i none ≡ some e
 refused-keeps = refused-keeps-live
 
+-- The bytes of such a slot are as they were.
 pub refused-keeps-bytes : (clock : ℕ) (command b : List ℕ) (n : ℕ) → wellFormed b ≡ true → exec clock command (decode b) .refusal ≡ some n
     → (i : ℕ) (e : Entry) → i < slotCount b → getD (decode b .slots) i none ≡ some e → live (nowAt clock (decode b)) e ≡ true
     → part (headerSize + slotSize * i) slotSize (execBytes clock command b .store) ≡ part (headerSize + slotSize * i) slotSize b
@@ -192,16 +194,17 @@ pub stays-well-formed : (clock : ℕ) (command b : List ℕ) → Bytes command �
     → wellFormed (execBytes clock command b .store) ≡ true
 stays-well-formed = execBytes-well
 
--- The bytes that a record leaves in a well-formed store hold what the definition of the record gives, and are as many as before; the reply is the
--- definition's.
+-- The bytes that a record leaves in a well-formed store hold what the definition of the record gives.
 pub bytes-mean : (clock : ℕ) (command b : List ℕ) → Bytes command → wellFormed b ≡ true
     → decode (execBytes clock command b .store) ≡ exec clock command (decode b) .store
 bytes-mean = execBytes-means
 
+-- The reply is the definition's.
 pub bytes-reply : (clock : ℕ) (command b : List ℕ) → execBytes clock command b .reply ≡ exec clock command (decode b) .reply
 unfolding execBytes
 bytes-reply clock command b = refl
 
+-- The store's bytes are as many as before.
 pub bytes-as-many : (clock : ℕ) (command b : List ℕ) → Bytes command → wellFormed b ≡ true
     → length (execBytes clock command b .store) ≡ length b
 bytes-as-many = execBytes-length
@@ -268,11 +271,12 @@ dead-is-missing = dead-as-missing
 
 -- ════ Demand 2: time
 
--- A command that passes checks 10 to 18 sets the clock to now, and no record takes the clock back.
+-- A command that passes checks 10 to 18 sets the clock to now.
 pub clock-set : (clock : ℕ) (command : List ℕ) (s : Store) (c : Command) → parse (nowAt clock s) clock command ≡ accepted c
     → exec clock command s .store .clock ≡ nowAt clock s
 clock-set = clock-is-now
 
+-- No records take the clock back.
 pub clock-never-back : (rs : List Step) (s : Store) → s .clock ≤ execAll rs s .clock
 clock-never-back = clock-forward-all
 
@@ -289,43 +293,48 @@ dead-stays = dead-at-clock
 
 -- ════ Demands 1 and 2: replies and buffers
 
--- No reply is empty, so a call that is not refused has reply length 0 exactly if it completes no record.
+-- No reply is empty.
 pub reply-not-empty : (clock : ℕ) (command : List ℕ) (s : Store) → 1 ≤ length (exec clock command s .reply)
 reply-not-empty = exec-some
 
+-- A call that is not refused has reply length 0 exactly if it completes no record.
 pub replied-exactly-if : (f : Feeder) (piece b buffer : List ℕ) → feed f piece b buffer .fed .refusal ≡ 0
     → (feed f piece b buffer .fed .replied ≡ 0) ↔ (absorb (waitingIn f) piece .completed ≡ none)
 replied-exactly-if = refusals.replied-exactly
 
--- No reply on a well-formed store is longer than 56,000 bytes, so a call's reply lies in its buffer; the bytes beyond it are as they were, and with
--- no record completed store and buffer are.
+-- No reply on a well-formed store is longer than 56,000 bytes.
 pub reply-fits : (clock : ℕ) (command b : List ℕ) → wellFormed b ≡ true → length (execBytes clock command b .reply) ≤ bufferLeast
 reply-fits = refusals.reply-short
 
+-- A call's reply lies in its buffer.
 pub reply-in-buffer : (f : Feeder) (piece b buffer : List ℕ) → feed f piece b buffer .fed .replied ≤ length buffer
 reply-in-buffer = refusals.reply-inside
 
+-- The buffer's bytes beyond the reply are as they were.
 pub beyond-reply : (f : Feeder) (piece b buffer : List ℕ)
     → let a = feed f piece b buffer in drop (a .fed .replied) (a .buffer) ≡ drop (a .fed .replied) buffer
 beyond-reply = refusals.buffer-beyond
 
+-- With no record completed, store and buffer are as they were.
 pub no-record-keeps-all : (f : Feeder) (piece b buffer : List ℕ) → absorb (waitingIn f) piece .completed ≡ none
     → (feed f piece b buffer .store ≡ b) × (feed f piece b buffer .buffer ≡ buffer)
 no-record-keeps-all = refusals.no-record-keeps
 
+-- The buffer has as many bytes as before.
 pub buffer-stays : (f : Feeder) (piece b buffer : List ℕ) → length (feed f piece b buffer .buffer) ≡ length buffer
 buffer-stays = refusals.buffer-length
 
 -- ════ Demand 2: rows
 
--- P1 to P14: each refusal's number, each reply, and the clock and the slots at the end. The paper's other worked cases. And every command and option
--- done, every refusal from 11 on.
+-- P1 to P14: each refusal's number, each reply, and the clock and the slots at the end.
 pub marked-examples : map given markedExamples ≡ map expected markedExamples
 marked-examples = commandExamples.marked-examples
 
+-- The paper's other worked cases.
 pub worked-cases : map given workedCases ≡ map expected workedCases
 worked-cases = commandExamples.worked-cases
 
+-- Every command and option done, and every refusal from 11 on.
 pub command-cases : map given commandCases ≡ map expected commandCases
 command-cases = commandExamples.command-cases
 
@@ -381,23 +390,26 @@ module _ (b : List ℕ) (well : wellFormed b ≡ true) where
 
 -- ════ Round trips
 
--- An integer's text is read back, and a text that is read is the integer's text, an integer within the bounds.
+-- An integer's text is read back.
 pub integer-read-back : (lo hi z : ℤ) → within lo hi z ≡ true → readInteger lo hi (integerText z) ≡ some z
 integer-read-back = read-text
 
+-- A text that is read as an integer is that integer's text, and the integer is within the bounds.
 pub integer-text-only : (lo hi : ℤ) (s : List ℕ) (z : ℤ) → readInteger lo hi s ≡ some z → (integerText z ≡ s) × (within lo hi z ≡ true)
 integer-text-only lo hi s z h = (text-read lo hi s z h, read-within lo hi s z h)
 
--- The words of a command are read back, and a command that is read is the array of its words, 1 to 64 of them.
+-- The words of a command are read back.
 pub words-read-back : (ws : List Word) → 1 ≤ length ws → length ws ≤ wordsMost → wordsOf (respOf ws) ≡ some ws
 words-read-back = words-respOf
 
+-- A command that is read is the array of its words, 1 to 64 of them.
 pub words-array-only : (s : List ℕ) (ws : List Word) → wordsOf s ≡ some ws → (s ≡ respOf ws) × (1 ≤ length ws) × (length ws ≤ wordsMost)
 words-array-only s ws h = (respOf-words s ws h, words-count s ws h .0, words-count s ws h .1)
 
--- What a valid store holds is read back from its bytes, which are well formed; well-formed bytes are those of what they hold, which is valid.
+-- What a valid store holds is read back from its bytes, which are well formed.
 pub store-read-back : (s : Store) → Valid s → (wellFormed (encode s) ≡ true) × (decode (encode s) ≡ s)
 store-read-back s v = (encode-well s v, decode-encode s v)
 
+-- Well-formed bytes are those of what they hold, which is valid.
 pub store-bytes-only : (b : List ℕ) → wellFormed b ≡ true → Valid (decode b) × (encode (decode b) ≡ b)
 store-bytes-only b well = (decode-valid b well, encode-decode b well)
