@@ -1,6 +1,6 @@
 -- Where reading stops: from a byte to skip on it stops where it stops from the next.
 use mathlib.Core.Path.{_≡_, refl, sym, ap, _∙_}
-use mathlib.Core.Bool.{Bool, true, false, false≢true}
+use mathlib.Core.Bool.{Bool, true, false, cond, not, _&&_, false≢true}
 use mathlib.Core.List.{List, _∷_, _++_}
 use mathlib.Core.Option.{Option, none, some}
 use Prim.Native.Nat.{ℕ, zero, suc, _+_, _-_, _≤_, _<_}
@@ -8,20 +8,20 @@ use native.Mathlib.Nat.{add-zero, zero-add}
 use native.Mathlib.Numerals.{add-one}
 use native.Mathlib.Omega.{arith}
 use lib.Dec.{eqb, ltb}
-use lib.ListN.{length, take, drop, getD, length-append, length-take, drop-of-length-le, List·getD-eq-default}
+use lib.ListN.{length, take, drop, getD, length-append, length-take, length-drop, drop-of-length-le, List·getD-eq-default}
 use lib.Seq.{drop-cons, getD-take, getD-drop}
 use borrow.Author.Count.{below-more}
-use borrow.Author.Tests.{ltb-true, ltb-false, ne-eqb}
+use borrow.Author.Tests.{ltb-true, ltb-false, le-ltb, ne-eqb, eqb-true, eq-eqb}
 use Rattle.wire.specs.Lists.{orElse}
 use Rattle.feeder.specs.declared.record.Head.the-variants as heads
 use Rattle.feeder.specs.declared.scan.Stop.{Stop}
 use Rattle.feeder.specs.declared.scan.Stop.the-variants as stops
-use Rattle.feeder.specs.Record.{Head, headOf, firstMark}
+use Rattle.feeder.specs.Record.{Head, headOf, firstMark, secondMark}
 use Rattle.feeder.specs.Record.Head.{skip, whole, wait}
 use Rattle.feeder.specs.Stream.{dividedAt, divideAfter, divide}
 use Rattle.feeder.specs.Absorb.{Place, placedAt, firstRecord}
 use Rattle.feeder.proofs.RecordTests.{byte-after}
-use Rattle.feeder.specs.Promises.{headFor, blockSize, stopOf, laterBy, stopFrom, Unmarked, UnmarkedUpTo, NextPlace}
+use Rattle.feeder.specs.Promises.{headFor, blockSize, stopOf, laterBy, stopFrom, NoPair, UnmarkedPairs, Unmarked, UnmarkedUpTo, NextPlace}
 
 -- ---- one byte at a time
 
@@ -129,12 +129,20 @@ stop-rest s at e = go (stop-says s (stops.Rest at) e)
 
 -- ---- many bytes at a time
 
-unmarked-skips : (s : List ℕ) (k : ℕ) → (getD s k 0 ≡ firstMark → ⊥) → headOf (drop k s) ≡ skip
+-- where no mark begins a byte is skipped
+unmarked-skips : (s : List ℕ) (k : ℕ) → Unmarked s k → headOf (drop k s) ≡ skip
 unfolding headOf
-unmarked-skips s k h = rw (getD-drop k s 0 0, add-zero, ne-eqb (getD s k 0) firstMark h)
+unmarked-skips s k h = rw (getD-drop k s 0 0, getD-drop k s 1 0, add-zero) (go (eqb (getD s k 0) firstMark) refl _)
+  where
+    go : (t : Bool) → eqb (getD s k 0) firstMark ≡ t → (after : Head)
+        → cond (not t) skip (cond (ltb (length (drop k s)) 2) wait (cond (not (eqb (getD s (k + 1) 0) secondMark)) skip after)) ≡ skip
+    go false q after = refl
+    go true q after =
+        let (more, other) = h (eqb-true (getD s k 0) firstMark q) in
+        let l : 2 ≤ length (drop k s) = rw length-drop (omega (arith, more)) in
+        rw (le-ltb (length (drop k s)) 2 l, ne-eqb (getD s (k + 1) 0) secondMark other)
 
-pass-over : (s : List ℕ) (k n : ℕ) → k + n ≤ length s → ((i : ℕ) → k ≤ i → i < k + n → getD s i 0 ≡ firstMark → ⊥)
-    → stopFrom k s ≡ stopFrom (k + n) s
+pass-over : (s : List ℕ) (k n : ℕ) → k + n ≤ length s → ((i : ℕ) → k ≤ i → i < k + n → Unmarked s i) → stopFrom k s ≡ stopFrom (k + n) s
 pass-over s k zero l h = rw add-zero
 pass-over s k (suc n) l h =
     stop-on s k (omega arith) (unmarked-skips s k (h k (omega arith) (omega arith)))
@@ -143,7 +151,7 @@ pass-over s k (suc n) l h =
 
 -- bytes passed one by one
 pub pass-begins : (s : List ℕ) (from : ℕ) → from ≤ length s → UnmarkedUpTo s from from
-pass-begins s from l = record { ahead = omega arith; inside = l; unmarked = λ i a b h. omega arith }
+pass-begins s from l = record { ahead = omega arith; inside = l; unmarked = λ i a b h. absurd (omega arith) }
 
 pub pass-goes-on : (s : List ℕ) (from i : ℕ) → UnmarkedUpTo s from i → i < length s → (getD s i 0 ≡ firstMark → ⊥)
     → UnmarkedUpTo s from (i + 1)
@@ -151,74 +159,92 @@ pass-goes-on s from i f l h =
     record {
       ahead = omega (arith, f .ahead);
       inside = omega arith;
-      unmarked = λ j a b. below-more (λ k. from ≤ k → getD s k 0 ≡ firstMark → ⊥) i (λ k u v. f .unmarked k v u) (λ e. h) j b a;
+      unmarked = λ j a b. below-more (λ k. from ≤ k → Unmarked s k) i (λ k u v. f .unmarked k v u) (λ v e. absurd (h e)) j b a;
     }
-
--- bytes passed in blocks
-pub pass-block : (s : List ℕ) (from i : ℕ) → UnmarkedUpTo s from i → blockSize ≤ length s - i
-    → Unmarked (take (i + blockSize - i) (drop i s)) → UnmarkedUpTo s from (i + blockSize)
-pass-block s from i f l h =
-    record { ahead = omega (arith, f .ahead); inside = omega (arith, f .inside); unmarked = λ j a b. go j a b (ltb j i) refl }
-  where
-    go : (j : ℕ) → from ≤ j → j < i + blockSize → (t : Bool) → ltb j i ≡ t → getD s j 0 ≡ firstMark → ⊥
-    go j a b true q e = f .unmarked j a (ltb-true j i q) e
-    go j a b false q e =
-        let low : i ≤ j = ltb-false j i q in
-        let near : j - i < i + blockSize - i = omega arith in
-        let back : i + (j - i) ≡ j = omega arith in
-        h (j - i) (getD-take (i + blockSize - i) (drop i s) (j - i) 0 near ∙ getD-drop i s (j - i) 0 ∙ ap (λ (n : ℕ). getD s n 0) back ∙ e)
-
--- bytes passed up to a place in a part
-pub pass-part : (s : List ℕ) (from i r : ℕ) → UnmarkedUpTo s from i → blockSize ≤ length s - i
-    → UnmarkedUpTo (take (i + blockSize - i) (drop i s)) 0 r → UnmarkedUpTo s from (i + r)
-pass-part s from i r f l g =
-    record { ahead = omega (arith, f .ahead); inside = omega (arith, f .inside, within); unmarked = λ j a b. go j a b (ltb j i) refl }
-  where
-    within : r ≤ blockSize
-    within =
-        let e : length (take (i + blockSize - i) (drop i s)) ≤ blockSize = rw length-take (omega arith) in
-        omega (arith, g .inside)
-
-    go : (j : ℕ) → from ≤ j → j < i + r → (t : Bool) → ltb j i ≡ t → getD s j 0 ≡ firstMark → ⊥
-    go j a b true q e = f .unmarked j a (ltb-true j i q) e
-    go j a b false q e =
-        let low : i ≤ j = ltb-false j i q in
-        let near : j - i < i + blockSize - i = omega (arith, within) in
-        let back : i + (j - i) ≡ j = omega arith in
-        g .unmarked (j - i) (omega arith) (omega arith) (getD-take (i + blockSize - i) (drop i s) (j - i) 0 near ∙ getD-drop i s (j - i) 0 ∙ ap (λ (n : ℕ). getD s n 0) back ∙ e)
 
 -- bytes passed after others
 pub pass-on : (s : List ℕ) (from i r : ℕ) → UnmarkedUpTo s from i → UnmarkedUpTo s i r → UnmarkedUpTo s from r
 pass-on s from i r f g =
     record { ahead = omega (arith, f .ahead, g .ahead); inside = g .inside; unmarked = λ j a b. go j a b (ltb j i) refl }
   where
-    go : (j : ℕ) → from ≤ j → j < r → (t : Bool) → ltb j i ≡ t → getD s j 0 ≡ firstMark → ⊥
-    go j a b true q e = f .unmarked j a (ltb-true j i q) e
-    go j a b false q e = g .unmarked j (ltb-false j i q) b e
+    go : (j : ℕ) → from ≤ j → j < r → (t : Bool) → ltb j i ≡ t → Unmarked s j
+    go j a b true q = f .unmarked j a (ltb-true j i q)
+    go j a b false q = g .unmarked j (ltb-false j i q) b
 
--- bytes looked at: where no mark was seen yet, none stands before i
-pub record Looking (s : List ℕ) (clear : Bool) (i : ℕ) : Type 0 where
-  pub inside : i ≤ length s
-  pub unmarked : clear ≡ true → (k : ℕ) → k < i → getD s k 0 ≡ firstMark → ⊥
+-- a byte of a part
+part-byte : (s : List ℕ) (a e i : ℕ) → a + i < e → getD (take (e - a) (drop a s)) i 0 ≡ getD s (a + i) 0
+part-byte s a e i l =
+    let near : i < e - a = omega arith in
+    getD-take (e - a) (drop a s) i 0 near ∙ getD-drop a s i 0
 
-pub look-begins : (s : List ℕ) → Looking s true 0
-look-begins s = record { inside = omega arith; unmarked = λ z k l e. omega arith }
-
-pub look-mark : (s : List ℕ) (clear : Bool) (i : ℕ) → Looking s clear i → i < length s → Looking s false (i + 1)
-look-mark s clear i f l = record { inside = omega arith; unmarked = λ z. absurd (false≢true z) }
-
-pub look-other : (s : List ℕ) (clear : Bool) (i : ℕ) → Looking s clear i → i < length s → (getD s i 0 ≡ firstMark → ⊥) → Looking s clear (i + 1)
-look-other s clear i f l h = record { inside = omega arith; unmarked = λ z. below-more (λ k. getD s k 0 ≡ firstMark → ⊥) i (f .unmarked z) h }
-
-pub look-ends : (s : List ℕ) (clear : Bool) (i : ℕ) → Looking s clear i → length s ≤ i → clear ≡ true → Unmarked s
-look-ends s clear i f l z k e = go (ltb k i) refl
+-- bytes passed in blocks
+pub pass-block : (s : List ℕ) (from i : ℕ) → UnmarkedUpTo s from i → blockSize < length s - i
+    → UnmarkedPairs (take (i + blockSize - i) (drop i s)) (take (i + blockSize + 1 - (i + 1)) (drop (i + 1) s)) → UnmarkedUpTo s from (i + blockSize)
+pass-block s from i f l h =
+    pass-on s from i (i + blockSize) f (record { ahead = omega arith; inside = omega arith; unmarked = λ j a b. go (j - i) j (omega arith) b })
   where
-    go : (t : Bool) → ltb k i ≡ t → ⊥
+    go : (k j : ℕ) → i + k ≡ j → j < i + blockSize → Unmarked s j
+    go k j e b =
+        let near : i + k < i + blockSize = omega arith in
+        let next : i + 1 + k < i + blockSize + 1 = omega arith in
+        let after : i + 1 + k ≡ j + 1 = omega arith in
+        λ m. (
+          omega arith,
+          λ n.
+              h k (part-byte s i (i + blockSize) k near ∙ ap (λ (x : ℕ). getD s x 0) e ∙ m)
+              (part-byte s (i + 1) (i + blockSize + 1) k next ∙ ap (λ (x : ℕ). getD s x 0) after ∙ n),
+        )
+
+-- bytes passed up to a place in a part
+pub pass-part : (s : List ℕ) (from i r : ℕ) → UnmarkedUpTo s from i → blockSize ≤ length s - i
+    → UnmarkedUpTo (take (i + blockSize - i) (drop i s)) 0 r → UnmarkedUpTo s from (i + r)
+pass-part s from i r f l g =
+    pass-on s from i (i + r) f (record { ahead = omega arith; inside = omega (arith, f .inside, within); unmarked = λ j a b. go (j - i) j (omega arith) b })
+  where
+    size : length (take (i + blockSize - i) (drop i s)) ≤ blockSize
+    size = rw length-take (omega arith)
+
+    within : r ≤ blockSize
+    within = omega (arith, g .inside, size)
+
+    go : (k j : ℕ) → i + k ≡ j → j < i + r → Unmarked s j
+    go k j e b m =
+        let near : i + k < i + blockSize = omega (arith, within) in
+        let at : getD (take (i + blockSize - i) (drop i s)) k 0 ≡ firstMark =
+        part-byte s i (i + blockSize) k near ∙ ap (λ (x : ℕ). getD s x 0) e ∙ m in
+        let u : Unmarked (take (i + blockSize - i) (drop i s)) k = g .unmarked k (omega arith) (omega arith) in
+        let next : i + (k + 1) < i + blockSize = omega (arith, u at .0, size) in
+        let after : i + (k + 1) ≡ j + 1 = omega arith in
+        (omega (arith, l), λ n. u at .1 (part-byte s i (i + blockSize) (k + 1) next ∙ ap (λ (x : ℕ). getD s x 0) after ∙ n))
+
+-- bytes looked at: where no mark was seen yet, none begins before i
+pub record Looking (s next : List ℕ) (clear : Bool) (i : ℕ) : Type 0 where
+  pub inside : i ≤ length s
+  pub unmarked : clear ≡ true → (k : ℕ) → k < i → NoPair s next k
+
+pub look-begins : (s next : List ℕ) → Looking s next true 0
+look-begins s next = record { inside = omega arith; unmarked = λ z k l e. absurd (omega arith) }
+
+pub look-goes-on : (s next : List ℕ) (clear : Bool) (i : ℕ) → Looking s next clear i → i < length s
+    → Looking s next (clear && not (eqb (getD s i 0) firstMark && eqb (getD next i 0) secondMark)) (i + 1)
+look-goes-on s next clear i f l = record { inside = omega arith; unmarked = go clear (f .unmarked) }
+  where
+    go : (t : Bool) → (t ≡ true → (k : ℕ) → k < i → NoPair s next k) → (t && not (eqb (getD s i 0) firstMark && eqb (getD next i 0) secondMark)) ≡ true
+        → (k : ℕ) → k < i + 1 → NoPair s next k
+    go false g z = absurd (false≢true z)
+    go true g z =
+        below-more (NoPair s next) i (g refl)
+        (λ a b. false≢true (rw (eq-eqb (getD s i 0) firstMark a, eq-eqb (getD next i 0) secondMark b) at z))
+
+pub look-ends : (s next : List ℕ) (clear : Bool) (i : ℕ) → Looking s next clear i → length s ≤ i → clear ≡ true → UnmarkedPairs s next
+look-ends s next clear i f l z k e = go (ltb k i) refl
+  where
+    go : (t : Bool) → ltb k i ≡ t → getD next k 0 ≡ secondMark → ⊥
     go true q = f .unmarked z k (ltb-true k i q) e
     go false q =
         let past : length s ≤ k = omega (arith, ltb-false k i q) in
         let n : _≡_ {A = ℕ} 0 firstMark = sym (List·getD-eq-default s 0 past) ∙ e in
-        omega arith
+        absurd (omega arith)
 
 -- places compared: none of a mark before i is below the lowest yet
 pub record Lowest (s : List ℕ) (place i : ℕ) : Type 0 where
@@ -240,7 +266,7 @@ low-goes-on s place i here r f l h (p, q) =
 
 pub low-ends : (s : List ℕ) (place i : ℕ) → Lowest s place i → length s ≡ blockSize → length s ≤ i → UnmarkedUpTo s 0 place
 low-ends s place i f e l =
-    record { ahead = omega arith; inside = omega (arith, f .most); unmarked = λ k a b m. omega (arith, f .most, f .least k (omega (arith, f .most)) m) }
+    record { ahead = omega arith; inside = omega (arith, f .most); unmarked = λ k a b m. absurd (omega (arith, f .most, f .least k (omega (arith, f .most)) m)) }
 
 -- the next place in the waiting bytes is the one next to it
 pub next-waiting : (s : List ℕ) (at : ℕ) → at < length s → NextPlace s at (at + 1)
@@ -251,8 +277,12 @@ pub next-marked : (w p : List ℕ) (at r : ℕ) → length w ≤ at + 1 → Unma
 next-marked w p at r l f =
     record { ahead = omega (arith, f .ahead); inside = rw length-append (omega (arith, f .inside)); stops-there = passes }
   where
-    unmarked : (i : ℕ) → at + 1 ≤ i → i < at + 1 + (length w + r - (at + 1)) → getD (w ++ p) i 0 ≡ firstMark → ⊥
-    unmarked i a b h = f .unmarked (i - length w) (omega arith) (omega (arith, f .ahead)) (byte-after w p i (omega arith) ∙ h)
+    unmarked : (i : ℕ) → at + 1 ≤ i → i < at + 1 + (length w + r - (at + 1)) → Unmarked (w ++ p) i
+    unmarked i a b h =
+        let u : Unmarked p (i - length w) = f .unmarked (i - length w) (omega arith) (omega (arith, f .ahead)) in
+        let (more, other) = u (byte-after w p i (omega arith) ∙ h) in
+        let after : i - length w + 1 ≡ i + 1 - length w = omega arith in
+        (rw length-append (omega (arith, more)), λ n. other (ap (λ (x : ℕ). getD p x 0) after ∙ byte-after w p (i + 1) (omega arith) ∙ n))
 
     passes : stopFrom (at + 1) (w ++ p) ≡ stopFrom (length w + r) (w ++ p)
     passes =

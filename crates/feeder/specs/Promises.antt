@@ -16,7 +16,7 @@ use Rattle.feeder.specs.declared.record.Head.the-variants as heads
 use Rattle.feeder.specs.declared.scan.Stop.{Stop}
 use Rattle.feeder.specs.declared.scan.Stop.the-variants as stops
 use Rattle.feeder.specs.Record as paper
-use Rattle.feeder.specs.Record.{Record, firstMark, commandAt, recordOf}
+use Rattle.feeder.specs.Record.{Record, firstMark, secondMark, commandAt, recordOf}
 use Rattle.feeder.specs.Stream.{divide}
 use Rattle.feeder.specs.State.{stateOf, waitingIn}
 use Rattle.feeder.specs.Absorb.{firstRecord, offered, Absorbing, absorb}
@@ -48,15 +48,23 @@ laterBy k (stops.Rest at) = stops.Rest (k + at)
 unfoldable pub stopFrom : ℕ → List ℕ → Stop
 stopFrom k s = laterBy k (stopOf (drop k s))
 
--- no byte that begins a mark stands in bytes
-abbrev pub Unmarked : List ℕ → Type 0
-Unmarked s = (i : ℕ) → getD s i 0 ≡ firstMark → ⊥
+-- the bytes at a place of two lists are no mark
+abbrev pub NoPair : List ℕ → List ℕ → ℕ → Type 0
+NoPair s next i = getD s i 0 ≡ firstMark → getD next i 0 ≡ secondMark → ⊥
 
--- no byte that begins a mark stands from a place up to r
+-- nor are they at any
+abbrev pub UnmarkedPairs : List ℕ → List ℕ → Type 0
+UnmarkedPairs s next = (i : ℕ) → NoPair s next i
+
+-- no mark begins at a place, whatever comes after the bytes: where the byte there is the mark's first, the next one is there and is not its second
+abbrev pub Unmarked : List ℕ → ℕ → Type 0
+Unmarked s i = getD s i 0 ≡ firstMark → (i + 1 < length s) × (getD s (i + 1) 0 ≡ secondMark → ⊥)
+
+-- no mark begins from a place up to r
 pub record UnmarkedUpTo (s : List ℕ) (from r : ℕ) : Type 0 where
   pub ahead : from ≤ r
   pub inside : r ≤ length s
-  pub unmarked : (i : ℕ) → from ≤ i → i < r → getD s i 0 ≡ firstMark → ⊥
+  pub unmarked : (i : ℕ) → from ≤ i → i < r → Unmarked s i
 
 -- a place after `at` from which reading stops where it stops from the one next to `at`
 pub record NextPlace (s : List ℕ) (at r : ℕ) : Type 0 where

@@ -9,7 +9,7 @@ ghost use Rattle.feeder.specs.Promises.{headFor};
 // The two bytes of the mark.
 pub const FIRST_MARK: u8 = 0x45;
 
-const SECOND_MARK: u8 = 0x57;
+pub const SECOND_MARK: u8 = 0x57;
 
 // Where a record's clock, its command's length and its command start.
 pub const CLOCK_AT: usize = 2;

@@ -1,6 +1,7 @@
 // Where reading stops in the waiting bytes and those of a piece, taken as one list.
 use crate::record::FIRST_MARK;
 use crate::record::Head;
+use crate::record::SECOND_MARK;
 use crate::record::head_at;
 ghost use mathlib.Core.Path.{_≡_};
 ghost use mathlib.Core.Bool.{true};
@@ -8,7 +9,7 @@ ghost use mathlib.Core.List.{_++_};
 ghost use Prim.Native.Nat.{_+_, _≤_, _<_};
 ghost use lib.ListN.{length};
 ghost use Rattle.feeder.specs.Record.{firstMark};
-ghost use Rattle.feeder.specs.Promises.{blockSize, Unmarked, UnmarkedUpTo, NextPlace, stopOf};
+ghost use Rattle.feeder.specs.Promises.{blockSize, UnmarkedPairs, UnmarkedUpTo, NextPlace, stopOf};
 
 // The first record, by its place and its command's size, or where the rest that waits starts.
 pub enum Stop {
@@ -19,31 +20,31 @@ pub enum Stop {
 // Bytes that are looked at together.
 const BLOCK_SIZE: usize = 64;
 
-// Whether no byte that begins a mark stands in a block. All its bytes are looked at, with no early end, so that the loop can run on vectors.
-fn is_unmarked(block: &[u8]) -> bool
-    requires { ⌜ length (now block) ≤ blockSize ⌝ }
-    ensures { λ r. ⌜ (r ≡ true → Unmarked (now (block .entry))) ⌝ }
+// Whether no byte of a block begins a mark with the byte that follows it. All are looked at, with no early end and no `&&`, so that the loop can
+// run on vectors.
+fn is_unmarked(block: &[u8], following: &[u8]) -> bool
+    requires { ⌜ length (now block) ≡ blockSize ⌝ }
+    requires { ⌜ length (now following) ≡ blockSize ⌝ }
+    ensures { λ r. ⌜ (r ≡ true → UnmarkedPairs (now (block .entry)) (now (following .entry))) ⌝ }
 {
     let mut unmarked = true;
     let mut i = 0;
     while i < block.len() {
-        if block[i] == FIRST_MARK {
-            unmarked = false;
-        }
+        unmarked = unmarked & !((block[i] == FIRST_MARK) & (following[i] == SECOND_MARK));
         i += 1;
     }
     unmarked
 }
 
-// Past all blocks of a piece, from a place on, in which no byte that begins a mark stands.
+// Past all blocks of a piece, from a place on, in which no mark begins.
 fn pass_blocks(piece: &[u8], from: usize) -> usize
     requires { ⌜ from ≤ length (now piece) ⌝ }
     ensures { λ r. ⌜ UnmarkedUpTo (now (piece .entry)) from r ⌝ }
 {
     let mut i = from;
-    while BLOCK_SIZE <= piece.len() - i {
+    while BLOCK_SIZE < piece.len() - i {
         let end = i + BLOCK_SIZE;
-        if !is_unmarked(&piece[i..end]) {
+        if !is_unmarked(&piece[i..end], &piece[i + 1..end + 1]) {
             return i;
         }
         i = end;

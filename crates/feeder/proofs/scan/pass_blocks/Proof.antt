@@ -1,7 +1,7 @@
--- No mark stands from the start up to i. The measure is what is left of the piece.
+-- No mark begins from the start up to i. The measure is what is left of the piece.
 use Prim.Native.Nat.{_-_}
 use native.Mathlib.Omega.{arith}
-use lib.ListN.{length}
+use lib.ListN.{length, length-take, length-drop}
 use borrow.Author.Needs.{needs}
 use borrow.Author.Tests.{not-false}
 use Rattle.feeder.specs.Promises.{UnmarkedUpTo}
@@ -18,12 +18,15 @@ abbrev μ-loop : tie.MeasureT-loop
 loop-holds : tie.Need-loop-holds Inv-loop μ-loop
 loop-holds c = pass-begins _ _ (c .before .pre)
 
+is-unmarked-requires : tie.Need-is-unmarked-requires Inv-loop μ-loop
+is-unmarked-requires c κs = (rw (length-take, length-drop) (omega arith), rw (length-take, length-drop) (omega arith))
+
 returns : tie.Need-returns Inv-loop μ-loop
-returns c = c .before .before .before .before .loop .inv
+returns c = c .before .before .before .before .before .loop .inv
 
 loop-again : tie.Need-loop-again Inv-loop μ-loop
 loop-again c =
-    pass-block _ _ _ (c .before .before .before .before .loop .inv) (c .before .before .before .loop-test .taken)
+    pass-block _ _ _ (c .before .before .before .before .before .loop .inv) (c .before .before .before .before .loop-test .taken)
     (c .before .is-unmarked .ensures (not-false _ (c .if1 .left)))
 
 returns-2 : tie.Need-returns-2 Inv-loop μ-loop
@@ -41,7 +44,12 @@ pass-blocks-spec =
     (λ c. search needs)
     (λ c. search needs)
     (λ c. search needs)
-    (λ c κs. search needs)
+    (λ c. search needs)
+    (λ c. search needs)
+    (λ c. search needs)
+    (λ c. search needs)
+    (λ c. search needs)
+    is-unmarked-requires
     returns
     (λ c. omega arith)
     loop-again
