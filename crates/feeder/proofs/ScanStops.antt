@@ -8,7 +8,7 @@ use native.Mathlib.Nat.{add-zero, zero-add}
 use native.Mathlib.Numerals.{add-one}
 use native.Mathlib.Omega.{arith}
 use lib.Dec.{eqb, ltb}
-use lib.ListN.{length, take, drop, getD, length-append, length-take, length-drop, drop-of-length-le, List·getD-eq-default}
+use lib.ListN.{length, take, drop, getD, length-append, length-drop, drop-of-length-le, List·getD-eq-default}
 use lib.Seq.{drop-cons, getD-take, getD-drop}
 use borrow.Author.Count.{below-more}
 use borrow.Author.Tests.{ltb-true, ltb-false, le-ltb, ne-eqb, eqb-true, eq-eqb}
@@ -195,28 +195,6 @@ pass-block s from i f l h =
               (part-byte s (i + 1) (i + blockSize + 1) k next ∙ ap (λ (x : ℕ). getD s x 0) after ∙ n),
         )
 
--- bytes passed up to a place in a part
-pub pass-part : (s : List ℕ) (from i r : ℕ) → UnmarkedUpTo s from i → blockSize ≤ length s - i
-    → UnmarkedUpTo (take (i + blockSize - i) (drop i s)) 0 r → UnmarkedUpTo s from (i + r)
-pass-part s from i r f l g =
-    pass-on s from i (i + r) f (record { ahead = omega arith; inside = omega (arith, f .inside, within); unmarked = λ j a b. go (j - i) j (omega arith) b })
-  where
-    size : length (take (i + blockSize - i) (drop i s)) ≤ blockSize
-    size = rw length-take (omega arith)
-
-    within : r ≤ blockSize
-    within = omega (arith, g .inside, size)
-
-    go : (k j : ℕ) → i + k ≡ j → j < i + r → Unmarked s j
-    go k j e b m =
-        let near : i + k < i + blockSize = omega (arith, within) in
-        let at : getD (take (i + blockSize - i) (drop i s)) k 0 ≡ firstMark =
-        part-byte s i (i + blockSize) k near ∙ ap (λ (x : ℕ). getD s x 0) e ∙ m in
-        let u : Unmarked (take (i + blockSize - i) (drop i s)) k = g .unmarked k (omega arith) (omega arith) in
-        let next : i + (k + 1) < i + blockSize = omega (arith, u at .0, size) in
-        let after : i + (k + 1) ≡ j + 1 = omega arith in
-        (omega (arith, l), λ n. u at .1 (part-byte s i (i + blockSize) (k + 1) next ∙ ap (λ (x : ℕ). getD s x 0) after ∙ n))
-
 -- bytes looked at: where no mark was seen yet, none begins before i
 pub record Looking (s next : List ℕ) (clear : Bool) (i : ℕ) : Type 0 where
   pub inside : i ≤ length s
@@ -245,28 +223,6 @@ look-ends s next clear i f l z k e = go (ltb k i) refl
         let past : length s ≤ k = omega (arith, ltb-false k i q) in
         let n : _≡_ {A = ℕ} 0 firstMark = sym (List·getD-eq-default s 0 past) ∙ e in
         absurd (omega arith)
-
--- places compared: none of a mark before i is below the lowest yet
-pub record Lowest (s : List ℕ) (place i : ℕ) : Type 0 where
-  pub inside : i ≤ length s
-  pub most : place ≤ blockSize
-  pub least : (k : ℕ) → k < i → getD s k 0 ≡ firstMark → place ≤ k
-
-pub low-begins : (s : List ℕ) → Lowest s blockSize 0
-low-begins s = record { inside = omega arith; most = omega arith; least = λ k l e. omega arith }
-
-pub low-goes-on : (s : List ℕ) (place i here r : ℕ) → Lowest s place i → i < length s → (getD s i 0 ≡ firstMark → here ≡ i) → (r ≤ here) × (r ≤ place)
-    → Lowest s r (i + 1)
-low-goes-on s place i here r f l h (p, q) =
-    record {
-      inside = omega arith;
-      most = omega (arith, f .most);
-      least = below-more (λ k. getD s k 0 ≡ firstMark → r ≤ k) i (λ k b e. omega (arith, f .least k b e)) (λ e. omega (arith, h e));
-    }
-
-pub low-ends : (s : List ℕ) (place i : ℕ) → Lowest s place i → length s ≡ blockSize → length s ≤ i → UnmarkedUpTo s 0 place
-low-ends s place i f e l =
-    record { ahead = omega arith; inside = omega (arith, f .most); unmarked = λ k a b m. absurd (omega (arith, f .most, f .least k (omega (arith, f .most)) m)) }
 
 -- the next place in the waiting bytes is the one next to it
 pub next-waiting : (s : List ℕ) (at : ℕ) → at < length s → NextPlace s at (at + 1)

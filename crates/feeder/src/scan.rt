@@ -8,7 +8,6 @@ ghost use mathlib.Core.Bool.{true};
 ghost use mathlib.Core.List.{_++_};
 ghost use Prim.Native.Nat.{_+_, _≤_, _<_};
 ghost use lib.ListN.{length};
-ghost use Rattle.feeder.specs.Record.{firstMark};
 ghost use Rattle.feeder.specs.Promises.{blockSize, UnmarkedPairs, UnmarkedUpTo, NextPlace, stopOf};
 
 // The first record, by its place and its command's size, or where the rest that waits starts.
@@ -52,39 +51,6 @@ fn pass_blocks(piece: &[u8], from: usize) -> usize
     i
 }
 
-// The place of a byte in a block, or the block's end where the byte begins no mark.
-fn place_of(b: u8, i: u8) -> u8
-    ensures { λ r. ⌜ (b ≡ firstMark → r ≡ i) ⌝ }
-{
-    if b == FIRST_MARK {
-        return i;
-    }
-    BLOCK_SIZE as u8
-}
-
-fn lower(a: u8, b: u8) -> u8
-    ensures { λ r. ⌜ (r ≤ a) × (r ≤ b) ⌝ }
-{
-    if a < b {
-        return a;
-    }
-    b
-}
-
-// The place of the first byte of a block that begins a mark, or the end: the lowest of all places, with no early end, as above.
-fn mark_in(block: &[u8]) -> usize
-    requires { ⌜ length (now block) ≡ blockSize ⌝ }
-    ensures { λ r. ⌜ UnmarkedUpTo (now (block .entry)) 0 r ⌝ }
-{
-    let mut place = BLOCK_SIZE as u8;
-    let mut i = 0;
-    while i < block.len() {
-        place = lower(place_of(block[i], i as u8), place);
-        i += 1;
-    }
-    place as usize
-}
-
 // The next byte of a piece from a place on that begins a mark, or the end, byte by byte.
 fn next_byte(piece: &[u8], from: usize) -> usize
     requires { ⌜ from ≤ length (now piece) ⌝ }
@@ -100,17 +66,13 @@ fn next_byte(piece: &[u8], from: usize) -> usize
     i
 }
 
-// The same, by blocks.
+// The same, past all blocks in which no mark begins.
 fn next_mark(piece: &[u8], from: usize) -> usize
     requires { ⌜ from ≤ length (now piece) ⌝ }
     ensures { λ r. ⌜ UnmarkedUpTo (now (piece .entry)) from r ⌝ }
 {
     let i = pass_blocks(piece, from);
-    if piece.len() - i < BLOCK_SIZE {
-        return next_byte(piece, i);
-    }
-    let end = i + BLOCK_SIZE;
-    i + mark_in(&piece[i..end])
+    next_byte(piece, i)
 }
 
 // The place to look at after one whose byte is skipped. In the piece all bytes up to the next one that begins a mark
