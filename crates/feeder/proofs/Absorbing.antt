@@ -1,4 +1,4 @@
--- Bytes taken: what is joined of the waiting bytes and a piece, what waits, and what absorbing comes to.
+-- Bytes taken: what is joined of the waiting bytes and a piece, the record done, what waits, and what a call comes to.
 use mathlib.Core.Path.{_≡_, refl, sym, ap, _∙_}
 use mathlib.Core.Bool.{true}
 use mathlib.Core.List.{List, _++_}
@@ -14,15 +14,17 @@ use Rattle.wire.specs.Replies.{laidOver}
 use Rattle.wire.specs.Promises.{Laid}
 use Rattle.wire.proofs.ByteLaws.{zero-is, zero-drop, zero-replicate}
 use Rattle.wire.proofs.ReplyLaying.{laid-whole, laid-copied, laid-tail}
+use Rattle.commands.specs.declared.Executed.{Executed}
+use Rattle.commands.specs.Promises.{Replied}
+use Rattle.commands.specs.Execute.{execBytes}
 use Rattle.feeder.specs.declared.Feeder.{Feeder}
-use Rattle.feeder.specs.declared.absorb.Completed.{Completed}
-use Rattle.feeder.specs.declared.absorb.Completed.the-variants as completions
 use Rattle.feeder.specs.declared.scan.Stop.the-variants as stops
-use Rattle.feeder.specs.Record.{Record, recordOf, clockAt, commandAt, recordMost}
+use Rattle.feeder.specs.Record.{recordOf, clockAt, commandAt}
 use Rattle.feeder.specs.Stream.{divide}
 use Rattle.feeder.specs.State.{waitingMost, stateOf, fresh, waitingIn, isLeft}
 use Rattle.feeder.specs.Absorb.{usedMost, firstRecord, offered, keeping, completing, absorb}
-use Rattle.feeder.specs.Promises.{stopOf, recordIn, CommandInside, joinedSize, Completing, Completes, meant, Absorbs}
+use Rattle.feeder.specs.Feed.{doing, answering}
+use Rattle.feeder.specs.Promises.{stopOf, Completing, answerFor}
 use Rattle.feeder.proofs.RecordHead.{part-more}
 use Rattle.feeder.proofs.StreamDivide.{rest-short}
 use Rattle.feeder.proofs.FirstRecord.{First, NoFirst, first-found, none-found, first-fits, first-most, none-rest, none-skipped}
@@ -84,45 +86,26 @@ appended s p u n l e = laid-tail front back .bytes
 
 -- ---- the record completed
 
--- where a record of the bytes looked at stands, it stands in the piece
-in-offered : (c : Completed) (piece t : List ℕ) → CommandInside c (offered piece) t
-    → (recordIn c piece t ≡ recordIn c (offered piece) t) × CommandInside c piece t
-unfolding CommandInside recordIn offered
-in-offered completions.Nothing piece t h = (refl, tt)
-in-offered (completions.Joined clock start size) piece t h = (refl, h)
-in-offered (completions.InPiece clock start size) piece t h =
-    (ap (λ (x : List ℕ). some (record { clock = clock; command = x })) same, omega (arith, length-take usedMost piece))
-  where
-    same : part start size piece ≡ part start size (take usedMost piece)
-    same =
-        ap (part start size) (sym (take-append-drop usedMost piece))
-        ∙ part-more start size (take usedMost piece) (drop usedMost piece) h
+-- what `execute` answers for the record at the start of bytes
+module _ (size : ℕ) (s b : List ℕ) {clock : ℕ} {after buffer over : List ℕ} {r : Executed} where
+  pub record-done : clock ≡ fromLE (take 8 (drop clockAt s))
+      → Replied (execBytes clock (take (commandAt + size - commandAt) (drop commandAt s)) b) after buffer over r
+      → Replied (doing (some (recordOf size s)) b) after buffer over r
+  unfolding doing orElse recordOf part
+  record-done e h =
+      let n : commandAt + size - commandAt ≡ size = omega arith in
+      rw (e, n) at h
 
-module _ (w p : List ℕ) (at size : ℕ) (j : List ℕ) (r : Completing w p at size j) where
-  abbrev from : List ℕ
-  from = drop at (w ++ p)
-
+module _ (w p : List ℕ) (at size : ℕ) (c : Completing w p at size) where
   -- the bytes of the piece up to its end
   pub up-to-end : length (take (at + (commandAt + size) - length w) p) ≡ at + (commandAt + size) - length w
-  up-to-end = length-take-le (at + (commandAt + size) - length w) p (omega (arith, r .beyond, r .inside))
+  up-to-end = length-take-le (at + (commandAt + size) - length w) p (omega (arith, c .beyond, c .inside))
 
   -- it stands in the piece
-  pub in-piece : {clock : ℕ} → length w ≤ at
-      → clock ≡ fromLE (take 8 (drop clockAt (take (length p - (at - length w)) (drop (at - length w) p))))
-      → Completes from size p j (completions.InPiece clock (at - length w + commandAt) size) j
-  unfolding recordIn CommandInside recordOf part joinedSize laidOver
-  in-piece l e =
-      record {
-        means =
-            rw (
-              e,
-              tail-part (at - length w) p,
-              drop-late w p at l,
-              drop-drop commandAt (at - length w) p,
-            );
-        inside = omega (arith, r .inside);
-        bytes = refl;
-      }
+  pub piece-done : (b : List ℕ) {after buffer over : List ℕ} {r : Executed} → length w ≤ at
+      → Replied (doing (some (recordOf size (take (length p - (at - length w)) (drop (at - length w) p)))) b) after buffer over r
+      → Replied (doing (some (recordOf size (drop at (w ++ p)))) b) after buffer over r
+  piece-done b l h = rw (drop-late w p at l, ← tail-part (at - length w) p) h
 
   module _ (l : at < length w) where
     -- the record as it was sent
@@ -133,37 +116,34 @@ module _ (w p : List ℕ) (at size : ℕ) (j : List ℕ) (r : Completing w p at 
     both : drop at (w ++ take (at + (commandAt + size) - length w) p) ≡ sent
     unfolding part
     both =
-        let n : commandAt + size ≡ length (drop at w) + (at + (commandAt + size) - length w) = rw length-drop (omega (arith, r .beyond)) in
+        let n : commandAt + size ≡ length (drop at w) + (at + (commandAt + size) - length w) = rw length-drop (omega (arith, c .beyond)) in
         let low : at ≤ length w = omega arith in
         rw (drop-append-le at w (take (at + (commandAt + size) - length w) p) low, drop-append-le at w p low)
         (sym (ap (λ (k : ℕ). take k (drop at w ++ p)) n ∙ take-append-add (drop at w) p (at + (commandAt + size) - length w)))
 
-    enough : commandAt + size ≤ length (drop at (w ++ p))
-    enough = rw (length-drop, length-append) (omega (arith, r .inside))
-
     joins : length sent ≡ commandAt + size
     unfolding part
-    joins = length-take-le (commandAt + size) (drop at (w ++ p)) enough
+    joins = length-take-le (commandAt + size) (drop at (w ++ p)) (rw (length-drop, length-append) (omega (arith, c .inside)))
 
     -- a part of the record is that part of what was joined
-    same-part : (a n : ℕ) → a + n ≤ commandAt + size → part a n (laidOver sent j) ≡ part a n (drop at (w ++ p))
+    same-part : (j : List ℕ) (a n : ℕ) → a + n ≤ commandAt + size → part a n (laidOver sent j) ≡ part a n (drop at (w ++ p))
     unfolding laidOver
-    same-part a n h =
+    same-part j a n h =
         let fits : a + n ≤ length sent = omega (arith, joins) in
         part-more a n sent (drop (length sent) j) fits
         ∙ sym (part-more a n sent (drop (commandAt + size) (drop at (w ++ p))) fits)
         ∙ ap (part a n) (unfold part in take-append-drop (commandAt + size) (drop at (w ++ p)))
 
-    pub joined-whole : {clock : ℕ} {t : List ℕ} → t ≡ laidOver (drop at (w ++ take (at + (commandAt + size) - length w) p)) j
-        → clock ≡ fromLE (take 8 (drop clockAt t)) → Completes from size p j (completions.Joined clock commandAt size) t
-    unfolding recordIn CommandInside joinedSize recordOf part
-    joined-whole {t = t} e h =
-        let laid : t ≡ laidOver sent j = e ∙ rw both in
-        record {
-          means = rw (h, laid) (unfold part in rw (same-part clockAt 8 (omega arith), same-part commandAt size (omega arith)));
-          inside = rw laid (unfold laidOver in rw length-append (omega (arith, joins)));
-          bytes = laid;
-        }
+    same-record : (j : List ℕ) {t : List ℕ} → t ≡ laidOver (drop at (w ++ take (at + (commandAt + size) - length w) p)) j
+        → recordOf size t ≡ recordOf size (drop at (w ++ p))
+    unfolding recordOf
+    same-record j e = rw (e, both, same-part j clockAt 8 (omega arith), same-part j commandAt size (omega arith))
+
+    pub joined-done : (j b : List ℕ) {t after buffer over : List ℕ} {r : Executed}
+        → t ≡ laidOver (drop at (w ++ take (at + (commandAt + size) - length w) p)) j
+        → Replied (doing (some (recordOf size t)) b) after buffer over r
+        → Replied (doing (some (recordOf size (drop at (w ++ p)))) b) after buffer over r
+    joined-done j b e h = rw (← same-record j e) h
 
 -- ---- what waits
 
@@ -250,27 +230,21 @@ module _ (f : Feeder) (piece : List ℕ) (left : isLeft f ≡ true) {o : List �
     pub end-small : at + (commandAt + n) ≤ waitingMost + usedMost
     end-small = omega (arith, end-inside, ap length eo, offered-short piece, left-state f left .few)
 
-    pub completes : (j : List ℕ) → recordMost ≤ length j → Completing (take (f .count) (f .waiting)) o at n j
-    completes j room =
+    pub completes : Completing (take (f .count) (f .waiting)) o at n
+    completes =
         record {
           beyond = omega (arith, end-beyond, left-state f left .count);
           inside = omega (arith, end-inside, left-state f left .count);
-          room = omega (arith, first-most first);
+          most = omega (arith, first-most first);
         }
 
-    pub absorbed-record : (j : List ℕ) {c : Completed} {t v : List ℕ}
-        → Completes (drop at (take (f .count) (f .waiting) ++ o)) n o j c t
+    pub absorbed-record : (b buffer : List ℕ) {v after over : List ℕ} {r : Executed}
+        → Replied (doing (some (recordOf n (drop at (take (f .count) (f .waiting) ++ o)))) b) after buffer over r
         → record { waiting = v; count = 0 } ≡ fresh
-        → Absorbs f piece j (record { used = at + (commandAt + n) - f .count; skipped = at; completed = c; count = 0 }) v t
-    unfolding meant absorb orElse completing waitingIn fresh
-    absorbed-record j {c} {t} h q =
-        let there : (recordIn c piece t ≡ recordIn c (offered piece) t) × CommandInside c piece t = in-offered c piece t (rw eo at (h .inside)) in
-        record {
-          means = rw (there .0, ← eo, h .means) (rw (eo, found, left-state f left .count));
-          state = q;
-          inside = there .1;
-          bytes = rw (← eo) (h .bytes);
-        }
+        → answerFor (record { used = at + (commandAt + n) - f .count; skipped = at; replied = r .replied; count = 0 }) v after over
+        ≡ answering (absorb (waitingIn f) piece) b buffer
+    unfolding answerFor answering absorb orElse completing waitingIn fresh
+    absorbed-record b buffer d q = rw (d .size, d .stored, d .bytes, q, eo, found, left-state f left .count)
 
   -- no record is completed
   module _ (at : ℕ) (e : stops.Rest at ≡ stopOf (take (f .count) (f .waiting) ++ o)) where
@@ -298,16 +272,8 @@ module _ (f : Feeder) (piece : List ℕ) (left : isLeft f ≡ true) {o : List �
           total f (offered piece) left,
         ))
 
-    pub absorbed-none : {j : List ℕ} {g : Feeder} → g ≡ stateOf (drop at (waitingIn f ++ o))
-        → Absorbs f piece j (record { used = length o; skipped = at; completed = completions.Nothing; count = g .count }) (g .waiting) j
-    unfolding meant recordIn absorb orElse keeping CommandInside joinedSize laidOver
-    absorbed-none {g = g} h =
-        record {
-          means = rw (stopped .0, waits, eo, leaves, stopped .1);
-          state = h ∙ ap stateOf (sym waits);
-          inside = tt;
-          bytes = refl;
-        }
-      where
-        waits : take (g .count) (g .waiting) ≡ drop at (waitingIn f ++ o)
-        waits = rw h (unfold waitingIn in waiting-back (drop at (waitingIn f ++ o)))
+    pub absorbed-none : (b buffer : List ℕ) {g : Feeder} → g ≡ stateOf (drop at (waitingIn f ++ o))
+        → answerFor (record { used = length o; skipped = at; replied = 0; count = g .count }) (g .waiting) b buffer
+        ≡ answering (absorb (waitingIn f) piece) b buffer
+    unfolding answerFor answering doing absorb orElse keeping laidOver
+    absorbed-none b buffer h = rw (h, eo, stopped .0, leaves, stopped .1)

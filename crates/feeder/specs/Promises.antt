@@ -1,25 +1,19 @@
 -- What the functions of feeder answer, in the terms of the other definitions.
 use mathlib.Core.Path.{_≡_}
-use mathlib.Core.List.{List, _++_}
-use mathlib.Core.Option.{Option, none, some}
+use mathlib.Core.List.{List}
 use Prim.Native.Nat.{ℕ, _+_, _≤_, _<_}
-use lib.ListN.{length, take, drop, getD}
+use lib.ListN.{length, drop, getD}
 use Rattle.wire.specs.Lists.{orElse}
-use Rattle.wire.specs.Bytes.{part}
-use Rattle.wire.specs.Replies.{laidOver}
-use Rattle.feeder.specs.declared.Feeder.{Feeder}
-use Rattle.feeder.specs.declared.absorb.Completed.{Completed}
-use Rattle.feeder.specs.declared.absorb.Completed.the-variants as completions
 use Rattle.feeder.specs.declared.absorb.Absorbed.{Absorbed}
 use Rattle.feeder.specs.declared.record.Head.{Head}
 use Rattle.feeder.specs.declared.record.Head.the-variants as heads
 use Rattle.feeder.specs.declared.scan.Stop.{Stop}
 use Rattle.feeder.specs.declared.scan.Stop.the-variants as stops
 use Rattle.feeder.specs.Record as paper
-use Rattle.feeder.specs.Record.{Record, firstMark, secondMark, commandAt, recordOf}
+use Rattle.feeder.specs.Record.{firstMark, secondMark, commandAt, recordMost}
 use Rattle.feeder.specs.Stream.{divide}
-use Rattle.feeder.specs.State.{stateOf, waitingIn}
-use Rattle.feeder.specs.Absorb.{firstRecord, offered, Absorbing, absorb}
+use Rattle.feeder.specs.Absorb.{firstRecord}
+use Rattle.feeder.specs.Feed.{Answer}
 
 -- ---- the record's head
 
@@ -74,51 +68,24 @@ pub record NextPlace (s : List ℕ) (at r : ℕ) : Type 0 where
 
 -- ---- bytes taken
 
--- the record completed, its command where the answer says that it stands: in the piece or in the bytes that were joined
-unfoldable pub recordIn : Completed → List ℕ → List ℕ → Option Record
-recordIn completions.Nothing piece joined = none
-recordIn (completions.InPiece clock start size) piece joined = some (record { clock = clock; command = part start size piece })
-recordIn (completions.Joined clock start size) piece joined = some (record { clock = clock; command = part start size joined })
-
--- and its command lies in them
-unfoldable pub CommandInside : Completed → List ℕ → List ℕ → Type 0
-CommandInside completions.Nothing piece joined = Unit {0}
-CommandInside (completions.InPiece clock start size) piece joined = start + size ≤ length piece
-CommandInside (completions.Joined clock start size) piece joined = start + size ≤ length joined
-
--- how many of the bytes lent for joining are written
-unfoldable pub joinedSize : Completed → ℕ
-joinedSize completions.Nothing = 0
-joinedSize (completions.InPiece clock start size) = 0
-joinedSize (completions.Joined clock start size) = start + size
-
--- a record at a place ends in the piece, and there is room to join it
-pub record Completing (w piece : List ℕ) (at size : ℕ) (joined : List ℕ) : Type 0 where
+-- a record at a place ends in the piece, and is no longer than the longest
+pub record Completing (w piece : List ℕ) (at size : ℕ) : Type 0 where
   pub beyond : length w ≤ at + (commandAt + size)
   pub inside : at + (commandAt + size) ≤ length w + length piece
-  pub room : commandAt + size ≤ length joined
+  pub most : commandAt + size ≤ recordMost
 
--- the answer r is the record at the start of s, with a command of so many bytes; where it is joined it stands at the start of the lent bytes, and
--- those beyond it keep theirs
-pub record Completes (s : List ℕ) (size : ℕ) (piece joined : List ℕ) (r : Completed) (after : List ℕ) : Type 0 where
-  pub means : recordIn r piece after ≡ some (recordOf size s)
-  pub inside : CommandInside r piece after
-  pub bytes : after ≡ laidOver (take (joinedSize r) s) joined
-
--- what an answer of `absorb` means: the record stands where it says, and the rest is what then waits in the lent bytes
-unfoldable pub meant : Absorbed → List ℕ → List ℕ → List ℕ → Absorbing
-meant a waiting piece joined =
+-- a call's answer, where `absorb` answers a and leaves these waiting bytes, this store and this reply buffer
+unfoldable pub answerFor : Absorbed → List ℕ → List ℕ → List ℕ → Answer
+answerFor a waiting store buffer =
     record {
-      used = a .used;
-      skipped = a .skipped;
-      completed = recordIn (a .completed) piece joined;
-      rest = take (a .count) waiting;
+      fed =
+          record {
+            refusal = 0;
+            used = a .used;
+            skipped = a .skipped;
+            replied = a .replied;
+            feeder = record { waiting = waiting; count = a .count };
+          };
+      store = store;
+      buffer = buffer;
     }
-
--- what `absorb` answers means the definition's absorbing; the lent waiting bytes are a state's, zero after those that wait; a record that is joined
--- stands at the start of the bytes lent for it, and those beyond it keep theirs
-pub record Absorbs (f : Feeder) (piece joined : List ℕ) (a : Absorbed) (waiting after : List ℕ) : Type 0 where
-  pub means : meant a waiting piece after ≡ absorb (waitingIn f) piece
-  pub state : record { waiting = waiting; count = a .count } ≡ stateOf (take (a .count) waiting)
-  pub inside : CommandInside (a .completed) piece after
-  pub bytes : after ≡ laidOver (take (joinedSize (a .completed)) (drop (a .skipped) (waitingIn f ++ offered piece))) joined

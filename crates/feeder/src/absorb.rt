@@ -1,47 +1,40 @@
-// Taking bytes: up to the first record completed, the piece's end or 65,536 bytes.
+// Taking bytes: up to the first record completed, which is done, the piece's end or 65,536 bytes.
 use crate::record::CLOCK_AT;
 use crate::record::COMMAND_AT;
 use crate::record::LENGTH_AT;
+use crate::record::RECORD_MOST;
 use crate::scan::Stop;
 use crate::scan::first_stop;
 use crate::state::WAITING_MOST;
+use commands::Executed;
+use commands::execute::execute;
 use wire::bytes::clear;
 use wire::bytes::copy;
 use wire::bytes::read_le;
 ghost use mathlib.Core.Path.{_≡_};
 ghost use mathlib.Core.Bool.{true};
 ghost use mathlib.Core.List.{_++_};
-ghost use Prim.Native.Nat.{_+_, _≤_};
+ghost use mathlib.Core.Option.{some};
+ghost use Prim.Native.Nat.{_+_, _≤_, _<_};
 ghost use lib.ListN.{length, take, drop};
 ghost use Rattle.wire.specs.Replies.{laidOver};
-ghost use Rattle.feeder.specs.Record.{recordMost};
+ghost use Rattle.store.specs.Store.{wellFormed};
+ghost use Rattle.commands.specs.Refusal.{bufferLeast};
+ghost use Rattle.commands.specs.Promises.{Replied};
+ghost use Rattle.feeder.specs.Record.{commandAt, recordOf};
 ghost use Rattle.feeder.specs.State.{waitingMost, stateOf, fresh, waitingIn, isLeft};
-ghost use Rattle.feeder.specs.Absorb.{offered};
-ghost use Rattle.feeder.specs.Promises.{Completing, Completes, Absorbs};
+ghost use Rattle.feeder.specs.Absorb.{offered, absorb};
+ghost use Rattle.feeder.specs.Feed.{doing, answering};
+ghost use Rattle.feeder.specs.Promises.{Completing, answerFor};
 
 // The most bytes of a piece that a call uses.
 const USED_MOST: usize = 65536;
 
-// The record completed: its clock, and where its command stands, in the piece or in the bytes that were joined.
-pub enum Completed {
-    Nothing,
-    InPiece {
-        clock: u64,
-        start: usize,
-        size: usize,
-    },
-    Joined {
-        clock: u64,
-        start: usize,
-        size: usize,
-    },
-}
-
-// What taking bytes of a piece comes to: bytes used and skipped, the record completed, and how many bytes then wait.
+// What taking bytes of a piece comes to: bytes used and skipped, the reply's length, and how many bytes then wait.
 pub struct Absorbed {
     pub used: usize,
     pub skipped: usize,
-    pub completed: Completed,
+    pub replied: usize,
     pub count: usize,
 }
 
@@ -80,32 +73,61 @@ fn append(out: &mut [u8], count: usize, piece: &[u8])
     copy(piece, &mut out[count..]);
 }
 
-// The record at a place, with a command of so many bytes. One that starts in the waiting bytes is joined in `joined`.
-fn complete(waiting: &[u8], piece: &[u8], at: usize, size: usize, joined: &mut [u8]) -> Completed
-    requires { ⌜ Completing (now waiting) (now piece) at size (now joined) ⌝ }
+// Does the record at the start of bytes, with a command of so many: writes its reply.
+fn do_record(bytes: &[u8], size: usize, store: &mut [u8], reply: &mut [u8]) -> Executed
+    requires { ⌜ commandAt + size ≤ length (now bytes) ⌝ }
+    requires { ⌜ (wellFormed (now store) ≡ true) × (bufferLeast ≤ length (now reply)) ⌝ }
     ensures { λ r.
-        let s = drop at (now (waiting .entry) ++ now (piece .entry)) in
-        ⌜ Completes s size (now (piece .entry)) (now (joined .entry)) r (now (joined .exit)) ⌝ }
+        let done = doing (some (recordOf size (now (bytes .entry)))) (now (store .entry)) in
+        ⌜ Replied done (now (store .exit)) (now (reply .entry)) (now (reply .exit)) r ⌝ }
+{
+    let clock = read_le(&bytes[CLOCK_AT..LENGTH_AT]);
+    let end = COMMAND_AT + size;
+    execute(clock, &bytes[COMMAND_AT..end], store, reply)
+}
+
+// Joins a record that starts in the waiting bytes, and does it.
+fn do_joined(
+    waiting: &[u8],
+    piece: &[u8],
+    at: usize,
+    size: usize,
+    store: &mut [u8],
+    reply: &mut [u8],
+) -> Executed
+    requires { ⌜ Completing (now waiting) (now piece) at size × (at < length (now waiting)) ⌝ }
+    requires { ⌜ (wellFormed (now store) ≡ true) × (bufferLeast ≤ length (now reply)) ⌝ }
+    ensures { λ r.
+        let done = doing (some (recordOf size (drop at (now (waiting .entry) ++ now (piece .entry))))) (now (store .entry)) in
+        ⌜ Replied done (now (store .exit)) (now (reply .entry)) (now (reply .exit)) r ⌝ }
+{
+    let end = at + (COMMAND_AT + size) - waiting.len();
+    let mut joined = [0u8; RECORD_MOST];
+    gather(waiting, &piece[..end], at, &mut joined);
+    do_record(&joined, size, store, reply)
+}
+
+// Does the record at a place, with a command of so many bytes.
+fn complete(
+    waiting: &[u8],
+    piece: &[u8],
+    at: usize,
+    size: usize,
+    store: &mut [u8],
+    reply: &mut [u8],
+) -> Executed
+    requires { ⌜ Completing (now waiting) (now piece) at size ⌝ }
+    requires { ⌜ (wellFormed (now store) ≡ true) × (bufferLeast ≤ length (now reply)) ⌝ }
+    ensures { λ r.
+        let done = doing (some (recordOf size (drop at (now (waiting .entry) ++ now (piece .entry))))) (now (store .entry)) in
+        ⌜ Replied done (now (store .exit)) (now (reply .entry)) (now (reply .exit)) r ⌝ }
 {
     let count = waiting.len();
     if count <= at {
         let from = at - count;
-        let bytes = &piece[from..];
-        let clock = read_le(&bytes[CLOCK_AT..LENGTH_AT]);
-        return Completed::InPiece {
-            clock,
-            start: from + COMMAND_AT,
-            size,
-        };
+        return do_record(&piece[from..], size, store, reply);
     }
-    let end = at + (COMMAND_AT + size) - count;
-    gather(waiting, &piece[..end], at, joined);
-    let clock = read_le(&joined[CLOCK_AT..LENGTH_AT]);
-    Completed::Joined {
-        clock,
-        start: COMMAND_AT,
-        size,
-    }
+    do_joined(waiting, piece, at, size, store, reply)
 }
 
 // Clears the bytes that wait; the places after them are zero.
@@ -134,31 +156,33 @@ fn keep(waiting: &mut [u8], count: usize, piece: &[u8], at: usize) -> usize
     count + piece.len() - at
 }
 
-// Takes bytes of a piece where so many of the lent places wait. A record that does not lie whole in it is joined in `joined`.
+// Takes bytes of a piece where so many of the lent places wait, and does the record that they complete.
 pub fn absorb(
     waiting: &mut [u8; WAITING_MOST],
     count: usize,
     piece: &[u8],
-    joined: &mut [u8],
+    store: &mut [u8],
+    reply: &mut [u8],
 ) -> Absorbed
     requires { ⌜ isLeft (record { waiting = now waiting; count = count }) ≡ true ⌝ }
-    requires { ⌜ recordMost ≤ length (now joined) ⌝ }
+    requires { ⌜ (wellFormed (now store) ≡ true) × (bufferLeast ≤ length (now reply)) ⌝ }
     ensures { λ r.
-        ⌜ Absorbs (record { waiting = now (waiting .entry); count = count }) (now (piece .entry)) (now (joined .entry))
-        r (now (waiting .exit)) (now (joined .exit)) ⌝ }
+        let before = waitingIn (record { waiting = now (waiting .entry); count = count }) in
+        ⌜ answerFor r (now (waiting .exit)) (now (store .exit)) (now (reply .exit))
+        ≡ answering (absorb before (now (piece .entry))) (now (store .entry)) (now (reply .entry)) ⌝ }
 {
     let places = &mut waiting[..];
     let offered = offer(piece);
     let stop = first_stop(&places[..count], offered);
     match stop {
         Stop::Record(at, size) => {
-            let completed = complete(&places[..count], offered, at, size, joined);
+            let done = complete(&places[..count], offered, at, size, store, reply);
             let end = at + (COMMAND_AT + size);
             forget(places, count);
             Absorbed {
                 used: end - count,
                 skipped: at,
-                completed,
+                replied: done.replied,
                 count: 0,
             }
         }
@@ -167,7 +191,7 @@ pub fn absorb(
             Absorbed {
                 used: offered.len(),
                 skipped: from,
-                completed: Completed::Nothing,
+                replied: 0,
                 count: kept,
             }
         }

@@ -1,10 +1,6 @@
 use mathlib.Core.Path.{sym, _∙_}
-use Prim.Native.Nat.{ℕ}
-use native.Mathlib.Omega.{arith}
-use lib.ListN.{length-replicate}
 use borrow.Author.Tests.{not-true, not-false}
 use Rattle.feeder.proofs.OneFeed.{refused-state, refused-store, refused-buffer, fed-whole}
-use Rattle.feeder.specs.Record.{recordMost}
 use borrow.Author.Needs.{needs}
 use Rattle.feeder.proofs.Feeder.feed.Statement.{statement}
 use Rattle.feeder.proofs.Feeder.feed.Tie as tie
@@ -31,19 +27,20 @@ returns-3 c =
     (c .refused3 .ensures)
 
 absorb-requires : tie.Need-absorb-requires
-absorb-requires c κs = let back = c .before .before .before .before .before .before in (sym (back .before .feeding-leaves .ensures) ∙ not-false _ (back .if1 .left), omega (arith, length-replicate {A = ℕ} recordMost 0))
-
-reply-to-requires : tie.Need-reply-to-requires
-reply-to-requires c κs = let back = c .before .before .before .before .before .before .before in let well = sym (back .before .before .well-formed .ensures) ∙ not-false _ (back .before .if2 .left) in (c .before .before .before .before .absorb .ensures .inside, (well, back .if3 .left))
+absorb-requires c κs =
+    let back = c .before .before .before in let back2 = back .before .before .before .before in
+    let left = sym (back2 .before .feeding-leaves .ensures) ∙ not-false _ (back2 .if1 .left) in
+    let well = sym (back .before .before .well-formed .ensures) ∙ not-false _ (back .before .if2 .left) in
+    (left, (well, back .if3 .left))
 
 returns-4 : tie.Need-returns-4
 returns-4 c =
-    let back = c .before .before .before .before .before .before .before .before .before in let back2 = back .before .before .before .before .before in
-    let args = back2 .before .before .before .before .before .before .before .before .before .before .args in
+    let back = c .before .before .before .before .before .before .before .before in let back2 = back .before .before .before .before in
+    let args = back2 .before .before .before .before .before .before .before .before .args in
     fed-whole (args .t1) (args .piece .now) (args .store .now) (args .reply .now)
-    (sym (back2 .before .before .before .feeding-leaves .ensures) ∙ not-false _ (back2 .before .before .if1 .left)) (back .absorb .ensures)
-    (sym (back2 .well-formed .ensures) ∙ not-false _ (back .before .before .before .before .if2 .left)) (back .before .before .before .if3 .left)
-    (c .before .before .before .before .reply-to .ensures)
+    (sym (back2 .before .feeding-leaves .ensures) ∙ not-false _ (back2 .if1 .left))
+    (sym (back .before .before .well-formed .ensures) ∙ not-false _ (back .before .if2 .left)) (back .if3 .left)
+    (c .before .before .before .before .absorb .ensures)
 
 pub feed-spec : {M : Type 1} → statement M
 feed-spec =
@@ -59,10 +56,7 @@ feed-spec =
     (λ c κs. search needs)
     (λ c. search needs)
     returns-3
-    (λ c. search needs)
     absorb-requires
-    (λ c. search needs)
-    reply-to-requires
     (λ c. search needs)
     (λ c. search needs)
     returns-4)
