@@ -241,7 +241,7 @@ module _ (f : Feeder) (piece : List ℕ) (left : isLeft f ≡ true) {o : List �
     pub absorbed-record : (b buffer : List ℕ) {v after over : List ℕ} {r : Executed}
         → Replied (doing (some (recordOf n (drop at (take (f .count) (f .waiting) ++ o)))) b) after buffer over r
         → record { waiting = v; count = 0 } ≡ fresh
-        → answerFor (record { used = at + (commandAt + n) - f .count; skipped = at; replied = r .replied; count = 0 }) v after over
+        → answerFor (record { refusal = 0; used = at + (commandAt + n) - f .count; skipped = at; replied = r .replied; count = 0 }) v after over
         ≡ answering (absorb (waitingIn f) piece) b buffer
     unfolding answerFor answering absorb orElse completing waitingIn fresh
     absorbed-record b buffer d q = rw (d .size, d .stored, d .bytes, q, eo, found, left-state f left .count)
@@ -273,7 +273,7 @@ module _ (f : Feeder) (piece : List ℕ) (left : isLeft f ≡ true) {o : List �
         ))
 
     pub absorbed-none : (b buffer : List ℕ) {g : Feeder} → g ≡ stateOf (drop at (waitingIn f ++ o))
-        → answerFor (record { used = length o; skipped = at; replied = 0; count = g .count }) (g .waiting) b buffer
+        → answerFor (record { refusal = 0; used = length o; skipped = at; replied = 0; count = g .count }) (g .waiting) b buffer
         ≡ answering (absorb (waitingIn f) piece) b buffer
     unfolding answerFor answering doing absorb orElse keeping laidOver
     absorbed-none b buffer h = rw (h, eo, stopped .0, leaves, stopped .1)

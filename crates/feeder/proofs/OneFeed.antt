@@ -10,50 +10,36 @@ use Rattle.wire.specs.Lists.{orElse}
 use Rattle.store.specs.Store.{wellFormed}
 use Rattle.commands.specs.Refusal.{lowest, bufferLeast}
 use Rattle.feeder.specs.declared.Feeder.{Feeder}
-use Rattle.feeder.specs.declared.Fed.{Fed}
-use Rattle.feeder.specs.declared.absorb.Absorbed.{Absorbed}
+use Rattle.feeder.specs.declared.Absorbed.{Absorbed}
 use Rattle.feeder.specs.State.{waitingIn, isLeft}
 use Rattle.feeder.specs.Absorb.{absorb}
-use Rattle.feeder.specs.Feed.{checks, unfed, refusing, answering, feed}
-use Rattle.feeder.specs.Promises.{answerFor}
+use Rattle.feeder.specs.Feed.{Answer, checks, refusing, answering, feed}
+use Rattle.feeder.specs.Promises.{answerFor, refusedWith}
 
 -- ---- the whole call
 
 module _ (f : Feeder) (piece b buffer : List ℕ) where
   pub fed-whole : isLeft f ≡ true → wellFormed b ≡ true → bufferLeast ≤ length buffer
-      → {a : Absorbed} {v after over : List ℕ} → answerFor a v after over ≡ answering (absorb (waitingIn f) piece) b buffer
-      → record {
-        fed =
-            record {
-              refusal = 0;
-              used = a .used;
-              skipped = a .skipped;
-              replied = a .replied;
-              feeder = record { waiting = v; count = a .count };
-            };
-        store = after;
-        buffer = over;
-      }
-      ≡ feed f piece b buffer
-  unfolding feed checks lowest orElse answerFor
+      → {x : Answer} → x ≡ answering (absorb (waitingIn f) piece) b buffer → x ≡ feed f piece b buffer
+  unfolding feed checks lowest orElse
   fed-whole left well large h = rw (left, well, le-ltb (length buffer) bufferLeast large) h
 
   -- ---- refused
 
-  module _ {r : Fed} where
-    refused : (n : ℕ) → lowest (checks f b buffer) ≡ some n → r ≡ unfed n f → record { fed = r; store = b; buffer = buffer } ≡ feed f piece b buffer
-    unfolding feed orElse refusing
+  module _ {r : Absorbed} where
+    refused : (n : ℕ) → lowest (checks f b buffer) ≡ some n → r ≡ refusedWith n (f .count) → answerFor r (f .waiting) b buffer ≡ feed f piece b buffer
+    unfolding feed orElse refusing answerFor
     refused n q e = rw (q, e)
 
-    pub refused-state : isLeft f ≡ false → r ≡ unfed 1 f → record { fed = r; store = b; buffer = buffer } ≡ feed f piece b buffer
+    pub refused-state : isLeft f ≡ false → r ≡ refusedWith 1 (f .count) → answerFor r (f .waiting) b buffer ≡ feed f piece b buffer
     unfolding checks lowest
     refused-state x = refused 1 (rw x)
 
-    pub refused-store : isLeft f ≡ true → wellFormed b ≡ false → r ≡ unfed 2 f → record { fed = r; store = b; buffer = buffer } ≡ feed f piece b buffer
+    pub refused-store : isLeft f ≡ true → wellFormed b ≡ false → r ≡ refusedWith 2 (f .count) → answerFor r (f .waiting) b buffer ≡ feed f piece b buffer
     unfolding checks lowest
     refused-store x y = refused 2 (rw (x, y))
 
-    pub refused-buffer : isLeft f ≡ true → wellFormed b ≡ true → length buffer < bufferLeast → r ≡ unfed 3 f
-        → record { fed = r; store = b; buffer = buffer } ≡ feed f piece b buffer
+    pub refused-buffer : isLeft f ≡ true → wellFormed b ≡ true → length buffer < bufferLeast → r ≡ refusedWith 3 (f .count)
+        → answerFor r (f .waiting) b buffer ≡ feed f piece b buffer
     unfolding checks lowest
     refused-buffer x y l = refused 3 (rw (x, y, lt-ltb (length buffer) bufferLeast l))

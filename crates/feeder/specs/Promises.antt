@@ -4,7 +4,7 @@ use mathlib.Core.List.{List}
 use Prim.Native.Nat.{ℕ, _+_, _≤_, _<_}
 use lib.ListN.{length, drop, getD}
 use Rattle.wire.specs.Lists.{orElse}
-use Rattle.feeder.specs.declared.absorb.Absorbed.{Absorbed}
+use Rattle.feeder.specs.declared.Absorbed.{Absorbed}
 use Rattle.feeder.specs.declared.record.Head.{Head}
 use Rattle.feeder.specs.declared.record.Head.the-variants as heads
 use Rattle.feeder.specs.declared.scan.Stop.{Stop}
@@ -74,13 +74,17 @@ pub record Completing (w piece : List ℕ) (at size : ℕ) : Type 0 where
   pub inside : at + (commandAt + size) ≤ length w + length piece
   pub most : commandAt + size ≤ recordMost
 
--- a call's answer, where `absorb` answers a and leaves these waiting bytes, this store and this reply buffer
+-- what a refused call on lent places answers
+abbrev pub refusedWith : ℕ → ℕ → Absorbed
+refusedWith n count = record { refusal = n; used = 0; skipped = 0; replied = 0; count = count }
+
+-- a call's answer, where one on lent places answers a and leaves these waiting bytes, this store and this reply buffer
 unfoldable pub answerFor : Absorbed → List ℕ → List ℕ → List ℕ → Answer
 answerFor a waiting store buffer =
     record {
       fed =
           record {
-            refusal = 0;
+            refusal = a .refusal;
             used = a .used;
             skipped = a .skipped;
             replied = a .replied;

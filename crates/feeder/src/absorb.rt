@@ -1,4 +1,5 @@
 // Taking bytes: up to the first record completed, which is done, the piece's end or 65,536 bytes.
+use crate::Absorbed;
 use crate::record::CLOCK_AT;
 use crate::record::COMMAND_AT;
 use crate::record::LENGTH_AT;
@@ -29,14 +30,6 @@ ghost use Rattle.feeder.specs.Promises.{Completing, answerFor};
 
 // The most bytes of a piece that a call uses.
 const USED_MOST: usize = 65536;
-
-// What taking bytes of a piece comes to: bytes used and skipped, the reply's length, and how many bytes then wait.
-pub struct Absorbed {
-    pub used: usize,
-    pub skipped: usize,
-    pub replied: usize,
-    pub count: usize,
-}
 
 // The bytes of a piece that a call looks at.
 fn offer(piece: &[u8]) -> &[u8]
@@ -180,6 +173,7 @@ pub fn absorb(
             let end = at + (COMMAND_AT + size);
             forget(places, count);
             Absorbed {
+                refusal: 0,
                 used: end - count,
                 skipped: at,
                 replied: done.replied,
@@ -189,6 +183,7 @@ pub fn absorb(
         Stop::Rest(from) => {
             let kept = keep(places, count, offered, from);
             Absorbed {
+                refusal: 0,
                 used: offered.len(),
                 skipped: from,
                 replied: 0,

@@ -1,7 +1,7 @@
 // The feeder: records from a byte stream that arrives in pieces.
 
 mod absorb;
-mod feed;
+pub mod feed;
 mod record;
 mod scan;
 mod state;
@@ -23,4 +23,13 @@ pub struct Fed {
     pub skipped: usize,
     pub replied: usize,
     pub feeder: Feeder,
+}
+
+// The same where the places of the waiting bytes are lent: of the state only how many then wait.
+pub struct Absorbed {
+    pub refusal: u32,
+    pub used: usize,
+    pub skipped: usize,
+    pub replied: usize,
+    pub count: usize,
 }
