@@ -174,8 +174,8 @@ unfolding entryFor fieldsAdded orElse integerOf within
 added-reply ss (founds.At i) = (refl, refl)
 added-reply ss founds.Nothing = (refl, refl)
 
-module _ (time : ℕ) (k f v : List ℕ) (stamping : Stamping) (b : List ℕ) (found : Found) {held : ℕ} {p : Bool}
-    (hv : held ≡ heldVersion (entryFor (decode b .slots) found)) (hs : p ≡ isStale (stamping .versioning) (some (versioned held))) where
+module _ (time : ℕ) (k f v : List ℕ) (stamping : Stamping) (b : List ℕ) (found : Found) {p : Bool}
+    (hs : p ≡ isStale (stamping .versioning) (entryFor (decode b .slots) found)) where
   abbrev entryHere : Option Entry
   entryHere = entryFor (decode b .slots) found
 
@@ -184,7 +184,7 @@ module _ (time : ℕ) (k f v : List ℕ) (stamping : Stamping) (b : List ℕ) (f
   unfolding setEffect barred
   assign-stale w y =
       changes-stale time (setEffect k f v Always (stamping .versioning) (stamping .lifetime) entryHere) w
-      (stale-is entryHere (stamping .versioning) hv hs ∙ y)
+      (sym hs ∙ y)
 
   pub assign-done : {after : List ℕ} {w : WriteOutcome} {z : Signed} {r : Settled} → p ≡ false
       → Wrote time (written k f v (stamping .versioning) (stamping .lifetime) entryHere) b after w → z ≡ fieldsAdded found → r ≡ writeSettled w z
@@ -192,7 +192,7 @@ module _ (time : ℕ) (k f v : List ℕ) (stamping : Stamping) (b : List ℕ) (f
   unfolding setEffect barred
   assign-done {z = z} fresh wr hz q =
       let a = added-reply (decode b .slots) found in
-      changes-as time (rw (stale-is entryHere (stamping .versioning) hv hs, fresh, a .0, ← hz) refl)
+      changes-as time (rw (← hs, fresh, a .0, ← hz) refl)
       (wrote-settles time (written k f v (stamping .versioning) (stamping .lifetime) entryHere) z (rw hz (a .1)) wr q)
 
 -- ---- a slot's version and expiry
@@ -293,7 +293,7 @@ module _ {b : List ℕ} {found : Found} (s : FoundIn b found) where
     module _ (t : ℕ) (n : Versioning) {held : ℕ} {q : Bool} (hv : held ≡ foundEntry .version) (hs : q ≡ isStale n (some (versioned held))) where
       expire-as : expireEffect t n (entryFor (decode b .slots) found) ≡ writing q (stamped (setterVersion n foundEntry) (At t) foundEntry) (number 1)
       unfolding expireEffect entryFor orElse heldVersion
-      expire-as = rw (h, stale-is (some foundEntry) n hv hs) refl
+      expire-as = rw (h, ← stale-is foundEntry n hv hs) refl
 
       pub expire-stale : q ≡ true → (time : ℕ) → Changes time (expireEffect t n (entryFor (decode b .slots) found)) b b (settleds.Refused 20)
       expire-stale y time = changes-as time expire-as (changes-stale time _ (s .well) y)
@@ -426,23 +426,20 @@ pub sum-settles : (time : ℕ) (k f : List ℕ) (stamping : Stamping) (o : Optio
 sum-settles time k f stamping o z h e wr q =
     wrote-settles time (written k f (integerText (integerOf z)) (stamping .versioning) (stamping .lifetime) o) z h (rw e at wr) q
 
-module _ (time : ℕ) (sum : Sum) (stamping : Stamping) (k f b : List ℕ) (well : wellFormed b ≡ true) (found : Found) {held : ℕ} {p : Bool}
-    (hv : held ≡ heldVersion (entryFor (decode b .slots) found)) (hs : p ≡ isStale (stamping .versioning) (some (versioned held))) where
+module _ (time : ℕ) (sum : Sum) (stamping : Stamping) (k f b : List ℕ) (well : wellFormed b ≡ true) (found : Found) {p : Bool}
+    (hs : p ≡ isStale (stamping .versioning) (entryFor (decode b .slots) found)) where
   abbrev foundHere : Option Entry
   foundHere = entryFor (decode b .slots) found
 
-  stale-here : isStale (stamping .versioning) foundHere ≡ p
-  stale-here = stale-is foundHere (stamping .versioning) hv hs
-
   pub increment-stale : p ≡ true → Changes time (incremented sum stamping k f foundHere) b b (settleds.Refused 20)
   unfolding incrementEffect
-  increment-stale y = changes-stale time (incremented sum stamping k f foundHere) well (stale-here ∙ y)
+  increment-stale y = changes-stale time (incremented sum stamping k f foundHere) well (sym hs ∙ y)
 
   module _ (fresh : p ≡ false) {stored : Integer} (hc : stored ≡ integerFor (counted foundHere)) where
     pub increment-unread : stored ≡ integers.Refused → Changes time (incremented sum stamping k f foundHere) b b (settleds.Refused 21)
     unfolding incrementEffect isSome
     increment-unread q =
-        changes-unread time (incremented sum stamping k f foundHere) well (stale-here ∙ fresh) (rw (read-not (counted foundHere) (sym q ∙ hc)) refl)
+        changes-unread time (incremented sum stamping k f foundHere) well (sym hs ∙ fresh) (rw (read-not (counted foundHere) (sym q ∙ hc)) refl)
 
     module _ {start : Signed} {whole : Integer} (q : stored ≡ integers.Value start) (ht : whole ≡ integerFor (boundedSum (integerOf start) sum)) where
       start-is : counted foundHere ≡ some (integerOf start)
@@ -451,7 +448,7 @@ module _ (time : ℕ) (sum : Sum) (stamping : Stamping) (k f b : List ℕ) (well
       pub increment-overflow : whole ≡ integers.Refused → Changes time (incremented sum stamping k f foundHere) b b (settleds.Refused 22)
       unfolding incrementEffect isSome boundedSum
       increment-overflow e =
-          changes-overflow time (incremented sum stamping k f foundHere) well (stale-here ∙ fresh) (rw start-is refl)
+          changes-overflow time (incremented sum stamping k f foundHere) well (sym hs ∙ fresh) (rw start-is refl)
           (rw (start-is, only-none _ (total (integerOf start) sum) (read-not _ (sym e ∙ ht))) refl)
 
       module _ {z : Signed} (e : whole ≡ integers.Value z) where
@@ -468,4 +465,4 @@ module _ (time : ℕ) (sum : Sum) (stamping : Stamping) (k f b : List ℕ) (well
             → Changes time (writing false (written k f (integerText (integerOf z)) (stamping .versioning) (stamping .lifetime) foundHere) (integer (integerOf z))) b after r
             → Changes time (incremented sum stamping k f foundHere) b after r
         unfolding incrementEffect isSome
-        increment-done w = changes-as time (rw (start-is, total-is .0, total-is .1, stale-here, fresh) refl) w
+        increment-done w = changes-as time (rw (start-is, total-is .0, total-is .1, ← hs, fresh) refl) w

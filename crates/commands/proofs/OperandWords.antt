@@ -26,7 +26,7 @@ use Rattle.commands.specs.declared.Lifetime.the-variants as lifetimes
 use Rattle.commands.specs.declared.Versioning.the-variants as versionings
 use Rattle.commands.specs.Options.{_with_, operandRange, readIn, readable, numberIn, naturalIn, instant, readableOperand, lifetimeOf, versioningOf, expiryGroup, versionGroup}
 use Rattle.commands.specs.Options.OptionKind.{expires, versioned}
-use Rattle.commands.specs.TablePromises.{secondsFromNow, secondsSince, msFromNow, unitOf, kept, ifMissing, matched, expiryKind, conditionBy, versioningBy, kindIn}
+use Rattle.commands.specs.TablePromises.{secondsFromNow, secondsSince, msFromNow, unitOf, kept, ifMissing, matched, exact, expiryKind, conditionBy, versioningBy, kindIn}
 use Rattle.commands.specs.ParsePromises.{notGiven, numbered, optionAt, instantIn, lifetimeBy, versionBy, readOf, timedFor, versionedFor, conditionFor, boundFor}
 use Rattle.commands.proofs.OptionScanning.{option-none, option-some}
 
@@ -122,9 +122,13 @@ module _ (ws : List Word) (said operand : ℕ) where
       unfolding versioningBy
       versioning-match e = sym (versioning-read ∙ rw (eq-eqb said matched e))
 
-      pub versioning-exactly : (said ≡ matched → ⊥) → versioneds.Value (versionings.Exactly n) ≡ versionedFor (optionAt ws versionGroup said operand)
+      pub versioning-exactly : said ≡ exact → versioneds.Value (versionings.Exactly n) ≡ versionedFor (optionAt ws versionGroup said operand)
       unfolding versioningBy
-      versioning-exactly e = sym (versioning-read ∙ rw (ne-eqb said matched e))
+      versioning-exactly e = sym (versioning-read ∙ rw e)
+
+      pub versioning-above : (said ≡ matched → ⊥) → (said ≡ exact → ⊥) → versioneds.Value (versionings.Above n) ≡ versionedFor (optionAt ws versionGroup said operand)
+      unfolding versioningBy
+      versioning-above d e = sym (versioning-read ∙ rw (ne-eqb said matched d, ne-eqb said exact e))
 
 -- ---- the condition
 

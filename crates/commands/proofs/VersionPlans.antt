@@ -5,7 +5,7 @@ use mathlib.Core.Bool.{Bool, true, false, not}
 use mathlib.Core.List.{List, []}
 use mathlib.Core.Option.{Option, none, some}
 use Prim.Native.Nat.{ℕ, _+_}
-use lib.Dec.{eqb}
+use lib.Dec.{leb, eqb}
 use borrow.Author.Tests.{ne-eqb}
 use Rattle.wire.specs.Lists.{orElse, isSome}
 use Rattle.store.specs.declared.Expiry.{Expiry}
@@ -14,7 +14,7 @@ use Rattle.store.specs.declared.Found.{Found}
 use Rattle.store.specs.declared.Found.the-variants as founds
 use Rattle.store.specs.Store.{Entry, Slot}
 use Rattle.commands.specs.declared.Versioning.{Versioning}
-use Rattle.commands.specs.declared.Versioning.the-variants.{Next, Match, Exactly}
+use Rattle.commands.specs.declared.Versioning.the-variants.{Next, Match, Exactly, Above}
 use Rattle.commands.specs.declared.Lifetime.{Lifetime}
 use Rattle.commands.specs.declared.Lifetime.the-variants.{Clear, Keep, Until}
 use Rattle.commands.specs.declared.Condition.{Condition}
@@ -24,17 +24,18 @@ use Rattle.commands.specs.Promises.{entryFor, heldVersion, heldExpiry, v
 
 -- ---- the cases
 
--- Version 0 is never stale.
-pub zero-fresh : (n : Versioning) {v : ℕ} → v ≡ 0 → false ≡ isStale n (some (versioned v))
-unfolding isStale orElse
-zero-fresh Next h = refl
-zero-fresh (Match w) h = rw h refl
-zero-fresh (Exactly w) h = refl
-
 module _ {n : Versioning} (v : ℕ) where
   pub match-stale : {w : ℕ} → v ≢ 0 → n ≡ Match w → not (eqb v w) ≡ isStale n (some (versioned v))
   unfolding isStale orElse
   match-stale d h = rw (h, ne-eqb v 0 d) refl
+
+  pub match-zero : {w : ℕ} → v ≡ 0 → n ≡ Match w → not (eqb v 0) ≡ isStale n (some (versioned v))
+  unfolding isStale orElse
+  match-zero z h = rw (h, z) refl
+
+  pub above-stale : {w : ℕ} → n ≡ Above w → leb w v ≡ isStale n (some (versioned v))
+  unfolding isStale orElse
+  above-stale h = rw h refl
 
   pub next-fresh : n ≡ Next → false ≡ isStale n (some (versioned v))
   unfolding isStale orElse
@@ -56,6 +57,10 @@ module _ {n : Versioning} (v : ℕ) where
   unfolding nextVersion orElse
   exactly-version h = rw h refl
 
+  pub above-version : {w : ℕ} → n ≡ Above w → w ≡ nextVersion n (some (versioned v))
+  unfolding nextVersion orElse
+  above-version h = rw h refl
+
   pub next-setter : n ≡ Next → v ≡ setterVersion n (versioned v)
   unfolding setterVersion
   next-setter h = rw h refl
@@ -67,6 +72,10 @@ module _ {n : Versioning} (v : ℕ) where
   pub exactly-setter : {w : ℕ} → n ≡ Exactly w → w ≡ setterVersion n (versioned v)
   unfolding setterVersion nextVersion orElse
   exactly-setter h = rw h refl
+
+  pub above-setter : {w : ℕ} → n ≡ Above w → w ≡ setterVersion n (versioned v)
+  unfolding setterVersion nextVersion orElse
+  above-setter h = rw h refl
 
 module _ {t : Lifetime} (x : Expiry) where
   pub clear-expiry : t ≡ Clear → Never ≡ nextExpiry t (some (expiring x))
@@ -107,12 +116,20 @@ module _ {c : Condition} (r : Found) where
 
 -- ---- they are the field's
 
-stale-held : (n : Versioning) (found : Option Entry) → isStale n (some (versioned (heldVersion found))) ≡ isStale n found
-unfolding isStale heldVersion orElse
-stale-held Next found = refl
-stale-held (Match v) none = refl
-stale-held (Match v) (some e) = refl
-stale-held (Exactly v) found = refl
+stale-held : (n : Versioning) (e : Entry) → isStale n (some (versioned (e .version))) ≡ isStale n (some e)
+unfolding isStale orElse
+stale-held Next e = refl
+stale-held (Match v) e = refl
+stale-held (Exactly v) e = refl
+stale-held (Above v) e = refl
+
+-- of a missing field nothing is stale
+pub missing-fresh : (n : Versioning) → false ≡ isStale n none
+unfolding isStale orElse
+missing-fresh Next = refl
+missing-fresh (Match v) = refl
+missing-fresh (Exactly v) = refl
+missing-fresh (Above v) = refl
 
 version-held : (n : Versioning) (found : Option Entry) → nextVersion n (some (versioned (heldVersion found))) ≡ nextVersion n found
 unfolding nextVersion heldVersion orElse
@@ -121,12 +138,14 @@ version-held Next (some e) = refl
 version-held (Match v) none = refl
 version-held (Match v) (some e) = refl
 version-held (Exactly v) found = refl
+version-held (Above v) found = refl
 
 pub setter-held : (n : Versioning) (e : Entry) → setterVersion n (versioned (e .version)) ≡ setterVersion n e
 unfolding setterVersion nextVersion orElse
 setter-held Next e = refl
 setter-held (Match v) e = refl
 setter-held (Exactly v) e = refl
+setter-held (Above v) e = refl
 
 expiry-held : (t : Lifetime) (found : Option Entry) → nextExpiry t (some (expiring (heldExpiry found))) ≡ nextExpiry t found
 unfolding nextExpiry heldExpiry orElse
@@ -145,10 +164,10 @@ barred-held Live ss founds.Nothing = refl
 
 -- ---- so what the code decides is what the definitions say
 
-module _ (found : Option Entry) where
-  pub stale-is : (n : Versioning) {v : ℕ} {t : Bool} → v ≡ heldVersion found → t ≡ isStale n (some (versioned v)) → isStale n found ≡ t
-  stale-is n h q = rw (q, h) (sym (stale-held n found))
+pub stale-is : (e : Entry) (n : Versioning) {v : ℕ} {t : Bool} → v ≡ e .version → t ≡ isStale n (some (versioned v)) → t ≡ isStale n (some e)
+stale-is e n h q = rw (q, h) (stale-held n e)
 
+module _ (found : Option Entry) where
   pub version-is : (n : Versioning) {v m : ℕ} → v ≡ heldVersion found → m ≡ nextVersion n (some (versioned v)) → m ≡ nextVersion n found
   version-is n h q = rw (q, h) (version-held n found)
 

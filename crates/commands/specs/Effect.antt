@@ -4,7 +4,7 @@ use mathlib.Core.Bool.{Bool, true, false, cond, not, _&&_}
 use mathlib.Core.List.{List, [], _∷_, map, flatMap}
 use mathlib.Core.Option.{Option, some, Option·getD}
 use Prim.Native.Nat.{ℕ, _+_, _-_, _/_}
-use lib.Dec.{eqb}
+use lib.Dec.{leb, eqb}
 use lib.IntN.{ℤ, pos, negsuc, _+ℤ_}
 use lib.ListN.{length}
 use Rattle.wire.specs.Lists.{any, keep, isSome, orElse}
@@ -17,7 +17,7 @@ use Rattle.store.specs.declared.Expiry.the-variants.{Never, At}
 use Rattle.store.specs.Store.{Entry, entry, withVersion, withExpiry, Slot, holds}
 use Rattle.store.specs.Time.{keyExists, ofKey, liveOfKey, entryOf, put, without}
 use Rattle.commands.specs.declared.Versioning.{Versioning}
-use Rattle.commands.specs.declared.Versioning.the-variants.{Next, Match, Exactly}
+use Rattle.commands.specs.declared.Versioning.the-variants.{Next, Match, Exactly, Above}
 use Rattle.commands.specs.declared.Lifetime.{Lifetime}
 use Rattle.commands.specs.declared.Lifetime.the-variants.{Clear, Keep, Until}
 use Rattle.commands.specs.declared.Condition.{Condition}
@@ -63,23 +63,27 @@ changeAll now (c ∷ cs) ss = changeAll now cs (change now c ss)
 
 -- ---- versions
 
--- "No VER or ABS: a missing field gets 1, a live one its version plus 1." "VER v: .. else as above." "ABS v: version v"
+-- "No VER or ABS: a missing field gets 1, a live one its version plus 1." "VER v: .. else as above." "ABS v: version v" M-100: "the given version must
+-- be greater than the stored one and becomes the version"; "A missing field takes it as its version."
 unfoldable pub nextVersion : Versioning → Option Entry → ℕ
 nextVersion Next found = orElse found 1 (λ e. e .version + 1)
 nextVersion (Match v) found = orElse found 1 (λ e. e .version + 1)
 nextVersion (Exactly v) found = v
+nextVersion (Above v) found = v
 
--- "VER v: if the field is live with a version other than 0 and v differs, refusal 20"
+-- "VER v: if the field is live with a version other than 0 and v differs, refusal 20" M-100: "a GT not greater than a live field's version is 20"
 unfoldable pub isStale : Versioning → Option Entry → Bool
 isStale Next found = false
 isStale (Match v) found = orElse found false (λ e. not (eqb (e .version) 0) && not (eqb (e .version) v))
 isStale (Exactly v) found = false
+isStale (Above v) found = orElse found false (λ e. leb v (e .version))
 
--- "The four expiry setters change the version only when VER or ABS is given."
+-- "The four expiry setters change the version only when VER or ABS is given." M-100: GT is taken there too
 unfoldable pub setterVersion : Versioning → Entry → ℕ
 setterVersion Next e = e .version
 setterVersion (Match v) e = nextVersion (Match v) (some e)
 setterVersion (Exactly v) e = nextVersion (Exactly v) (some e)
+setterVersion (Above v) e = nextVersion (Above v) (some e)
 
 -- ---- one field
 

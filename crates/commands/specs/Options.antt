@@ -12,7 +12,7 @@ use Rattle.wire.specs.Integers.{readInteger, lowest64, highest64}
 use Rattle.wire.specs.Words.{Word}
 use Rattle.store.specs.Layout.{timeLimit, versionMost}
 use Rattle.commands.specs.declared.Versioning.{Versioning}
-use Rattle.commands.specs.declared.Versioning.the-variants.{Next, Match, Exactly}
+use Rattle.commands.specs.declared.Versioning.the-variants.{Next, Match, Exactly, Above}
 use Rattle.commands.specs.declared.Lifetime.{Lifetime}
 use Rattle.commands.specs.declared.Lifetime.the-variants.{Clear, Keep, Until}
 use Rattle.commands.specs.declared.Condition.{Condition}
@@ -57,7 +57,7 @@ instant now u w = cond (u .fromNow) (now + u .ms * naturalIn times w) (u .ms * n
 
 -- ---- the options
 
--- what an option says; EX, EXAT, PX and PXAT carry their unit, VER and ABS what their number becomes, MIN and MAX their group
+-- what an option says; EX, EXAT, PX and PXAT carry their unit, VER, ABS and GT what their number becomes, MIN and MAX their group
 pub data OptionKind : Type 0 where
   expires : TimeUnit → OptionKind
   keepTTL : OptionKind
@@ -80,7 +80,8 @@ inSeconds b = record { ms = 1000; fromNow = b }
 abbrev pub inMs : Bool → TimeUnit
 inMs b = record { ms = 1; fromNow = b }
 
--- "at most one of EX, EXAT, PX, PXAT, KEEPTTL; of NX, XX; of VER, ABS": options of one group exclude one another, and one excludes itself
+-- "at most one of EX, EXAT, PX, PXAT, KEEPTTL; of NX, XX; of VER, ABS": options of one group exclude one another, and one excludes itself. M-100:
+-- "GT joins VER and ABS: at most one."
 abbrev pub expiryGroup : ℕ
 expiryGroup = 0
 
@@ -113,13 +114,14 @@ options =
     ∷ "XX" means only Live
     ∷ "VER" means versioned Match
     ∷ "ABS" means versioned Exactly
+    ∷ "GT" means versioned Above
     ∷ "MIN" means bound minGroup
     ∷ "MAX" means bound maxGroup
     ∷ "NOEXP" means noExp
     ∷ []
 
 abbrev pub optionCount : ℕ
-optionCount = 12
+optionCount = 13
 
 unfoldable pub group : OptionKind → ℕ
 group (expires u) = expiryGroup

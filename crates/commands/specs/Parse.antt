@@ -12,7 +12,7 @@ use Rattle.wire.specs.Integers.{lowest64, highest64}
 use Rattle.wire.specs.Words.{Word, wordAt, wordsOf}
 use Rattle.store.specs.Layout.{keyMost, fieldMost, valueMost, timeLimit}
 use Rattle.commands.specs.declared.Versioning.{Versioning}
-use Rattle.commands.specs.declared.Versioning.the-variants.{Next, Match, Exactly}
+use Rattle.commands.specs.declared.Versioning.the-variants.{Next, Match, Exactly, Above}
 use Rattle.commands.specs.declared.Lifetime.{Lifetime}
 use Rattle.commands.specs.declared.Lifetime.the-variants.{Clear, Keep, Until}
 use Rattle.commands.specs.declared.Question.{Question}
@@ -179,11 +179,12 @@ tooLong c =
     || any (λ f. ltb fieldMost (length f)) (fieldsOf c)
     || any (λ v. ltb valueMost (length v)) (valuesOf c)
 
--- 17: "ABS 0"
+-- 17: "ABS 0"; M-100: "GT 0 is 17"
 unfoldable pub isZero : Versioning → Bool
 isZero Next = false
 isZero (Match v) = false
 isZero (Exactly v) = eqb v 0
+isZero (Above v) = eqb v 0
 
 unfoldable pub deedVersioning : Deed → Versioning
 deedVersioning (assign v c n t) = n

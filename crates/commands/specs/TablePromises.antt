@@ -243,7 +243,7 @@ commandOf i = getD commands i (row "EXHSET" (atLeast 4) setForm)
 
 -- ---- the table of options
 
--- what an option says in its group, by a number: a unit or that the expiry is kept; missing or live; VER or ABS
+-- what an option says in its group, by a number: a unit or that the expiry is kept; missing or live; VER, ABS or GT
 abbrev pub kept : ℕ
 kept = 4
 
@@ -259,6 +259,9 @@ matched = 0
 abbrev pub exact : ℕ
 exact = 1
 
+abbrev pub above : ℕ
+above = 2
+
 unfoldable pub conditionNumber : Condition → ℕ
 conditionNumber conditions.Always = 0
 conditionNumber conditions.Missing = ifMissing
@@ -268,6 +271,7 @@ unfoldable pub versioningNumber : Versioning → ℕ
 versioningNumber versionings.Next = 0
 versioningNumber (versionings.Match v) = matched
 versioningNumber (versionings.Exactly v) = exact
+versioningNumber (versionings.Above v) = above
 
 unfoldable pub saidOf : OptionKind → ℕ
 saidOf (expires u) = unitNumber u
@@ -284,7 +288,7 @@ unfoldable pub conditionBy : ℕ → Condition
 conditionBy n = cond (eqb n ifMissing) conditions.Missing conditions.Live
 
 unfoldable pub versioningBy : ℕ → ℕ → Versioning
-versioningBy n = cond (eqb n matched) versionings.Match versionings.Exactly
+versioningBy n = cond (eqb n matched) versionings.Match (cond (eqb n exact) versionings.Exactly versionings.Above)
 
 -- the option of a group that says n
 unfoldable pub kindIn : ℕ → ℕ → OptionKind

@@ -41,7 +41,7 @@ ghost use Rattle.commands.specs.declared.Question.{Question};
 ghost use Rattle.commands.specs.declared.Condition.the-variants.{Always};
 ghost use Rattle.commands.specs.Refusal.{bufferLeast};
 ghost use Rattle.commands.specs.Command.Command.{onField};
-ghost use Rattle.commands.specs.Effect.{writing, counted, setEffect, expireEffect, persistEffect, renumberEffect, effect};
+ghost use Rattle.commands.specs.Effect.{isStale, writing, counted, setEffect, expireEffect, persistEffect, renumberEffect, effect};
 ghost use Rattle.commands.specs.Execute.{settle, runOn};
 ghost use Rattle.commands.specs.ParsePromises.{deedOf};
 ghost use Rattle.commands.specs.Promises.{HeldAt, FoundIn, Sought, Storable, WithinLimits, Wrote, Changes, Settles, Does, answerMost, entryFor, writtenAt, heldVersion, heldExpiry, boundedSum, incremented, fieldsAdded, writeSettled, settledReply, tellable, answersAbout};
@@ -79,6 +79,17 @@ fn held_expiry(bytes: &[u8], found: Found) -> Expiry
     match found {
         Found::At(i) => read::expiry(bytes, i),
         Found::Nothing => Expiry::Never,
+    }
+}
+
+// Whether what is said of a field's version is stale; of a missing field nothing is.
+fn is_stale_at(bytes: &[u8], found: Found, versioning: Versioning) -> bool
+    requires { ⌜ HeldAt (now bytes) found ⌝ }
+    ensures { λ r. ⌜ r ≡ isStale versioning (entryFor (decode (now (bytes .entry)) .slots) found) ⌝ }
+{
+    match found {
+        Found::At(i) => is_stale(versioning, read::version(bytes, i)),
+        Found::Nothing => false,
     }
 }
 
@@ -160,8 +171,7 @@ fn assign(
 {
     let found = sight.found;
     let versioning = stamping.versioning;
-    let held = held_version(bytes, found);
-    if is_stale(versioning, held) {
+    if is_stale_at(bytes, found, versioning) {
         return Settled::Refused(20);
     }
     let wrote = write(bytes, key, field, value, sight, stamping);
@@ -241,8 +251,7 @@ fn increment(
 {
     let found = sight.found;
     let versioning = stamping.versioning;
-    let held = held_version(bytes, found);
-    if is_stale(versioning, held) {
+    if is_stale_at(bytes, found, versioning) {
         return Settled::Refused(20);
     }
     let before = stored(bytes, found);

@@ -16,11 +16,12 @@ mod versions;
 use store::Found;
 use wire::integers::Signed;
 
-// What decides an entry's version: nothing is given, VER v, ABS v.
+// What decides an entry's version: nothing is given, VER v, ABS v, GT v.
 pub enum Versioning {
     Next,
     Match(u64),
     Exactly(u64),
+    Above(u64),
 }
 
 // What becomes of an entry's expiry: it is cleared, kept (KEEPTTL) or set to an instant in ms.

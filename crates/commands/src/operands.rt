@@ -5,6 +5,7 @@ use crate::Sum;
 use crate::Versioning;
 use crate::options::NOT_GIVEN;
 use crate::options::ScannedOptions;
+use crate::table::EXACT;
 use crate::table::EXPIRY_GROUP;
 use crate::table::IF_MISSING;
 use crate::table::KEPT;
@@ -96,7 +97,7 @@ pub fn lifetime(
     Timed::Value(Lifetime::Until(instant(said, n, time)))
 }
 
-// What VER or ABS says.
+// What VER, ABS or GT says.
 pub fn versioning(command: &[u8], places: &[[usize; 2]], said: usize, operand: usize) -> Versioned
     requires { ⌜ Inside (now command) (now places) ⌝ }
     ensures { λ r. let ws = wordsIn (now (command .entry)) (now (places .entry)) in ⌜ r ≡ versionedFor (optionAt ws versionGroup said operand) ⌝ }
@@ -108,13 +109,14 @@ pub fn versioning(command: &[u8], places: &[[usize; 2]], said: usize, operand: u
     let Natural::Value(n) = read else {
         return Versioned::Refused;
     };
-    if said == MATCHED {
-        return Versioned::Value(Versioning::Match(n));
+    match said {
+        MATCHED => Versioned::Value(Versioning::Match(n)),
+        EXACT => Versioned::Value(Versioning::Exactly(n)),
+        _ => Versioned::Value(Versioning::Above(n)),
     }
-    Versioned::Value(Versioning::Exactly(n))
 }
 
-// Whether a versioning is ABS 0 (17).
+// Whether a versioning is ABS 0 or GT 0 (17).
 pub fn is_zero(versioning: Versioning) -> bool
     ensures { λ r. ⌜ r ≡ isZero versioning ⌝ }
 {
@@ -122,6 +124,7 @@ pub fn is_zero(versioning: Versioning) -> bool
         Versioning::Next => false,
         Versioning::Match(_) => false,
         Versioning::Exactly(v) => v == 0,
+        Versioning::Above(v) => v == 0,
     }
 }
 

@@ -119,11 +119,13 @@ pub const KEPT: usize = 4;
 // What an option of the condition group says: NX; else XX.
 pub const IF_MISSING: usize = 0;
 
-// What an option of the version group says: VER; else ABS.
+// What an option of the version group says: VER, ABS; else GT.
 pub const MATCHED: usize = 0;
 
+pub const EXACT: usize = 1;
+
 // The options.
-const OPTION_COUNT: usize = 12;
+const OPTION_COUNT: usize = 13;
 
 const OPTIONS: [u8; ROW_SIZE * OPTION_COUNT] = *b"\x02EXcdefghijklmno\
     \x04EXATefghijklmno\
@@ -134,6 +136,7 @@ const OPTIONS: [u8; ROW_SIZE * OPTION_COUNT] = *b"\x02EXcdefghijklmno\
     \x02XXcdefghijklmno\
     \x03VERdefghijklmno\
     \x03ABSdefghijklmno\
+    \x02GTcdefghijklmno\
     \x03MINdefghijklmno\
     \x03MAXdefghijklmno\
     \x05NOEXPfghijklmno";
@@ -215,8 +218,9 @@ fn option_numbers(row: usize) -> u64
         6 => 0x01_01_01,
         7 => 0x02_00_02,
         8 => 0x02_01_02,
-        9 => 0x02_00_03,
-        10 => 0x02_00_04,
+        9 => 0x02_02_02,
+        10 => 0x02_00_03,
+        11 => 0x02_00_04,
         _ => 0x01_00_05,
     }
 }

@@ -12,15 +12,13 @@ ghost use Rattle.store.specs.Layout.{versionMost};
 ghost use Rattle.commands.specs.Effect.{isStale, nextVersion, setterVersion, nextExpiry, barred};
 ghost use Rattle.commands.specs.Promises.{entryFor, versioned, expiring};
 
-// Whether VER names another version than the one that is held.
+// Whether VER names another version than the one that is held, or GT one that is not greater.
 pub fn is_stale(versioning: Versioning, held: u64) -> bool
     ensures { λ r. ⌜ r ≡ isStale versioning (some (versioned held)) ⌝ }
 {
-    if held == 0 {
-        return false;
-    }
     match versioning {
-        Versioning::Match(v) => held != v,
+        Versioning::Match(v) => held != 0 && held != v,
+        Versioning::Above(v) => v <= held,
         Versioning::Next => false,
         Versioning::Exactly(_) => false,
     }
@@ -33,6 +31,7 @@ pub fn next_version(versioning: Versioning, held: u64) -> u64
 {
     match versioning {
         Versioning::Exactly(v) => v,
+        Versioning::Above(v) => v,
         Versioning::Next => held + 1,
         Versioning::Match(_) => held + 1,
     }
@@ -45,6 +44,7 @@ pub fn setter_version(versioning: Versioning, held: u64) -> u64
 {
     match versioning {
         Versioning::Exactly(v) => v,
+        Versioning::Above(v) => v,
         Versioning::Next => held,
         Versioning::Match(_) => held + 1,
     }

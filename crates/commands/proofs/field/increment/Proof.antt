@@ -4,47 +4,46 @@ use borrow.Author.Needs.{needs}
 use Rattle.commands.proofs.field.increment.Statement.{statement}
 use Rattle.commands.proofs.field.increment.Tie as tie
 
-held-version-requires : tie.Need-held-version-requires
-held-version-requires c κs = sought-held (c .before .before .before .before .pre .0)
+is-stale-at-requires : tie.Need-is-stale-at-requires
+is-stale-at-requires c κs = sought-held (c .before .before .before .before .pre .0)
 
 returns : tie.Need-returns
 returns c =
-    let start = c .before .before .before .before .before .before .before in
-    increment-stale (start .args .sight .time) (start .args .sum) (start .args .stamping) (now (start .args .key)) (now (start .args .field)) (now (start .args .bytes)) (start .pre .0 .well) (start .args .sight .found) (c .before .before .held-version .ensures) (c .before .is-stale .ensures) (c .if1 .taken)
+    let start = c .before .before .before .before .before .before in
+    increment-stale (start .args .sight .time) (start .args .sum) (start .args .stamping) (now (start .args .key)) (now (start .args .field)) (now (start .args .bytes)) (start .pre .0 .well) (start .args .sight .found) (c .before .is-stale-at .ensures) (c .if1 .taken)
 
 stored-requires : tie.Need-stored-requires
-stored-requires c κs = sought-held (c .before .before .before .before .before .before .before .before .pre .0)
+stored-requires c κs = sought-held (c .before .before .before .before .before .before .before .pre .0)
 
 returns-2 : tie.Need-returns-2
 returns-2 c =
-    let back2 = c .before .before in let back4 = back2 .before .before in let back5 = back4 .before in let back6 = back5 .before in
-    let start = back6 .before .before .before .before .before in
-    increment-unread (start .args .sight .time) (start .args .sum) (start .args .stamping) (now (start .args .key)) (now (start .args .field)) (now (start .args .bytes)) (start .pre .0 .well) (start .args .sight .found) (back6 .held-version .ensures) (back5 .is-stale .ensures) (back4 .if1 .left) (back2 .stored .ensures) (c .enum-told .given .1)
+    let back2 = c .before .before in let back4 = back2 .before .before in let back5 = back4 .before in
+    let start = back5 .before .before .before .before .before in
+    increment-unread (start .args .sight .time) (start .args .sum) (start .args .stamping) (now (start .args .key)) (now (start .args .field)) (now (start .args .bytes)) (start .pre .0 .well) (start .args .sight .found) (back5 .is-stale-at .ensures) (back4 .if1 .left) (back2 .stored .ensures) (c .enum-told .given .1)
 
 returns-3 : tie.Need-returns-3
 returns-3 c =
-    let back2 = c .before .before in let back4 = back2 .before .before in let back6 = back4 .before .before in let back8 = back6 .before .before in let back9 = back8 .before in let back10 = back9 .before in
-    let start = back10 .before .before .before .before .before in
-    increment-overflow (start .args .sight .time) (start .args .sum) (start .args .stamping) (now (start .args .key)) (now (start .args .field)) (now (start .args .bytes)) (start .pre .0 .well) (start .args .sight .found) (back10 .held-version .ensures) (back9 .is-stale .ensures) (back8 .if1 .left) (back6 .stored .ensures) (back4 .before2 .given .1) (back2 .bounded-sum .ensures) (c .enum-told2 .given .1)
+    let back2 = c .before .before in let back4 = back2 .before .before in let back6 = back4 .before .before in let back8 = back6 .before .before in let back9 = back8 .before in
+    let start = back9 .before .before .before .before .before in
+    increment-overflow (start .args .sight .time) (start .args .sum) (start .args .stamping) (now (start .args .key)) (now (start .args .field)) (now (start .args .bytes)) (start .pre .0 .well) (start .args .sight .found) (back9 .is-stale-at .ensures) (back8 .if1 .left) (back6 .stored .ensures) (back4 .before2 .given .1) (back2 .bounded-sum .ensures) (c .enum-told2 .given .1)
 
 write-sum-requires : tie.Need-write-sum-requires
 write-sum-requires c κs =
-    let back2 = c .before .before in let back4 = back2 .before .before in let back6 = back4 .before .before in let back8 = back6 .before .before in let back10 = back8 .before .before in let back11 = back10 .before in let back12 = back11 .before in
-    let start = back12 .before .before .before .before .before in
-    (start .pre .0, start .pre .1, increment-within (start .args .sight .time) (start .args .sum) (start .args .stamping) (now (start .args .key)) (now (start .args .field)) (now (start .args .bytes)) (start .pre .0 .well) (start .args .sight .found) (back12 .held-version .ensures) (back11 .is-stale .ensures) (back10 .if1 .left) (back8 .stored .ensures) (back6 .before2 .given .1) (back4 .bounded-sum .ensures) (back2 .total .given .1))
+    let back2 = c .before .before in let back4 = back2 .before .before in let back6 = back4 .before .before in let back8 = back6 .before .before in let back10 = back8 .before .before in let back11 = back10 .before in
+    let start = back11 .before .before .before .before .before in
+    (start .pre .0, start .pre .1, increment-within (start .args .sight .time) (start .args .sum) (start .args .stamping) (now (start .args .key)) (now (start .args .field)) (now (start .args .bytes)) (start .pre .0 .well) (start .args .sight .found) (back11 .is-stale-at .ensures) (back10 .if1 .left) (back8 .stored .ensures) (back6 .before2 .given .1) (back4 .bounded-sum .ensures) (back2 .total .given .1))
 
 returns-4 : tie.Need-returns-4
 returns-4 c =
-    let back2 = c .before .before in let back5 = back2 .before .before .before in let back7 = back5 .before .before in let back9 = back7 .before .before in let back11 = back9 .before .before in let back13 = back11 .before .before in let back14 = back13 .before in let back15 = back14 .before in
-    let start = back15 .before .before .before .before .before in
-    increment-done (start .args .sight .time) (start .args .sum) (start .args .stamping) (now (start .args .key)) (now (start .args .field)) (now (start .args .bytes)) (start .pre .0 .well) (start .args .sight .found) (back15 .held-version .ensures) (back14 .is-stale .ensures) (back13 .if1 .left) (back11 .stored .ensures) (back9 .before2 .given .1) (back7 .bounded-sum .ensures) (back5 .total .given .1) (back2 .write-sum .ensures)
+    let back2 = c .before .before in let back5 = back2 .before .before .before in let back7 = back5 .before .before in let back9 = back7 .before .before in let back11 = back9 .before .before in let back13 = back11 .before .before in let back14 = back13 .before in
+    let start = back14 .before .before .before .before .before in
+    increment-done (start .args .sight .time) (start .args .sum) (start .args .stamping) (now (start .args .key)) (now (start .args .field)) (now (start .args .bytes)) (start .pre .0 .well) (start .args .sight .found) (back14 .is-stale-at .ensures) (back13 .if1 .left) (back11 .stored .ensures) (back9 .before2 .given .1) (back7 .bounded-sum .ensures) (back5 .total .given .1) (back2 .write-sum .ensures)
 
 pub increment-spec : {M : Type 1} → statement M
 increment-spec =
     tie.close
     (tie.spec
-    held-version-requires
-    (λ c κs. search needs)
+    is-stale-at-requires
     (λ c. search needs)
     returns
     stored-requires

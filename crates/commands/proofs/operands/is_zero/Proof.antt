@@ -15,6 +15,11 @@ returns-3 : tie.Need-returns-3
 unfolding isZero
 returns-3 c = rw (c .before .versioning .given .1)
 
+returns-4 : tie.Need-returns-4
+unfolding isZero
+returns-4 c = rw (c .before .versioning2 .given .1)
+
 pub is-zero-spec : {M : Type 1} → statement M
 is-zero-spec =
-    tie.close (tie.spec (λ c. search needs) (λ c. search needs) (λ c. search needs) returns returns-2 returns-3)
+    tie.close
+    (tie.spec (λ c. search needs) (λ c. search needs) (λ c. search needs) (λ c. search needs) returns returns-2 returns-3 returns-4)

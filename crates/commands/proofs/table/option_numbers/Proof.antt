@@ -8,10 +8,10 @@ use Rattle.commands.proofs.table.option_numbers.Statement.{statement}
 use Rattle.commands.proofs.table.option_numbers.Tie as tie
 
 -- the last row is what is left
-returns-12 : tie.Need-returns-12
+returns-13 : tie.Need-returns-13
 unfolding tables optionOf NoneOf
-returns-12 c =
-    let e : _≡_ {A = ℕ} (c .before .args .row) 11 = omega (arith, none-of 11 (c .before .args .row) (c .match .rest), c .before .pre) in
+returns-13 c =
+    let e : _≡_ {A = ℕ} (c .before .args .row) 12 = omega (arith, none-of 12 (c .before .args .row) (c .match .rest), c .before .pre) in
     rw e
 
 pub option-numbers-spec : {M : Type 1} → statement M
@@ -30,4 +30,5 @@ option-numbers-spec =
     (λ c. rw (c .match .keys9))
     (λ c. rw (c .match .keys10))
     (λ c. rw (c .match .keys11))
-    returns-12)
+    (λ c. rw (c .match .keys12))
+    returns-13)
