@@ -20,6 +20,9 @@ pub mod SomeReply
 pub mod Names
 pub mod Ready
 pub mod AllOrNone
+-- ---- a version that only moves forward
+pub mod GivenVersion
+pub mod Forward
 -- ---- tables and lines: the code's rows are the definitions' own
 pub mod TableRows
 pub mod RefusalLines

@@ -12,6 +12,63 @@ use Rattle.wire.specs.Words.{Word}
 use Rattle.wire.proofs.Lists.{and-left, and-right, and-both, or-left, or-right, both-ways, impossible}
 use Rattle.commands.specs.Options.{OptionKind, Range, OptionRow, Given, _with_, options, group, operandRange, optionNamed, scan, conflicting, givenOf}
 
+-- ---- what a scan finds
+
+-- every option that was given is of a kind of which P holds
+abbrev pub Each : (OptionKind → Type 0) → List Given → Type 0
+Each P [] = Unit {0}
+Each P (g ∷ gs) = P (g .kind) × Each P gs
+
+abbrev Found : (OptionKind → Type 0) → Option (List Given) → Type 0
+Found P none = Unit {0}
+Found P (some gs) = Each P gs
+
+abbrev Pending : (OptionKind → Type 0) → Option OptionKind → Type 0
+Pending P none = Unit {0}
+Pending P (some m) = P m
+
+module _ (P : OptionKind → Type 0) where
+  one-more : (x : Given) → P (x .kind) → (o : Option (List Given)) → Found P o → Found P (Option·map (λ gs. x ∷ gs) o)
+  one-more x h none k = tt
+  one-more x h (some gs) k = (h, k)
+
+  pub each-given : (n : ℕ) (gs : List Given) → Each P gs → (g : Given) → givenOf n gs ≡ some g → P (g .kind)
+  unfolding givenOf
+  each-given n [] e g h = impossible cc
+  each-given n (x ∷ xs) e g h = go (eqb (group (x .kind)) n) (each-given n xs (e .1) g) h
+    where
+      go : (t : Bool) → (givenOf n xs ≡ some g → P (g .kind)) → cond t (some x) (givenOf n xs) ≡ some g → P (g .kind)
+      go true later q =
+          let m : x ≡ g = cc in
+          rw m at (e .0)
+      go false later q = later q
+
+  -- a scan finds only what the table names
+  module _ (al : List ℕ) (named : (w : Word) (m : OptionKind) → optionNamed options al w ≡ some m → P m) where
+    scan-each : (o : Option OptionKind) (ws : List Word) → Pending P o → Found P (scan al o ws)
+    unfolding scan orElse
+    scan-each none [] h = tt
+    scan-each (some m) [] h = tt
+    scan-each (some m) (w ∷ ws) h = one-more (m with w) h (scan al none ws) (scan-each none ws tt)
+    scan-each none (w ∷ ws) h = go (optionNamed options al w) refl (scan-each none ws tt) (λ m. scan-each (some m) ws)
+      where
+        at : (m : OptionKind) → P m → (o : Option Range) → Found P (scan al none ws) → (P m → Found P (scan al (some m) ws))
+            → Found P (orElse o (Option·map (λ gs. m with [] ∷ gs) (scan al none ws)) (λ r. scan al (some m) ws))
+        at m q none bare after = one-more (m with []) q (scan al none ws) bare
+        at m q (some r) bare after = after q
+
+        go : (o : Option OptionKind) → optionNamed options al w ≡ o → Found P (scan al none ws) → ((m : OptionKind) → P m → Found P (scan al (some m) ws))
+            → Found P (orElse o none λ m. orElse (operandRange m) (Option·map (λ gs. m with [] ∷ gs) (scan al none ws)) (λ r. scan al (some m) ws))
+        go none e bare after = tt
+        go (some m) e bare after = at m (named w m e) (operandRange m) bare (after m)
+
+    pub scanned-each : (ws : List Word) → Each P (Option·getD (scan al none ws) [])
+    scanned-each ws = go (scan al none ws) (scan-each none ws tt)
+      where
+        go : (o : Option (List Given)) → Found P o → Each P (Option·getD o [])
+        go none h = tt
+        go (some gs) h = h
+
 -- ---- groups that are allowed
 
 module _ (al : List ℕ) where
@@ -32,31 +89,19 @@ module _ (al : List ℕ) where
       go true false q later e = later e
       go false a q later e = later e
 
-  one-more : (x : Given) → permitted x ≡ true → (o : Option (List Given)) → orElse o true (all permitted) ≡ true
-      → orElse (Option·map (λ gs. x ∷ gs) o) true (all permitted) ≡ true
-  unfolding orElse all
-  one-more x h none k = refl
-  one-more x h (some gs) k = and-both h k
+  each-permitted : (gs : List Given) → Each (λ m. any (eqb (group m)) al ≡ true) gs → all permitted gs ≡ true
+  unfolding all permitted
+  each-permitted [] h = refl
+  each-permitted (g ∷ gs) h = and-both (h .0) (each-permitted gs (h .1))
 
   -- a scan finds only options of groups that are allowed
-  pub scan-allowed : (o : Option OptionKind) (ws : List Word) → orElse o true (λ m. any (eqb (group m)) al) ≡ true → orElse (scan al o ws) true (all permitted) ≡ true
-  unfolding scan orElse all permitted
-  scan-allowed none [] h = refl
-  scan-allowed (some m) [] h = refl
-  scan-allowed (some m) (w ∷ ws) h = one-more (m with w) h (scan al none ws) (scan-allowed none ws refl)
-  scan-allowed none (w ∷ ws) h = go (optionNamed options al w) refl (scan-allowed none ws refl) (λ m. scan-allowed (some m) ws)
+  pub scan-allowed : (ws : List Word) → orElse (scan al none ws) true (all permitted) ≡ true
+  unfolding orElse
+  scan-allowed ws = go (scan al none ws) (scan-each (λ m. any (eqb (group m)) al ≡ true) al (named-allowed options) none ws tt)
     where
-      at : (m : OptionKind) → any (eqb (group m)) al ≡ true → (o : Option Range) → orElse (scan al none ws) true (all permitted) ≡ true
-          → (any (eqb (group m)) al ≡ true → orElse (scan al (some m) ws) true (all permitted) ≡ true)
-          → orElse (orElse o (Option·map (λ gs. m with [] ∷ gs) (scan al none ws)) (λ r. scan al (some m) ws)) true (all permitted) ≡ true
-      at m q none bare after = one-more (m with []) q (scan al none ws) bare
-      at m q (some r) bare after = after q
-
-      go : (o : Option OptionKind) → optionNamed options al w ≡ o → orElse (scan al none ws) true (all permitted) ≡ true
-          → ((m : OptionKind) → any (eqb (group m)) al ≡ true → orElse (scan al (some m) ws) true (all permitted) ≡ true)
-          → orElse (orElse o none λ m. orElse (operandRange m) (Option·map (λ gs. m with [] ∷ gs) (scan al none ws)) (λ r. scan al (some m) ws)) true (all permitted) ≡ true
-      go none e bare after = refl
-      go (some m) e bare after = at m (named-allowed options w m e) (operandRange m) bare (after m)
+      go : (o : Option (List Given)) → Found (λ m. any (eqb (group m)) al ≡ true) o → orElse o true (all permitted) ≡ true
+      go none h = refl
+      go (some gs) h = each-permitted gs h
 
 -- ---- one option a group
 

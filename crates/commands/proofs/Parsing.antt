@@ -129,7 +129,7 @@ module _ {f : Form} {al : List ℕ} {from : ℕ} (k : Takes f al from) {ws : Lis
       record {
         clean = k;
         given = λ g l. rw same-scan at (s .given h g l);
-        read = all-groups readableOperand (allowed f) (scannedOf f ws) k (scan-allowed (allowed f) none (optionWords f ws) refl);
+        read = all-groups readableOperand (allowed f) (scannedOf f ws) k (scan-allowed (allowed f) (optionWords f ws));
       }
     where
       go : (t : Bool) → r .refusal ≡ cond t 15 0 → t ≡ false

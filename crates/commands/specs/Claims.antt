@@ -4,7 +4,7 @@ use mathlib.Core.Logic.{_⊎_}
 use mathlib.Core.Bool.{Bool, true, false, cond, not, _&&_}
 use mathlib.Core.List.{List, [], _∷_}
 use mathlib.Core.Option.{Option, none, some, Option·getD}
-use Prim.Native.Nat.{ℕ, _≤_}
+use Prim.Native.Nat.{ℕ, _≤_, _<_}
 use lib.Dec.{leb}
 use Rattle.wire.specs.Lists.{any, isSome, orElse}
 use Rattle.wire.specs.Bytes.{same}
@@ -12,12 +12,13 @@ use Rattle.wire.specs.Words.{Word, wordAt, wordsOf}
 use Rattle.store.specs.Layout.{timeLimit}
 use Rattle.store.specs.declared.Expiry.the-variants.{Never}
 use Rattle.store.specs.Store.{Entry, Slot, Store}
-use Rattle.store.specs.Time.{entryOf}
+use Rattle.store.specs.Time.{live, entryOf}
 use Rattle.commands.specs.Refusal.{Check, _when_}
-use Rattle.commands.specs.Command.{Pair, Command, keyOf, fieldsOf}
+use Rattle.commands.specs.Command.{Deed, Pair, Command, keyOf, fieldsOf}
+use Rattle.commands.specs.Command.Deed.{assign, increment, expire, persist, renumber, ask}
 use Rattle.commands.specs.Parse.{CommandRow, commands, commandNamed, checksOf}
-use Rattle.commands.specs.Effect.{Effect}
-use Rattle.commands.specs.Execute.{passes, exec}
+use Rattle.commands.specs.Effect.{Effect, barred}
+use Rattle.commands.specs.Execute.{passes, room, exec}
 
 -- a check of a number applies
 unfoldable pub Applies : ℕ → List Check → Type 0
@@ -61,6 +62,26 @@ pub record Written (k f v : Word) (ss : List Slot) : Type 0 where
   pub here : entryOf k f ss ≡ some entry
   pub value : entry .value ≡ v
   pub expiry : entry .expiry ≡ Never
+
+-- the entry of a key and a field has a version
+pub record Numbered (k f : Word) (v : ℕ) (ss : List Slot) : Type 0 where
+  pub entry : Entry
+  pub here : entryOf k f ss ≡ some entry
+  pub version : entry .version ≡ v
+
+-- a deed that says something of the version and does not write its field: an EXHSET that NX or XX bars, an expiry setter of a missing field
+unfoldable pub idle : Deed → Option Entry → Bool
+idle (assign v c n t) found = barred c found
+idle (increment a l g n t) found = false
+idle (expire t n) found = not (isSome found)
+idle persist found = true
+idle (renumber v) found = true
+idle (ask q) found = true
+
+-- at the store's own clock a field is live without expiry at a version below v, or missing while a slot is empty or dead
+pub data Behind (k f : Word) (v : ℕ) (s : Store) : Type 0 where
+  below : (e : Entry) → entryOf k f (s .slots) ≡ some e → e .expiry ≡ Never → e .version < v → Behind k f v s
+  missing : ((e : Entry) → entryOf k f (s .slots) ≡ some e → live (s .clock) e ≡ false) → 1 ≤ room (s .clock) (s .slots) → Behind k f v s
 
 -- a record of the stream
 pub record Step : Type 0 where

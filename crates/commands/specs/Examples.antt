@@ -1,5 +1,5 @@
--- P1 to P14 ("Marked presses"), and the paper's other worked cases about commands, as rows of texts. proofs/Examples shows that the
--- definitions give every row.
+-- P1 to P14 ("Marked presses"), the papers' other worked cases about commands, and those of the change requests, as rows of texts. proofs/Examples
+-- shows that the definitions give every row.
 use mathlib.Core.Bool.{cond}
 use mathlib.Core.List.{List, [], _∷_, map}
 use mathlib.Core.Option.{none, some, Option·getD}
@@ -169,7 +169,7 @@ workedCases =
     1500 (entry "m" "a" "1" 1 Never) none
     ∷ []
 
--- ---- every command and every option done, and every refusal from 11 to 24: what the paper's own rows leave out
+-- ---- every command and every option of paper 01 done, and every refusal from 11 to 24: what the paper's own rows leave out
 
 unfoldable pub commandCases : List Case
 commandCases =
@@ -276,4 +276,93 @@ commandCases =
     ∷ refusal 1000 "EXHSET m c 1" 24 "-ERR store is full\r\n"
     ∷ [])
     1000 (entry "m" "a" "x" 1 Never) (entry "m" "b" "2" 2 Never)
+    ∷ []
+
+-- ---- the rows of paper 02, request by request
+
+unfoldable pub changeRequestCases : List Case
+changeRequestCases =
+    case "M-100: a missing, GT 5: 1, version 5; then GT 5: 20; then GT 6: 0, version 6; then EXHINCRBY with GT 7 and EXHPEXPIRE with GT 8"
+    (request 1000 "EXHSET m a 1 GT 5" ":1\r\n"
+    ∷ request 1000 "EXHVER m a" ":5\r\n"
+    ∷ refusal 1000 "EXHSET m a 1 GT 5" 20 "-ERR update version is stale\r\n"
+    ∷ request 1000 "EXHSET m a 1 GT 6" ":0\r\n"
+    ∷ request 1000 "EXHVER m a" ":6\r\n"
+    ∷ request 1000 "EXHINCRBY m a 1 GT 7" ":2\r\n"
+    ∷ request 1000 "EXHVER m a" ":7\r\n"
+    ∷ request 1000 "EXHPEXPIRE m a 500 GT 8" ":1\r\n"
+    ∷ [])
+    1000 (entry "m" "a" "2" 8 (At 1500)) none
+    ∷ case "M-100: a missing field takes it as its version, EXHINCRBY too; a dead one is missing"
+    (request 1000 "EXHINCRBY m a 3 GT 4" ":3\r\n"
+    ∷ request 1000 "EXHSET m b 1 ABS 9 PX 500" ":1\r\n"
+    ∷ request 1500 "EXHSET m b 2 GT 3" ":1\r\n"
+    ∷ [])
+    1500 (entry "m" "a" "3" 4 Never) (entry "m" "b" "2" 3 Never)
+    ∷ case "M-100: the setters reply 0 where the field is missing, and make none"
+    (request 1000 "EXHEXPIRE m a 9 GT 3" ":0\r\n"
+    ∷ request 1000 "EXHEXPIREAT m a 9 GT 3" ":0\r\n"
+    ∷ request 1000 "EXHPEXPIRE m a 500 GT 3" ":0\r\n"
+    ∷ request 1000 "EXHPEXPIREAT m a 5000 GT 3" ":0\r\n"
+    ∷ [])
+    1000 none none
+    ∷ case "M-100: 20 on EXHINCRBY and on each setter, equal included; NX that replies -1 comes before it"
+    (request 1000 "EXHSET m a 1 ABS 8" ":1\r\n"
+    ∷ refusal 1000 "EXHINCRBY m a 1 GT 8" 20 "-ERR update version is stale\r\n"
+    ∷ refusal 1000 "EXHEXPIRE m a 9 GT 8" 20 "-ERR update version is stale\r\n"
+    ∷ refusal 1000 "EXHEXPIREAT m a 9 GT 7" 20 "-ERR update version is stale\r\n"
+    ∷ refusal 1000 "EXHPEXPIRE m a 500 GT 8" 20 "-ERR update version is stale\r\n"
+    ∷ refusal 1000 "EXHPEXPIREAT m a 5000 GT 1" 20 "-ERR update version is stale\r\n"
+    ∷ request 1000 "EXHSET m a 2 NX GT 8" ":-1\r\n"
+    ∷ [])
+    1000 (entry "m" "a" "1" 8 Never) none
+    ∷ case "M-100: GT 0: 17, where the field is missing and with NX on a live one"
+    (refusal 1000 "EXHSET m a 1 GT 0" 17 "-ERR invalid version\r\n"
+    ∷ request 1000 "EXHSET m a 1" ":1\r\n"
+    ∷ refusal 2000 "EXHSET m a 2 NX GT 0" 17 "-ERR invalid version\r\n"
+    ∷ refusal 2000 "EXHINCRBY m a 1 GT 0" 17 "-ERR invalid version\r\n"
+    ∷ refusal 2000 "EXHPEXPIRE m a 500 GT 0" 17 "-ERR invalid version\r\n"
+    ∷ refusal 2000 "EXHPEXPIRE m b 500 GT 0" 17 "-ERR invalid version\r\n"
+    ∷ [])
+    1000 (entry "m" "a" "1" 1 Never) none
+    ∷ case "M-100: GT 3 VER 3: 15; at most one of VER, ABS and GT, once, with its operand, and only where VER is taken; 16 as for a version"
+    (refusal 1000 "EXHSET m a 1 GT 3 VER 3" 15 "-ERR syntax error\r\n"
+    ∷ refusal 1000 "EXHSET m a 1 ABS 3 GT 3" 15 "-ERR syntax error\r\n"
+    ∷ refusal 1000 "EXHSET m a 1 GT 3 GT 3" 15 "-ERR syntax error\r\n"
+    ∷ refusal 1000 "EXHINCRBY m a 1 GT" 15 "-ERR syntax error\r\n"
+    ∷ refusal 1000 "EXHLEN m GT 3" 15 "-ERR syntax error\r\n"
+    ∷ refusal 1000 "EXHSET m a 1 GT 03" 16 "-ERR value is not an integer or out of range\r\n"
+    ∷ refusal 1000 "EXHSET m a 1 GT 4294967296" 16 "-ERR value is not an integer or out of range\r\n"
+    ∷ refusal 1000 "EXHEXPIRE m a 9 GT VER" 16 "-ERR value is not an integer or out of range\r\n"
+    ∷ [])
+    0 none none
+    ∷ case "M-100: EXHSETVER m a 0, then GT 1: accepted"
+    (request 1000 "EXHSET m a 1" ":1\r\n"
+    ∷ request 1000 "EXHSETVER m a 0" ":1\r\n"
+    ∷ request 1000 "EXHSET m a 2 gt 1" ":0\r\n"
+    ∷ [])
+    1000 (entry "m" "a" "2" 1 Never) none
+    ∷ case "M-100: GT 4294967295, then a plain EXHSET: 23"
+    (request 1000 "EXHSET m a 1 GT 4294967295" ":1\r\n"
+    ∷ refusal 1000 "EXHSET m a 2" 23 "-ERR version overflow\r\n"
+    ∷ refusal 1000 "EXHSET m a 2 GT 4294967295" 20 "-ERR update version is stale\r\n"
+    ∷ [])
+    1000 (entry "m" "a" "1" 4294967295 Never) none
+    ∷ case "M-100, source 001: version 3, GT 3 and GT 2 stale, GT 4: 0, version 4, abs 2: version 2"
+    (request 1000 "EXHSET k1 f1 v1 ABS 3" ":1\r\n"
+    ∷ refusal 1000 "EXHSET k1 f1 v1 GT 3" 20 "-ERR update version is stale\r\n"
+    ∷ refusal 1000 "EXHSET k1 f1 v1 GT 2" 20 "-ERR update version is stale\r\n"
+    ∷ request 1000 "EXHSET k1 f1 v1 GT 4" ":0\r\n"
+    ∷ request 1000 "EXHVER k1 f1" ":4\r\n"
+    ∷ request 1000 "EXHSET k1 f1 v1 abs 2" ":0\r\n"
+    ∷ request 1000 "EXHVER k1 f1" ":2\r\n"
+    ∷ [])
+    1000 (entry "k1" "f1" "v1" 2 Never) none
+    ∷ case "M-100: of two counts the one with the greater GT is left, in both orders"
+    (request 1000 "EXHSET m a 1 GT 1" ":1\r\n"
+    ∷ request 1000 "EXHSET m a 2 GT 2" ":0\r\n"
+    ∷ request 1000 "EXHSET m b 2 GT 2" ":1\r\n"
+    ∷ refusal 1000 "EXHSET m b 1 GT 1" 20 "-ERR update version is stale\r\n"
+    ∷ [])
+    1000 (entry "m" "a" "2" 2 Never) (entry "m" "b" "2" 2 Never)
     ∷ []

@@ -4,13 +4,13 @@
 -- `Bytes` or `AllBytes`, the numbers are below 256, as the elements of the code's slices always are.
 use mathlib.Core.Path.{_≡_, refl, sym, ap, _∙_}
 use mathlib.Core.Logic.{_≢_, _⊎_, _↔_}
-use mathlib.Core.Bool.{true, false}
+use mathlib.Core.Bool.{true, false, not}
 use mathlib.Core.List.{List, [], _∷_, _++_, map, flatten, flatMap, List·Mem}
 use mathlib.Core.Option.{none, some}
 use Prim.Native.Nat.{ℕ, suc, _+_, _*_, _^_, _≤_, _<_}
 use lib.IntN.{ℤ}
 use lib.ListN.{length, drop, getD}
-use Rattle.wire.specs.Lists.{keep}
+use Rattle.wire.specs.Lists.{any, keep}
 use Rattle.wire.specs.Bytes.{Bytes, part, text}
 use Rattle.wire.specs.Integers.{within, readInteger, integerText}
 use Rattle.wire.specs.Words.{Word, wordsMost, wordsOf, crlf}
@@ -18,25 +18,31 @@ use Rattle.wire.specs.Replies.{line, respOf, laidOver}
 use Rattle.wire.proofs.IntegerLaws.{read-text, text-read, read-within}
 use Rattle.wire.proofs.WordLaws.{words-respOf, respOf-words, words-count}
 use Rattle.store.specs.Layout.{headerSize, slotSize}
-use Rattle.store.specs.Store.{Entry, Slot, Store, withClock, decode, encode, wellFormed, slotCount}
-use Rattle.store.specs.Time.{nowAt, live}
+use Rattle.store.specs.declared.Expiry.the-variants.{Never}
+use Rattle.store.specs.Store.{Entry, entry, Slot, Store, withClock, decode, encode, wellFormed, slotCount}
+use Rattle.store.specs.Time.{nowAt, live, entryOf}
 use Rattle.store.specs.Valid.{Valid}
 use Rattle.store.proofs.Encode.{decode-encode, encode-decode, encode-well, decode-valid}
 use Rattle.commands.specs.Refusal.{RefusalRow, table, errorLine, bufferLeast, earlyLeast, earlyMost, lateLeast, lateMost}
-use Rattle.commands.specs.Command.{Command, Pair, keyOf, fieldsOf}
-use Rattle.commands.specs.Command.Command.{setMany}
-use Rattle.commands.specs.Parse.{parse}
+use Rattle.commands.specs.declared.Versioning.the-variants.{Above}
+use Rattle.commands.specs.declared.Lifetime.the-variants.{Clear}
+use Rattle.commands.specs.declared.Condition.the-variants.{Always}
+use Rattle.commands.specs.Command.{Deed, Command, Pair, keyOf, fieldsOf}
+use Rattle.commands.specs.Command.Deed.{assign}
+use Rattle.commands.specs.Command.Command.{onField, setMany}
+use Rattle.commands.specs.Parse.{deedVersioning, parse}
 use Rattle.commands.specs.Parse.Parsed.{refused, accepted}
 use Rattle.commands.specs.Effect.{effect, changeAll}
-use Rattle.commands.specs.Execute.{sweep, swept, room, added, lateChecks, exec, execBytes}
-use Rattle.commands.specs.Claims.{earlyChecks, LowestOf, Proper, names, lastOf, Written, Step, execAll}
-use Rattle.commands.specs.Examples.{given, expected, markedExamples, workedCases, commandCases}
+use Rattle.commands.specs.Execute.{sweep, swept, writes, room, added, lateChecks, exec, execBytes}
+use Rattle.commands.specs.Claims.{earlyChecks, LowestOf, Proper, names, lastOf, Written, Numbered, idle, Behind, Step, execAll}
+use Rattle.commands.specs.Examples.{given, expected, markedExamples, workedCases, commandCases, changeRequestCases}
 use Rattle.commands.proofs.Examples as commandExamples
 use Rattle.commands.proofs.Refused.{protocol-exactly, refusal-number, refusal-row, late-refusal, refused-keeps-live}
 use Rattle.commands.proofs.Exactly.{early-exactly, early-lowest, late-exactly, done-gives, dead-as-missing}
 use Rattle.commands.proofs.Sweep.{room-sweep}
 use Rattle.commands.proofs.Others.{others-kept, others-from}
 use Rattle.commands.proofs.AllOrNone.{all-set}
+use Rattle.commands.proofs.Forward.{above-forward, above-writes-unless, above-never-passes, greater-wins}
 use Rattle.commands.proofs.Clock.{clock-is-now, clock-forward-all, dead-at-clock, dead-stays-dead}
 use Rattle.commands.proofs.Full.{full-exactly, full-accepted, done-exactly}
 use Rattle.commands.proofs.SomeReply.{exec-some, refused-said}
@@ -269,6 +275,42 @@ pub dead-is-missing : (clock : ℕ) (command : List ℕ) (s : Store) (c : Comman
     → exec clock command s ≡ exec clock command (swept (nowAt clock s) (keyOf c) (fieldsOf c) s)
 dead-is-missing = dead-as-missing
 
+-- ════ Demand 2: a version that only moves forward (M-100)
+
+-- A command with GT v that is not refused and writes its field leaves it at version v; and where the field was live it was below v.
+pub gt-only-forward : (clock : ℕ) (command : List ℕ) (s : Store) (k f : Word) (d : Deed) (v : ℕ) → Valid s
+    → parse (nowAt clock s) clock command ≡ accepted (onField k f d) → deedVersioning d ≡ Above v → exec clock command s .refusal ≡ none
+    → let e = effect (nowAt clock s) (onField k f d) (sweep (nowAt clock s) k (f ∷ []) (s .slots)) in
+    any (writes k f) (e .changes) ≡ true
+    → Numbered k f v (exec clock command s .store .slots)
+    × ((x : Entry) → entryOf k f (s .slots) ≡ some x → live (nowAt clock s) x ≡ true → x .version < v)
+unfolding keyOf fieldsOf
+gt-only-forward clock command s k f d v valid = above-forward clock command s k f d v (valid .apart)
+
+-- A command with GT writes its field, unless it is an EXHSET that NX or XX bars or an expiry setter of a missing field.
+pub gt-writes-unless : (clock : ℕ) (command : List ℕ) (s : Store) (k f : Word) (d : Deed) (v : ℕ) → Valid s
+    → parse (nowAt clock s) clock command ≡ accepted (onField k f d) → deedVersioning d ≡ Above v
+    → let left = sweep (nowAt clock s) k (f ∷ []) (s .slots) in
+    any (writes k f) (effect (nowAt clock s) (onField k f d) left .changes) ≡ not (idle d (entryOf k f left))
+unfolding keyOf fieldsOf
+gt-writes-unless clock command s k f d v valid = above-writes-unless clock command s k f d v (valid .apart)
+
+-- No command with GT is refused with 23.
+pub gt-never-overflows : (clock : ℕ) (command : List ℕ) (s : Store) (k f : Word) (d : Deed) (v : ℕ) → Valid s
+    → parse (nowAt clock s) clock command ≡ accepted (onField k f d) → deedVersioning d ≡ Above v → exec clock command s .refusal ≢ some 23
+gt-never-overflows clock command s k f d v valid = above-never-passes clock command s k f d v (valid .apart)
+
+-- The later count wins. Two EXHSETs past checks 10 to 18 count one field, with GT v and GT w, v below w, and neither a condition nor an expiry
+-- option, at any clocks. At the store's own clock the field is live without expiry at a version below v, or missing while a slot is empty or dead.
+-- Then in both orders the field ends with the value that came with GT w, at version w, without expiry.
+pub later-count-wins : (first second : Step) (s : Store) (k f x y : Word) (v w : ℕ) → Valid s
+    → parse (nowAt (first .clock) s) (first .clock) (first .command) ≡ accepted (onField k f (assign x Always (Above v) Clear))
+    → parse (nowAt (second .clock) s) (second .clock) (second .command) ≡ accepted (onField k f (assign y Always (Above w) Clear))
+    → v < w → Behind k f v s
+    → (entryOf k f (execAll (first ∷ second ∷ []) s .slots) ≡ some (entry k f y w Never))
+    × (entryOf k f (execAll (second ∷ first ∷ []) s .slots) ≡ some (entry k f y w Never))
+later-count-wins first second s k f x y v w valid = greater-wins first second s k f x y v w (valid .apart)
+
 -- ════ Demand 2: time
 
 -- A command that passes checks 10 to 18 sets the clock to now.
@@ -334,9 +376,13 @@ marked-examples = commandExamples.marked-examples
 pub worked-cases : map given workedCases ≡ map expected workedCases
 worked-cases = commandExamples.worked-cases
 
--- Every command and option done, and every refusal from 11 on.
+-- Every command and option of paper 01 done, and every refusal from 11 on.
 pub command-cases : map given commandCases ≡ map expected commandCases
 command-cases = commandExamples.command-cases
+
+-- The rows of paper 02, request by request.
+pub change-request-cases : map given changeRequestCases ≡ map expected changeRequestCases
+change-request-cases = commandExamples.change-request-cases
 
 -- ════ Demand 3: any list of calls
 

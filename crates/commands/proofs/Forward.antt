@@ -1,0 +1,334 @@
+-- A version that only moves forward: what a command with GT leaves, and that of two counts the later one wins.
+use mathlib.Core.Path.{_≡_, refl, sym, ap, _∙_}
+use mathlib.Core.Logic.{_⊎_, inl, inr, _↔_}
+use mathlib.Core.Bool.{Bool, true, false, cond, not, _||_}
+use mathlib.Core.List.{List, [], _∷_}
+use mathlib.Core.Option.{Option, none, some}
+use Prim.Native.Nat.{ℕ, suc, _≤_, _<_}
+use lib.Dec.{leb, ltb}
+use lib.IntN.{negsuc}
+use lib.ListN.{length, getD}
+use native.Mathlib.Omega.{arith}
+use borrow.Author.Tests.{leb-false, le-leb, lt-leb, le-ltb}
+use Rattle.wire.specs.Lists.{any, keep, isSome, orElse}
+use Rattle.wire.specs.Bytes.{same}
+use Rattle.wire.specs.Words.{Word}
+use Rattle.wire.specs.Replies.{integer, number}
+use Rattle.wire.proofs.Lists.{impossible, both-ways, any-some, any-none}
+use Rattle.wire.proofs.ByteLaws.{same-refl}
+use Rattle.store.specs.Layout.{versionMost}
+use Rattle.store.specs.declared.Expiry.the-variants.{Never, At}
+use Rattle.store.specs.Store.{Entry, entry, withVersion, withExpiry, Slot, Store, holds}
+use Rattle.store.specs.Time.{nowAt, before, live, liveSlot, roomSlot, entryOf, slotFor, put}
+use Rattle.store.specs.Valid.{Apart}
+use Rattle.store.proofs.Slots.{Named, entry-some, entry-is, entry-none, holds-own}
+use Rattle.store.proofs.Put.{put-entry}
+use Rattle.commands.specs.declared.Versioning.{Versioning}
+use Rattle.commands.specs.declared.Versioning.the-variants.{Above}
+use Rattle.commands.specs.declared.Lifetime.the-variants.{Clear}
+use Rattle.commands.specs.declared.Condition.{Condition}
+use Rattle.commands.specs.declared.Condition.the-variants.{Always}
+use Rattle.commands.specs.Command.{Deed, Command, keyOf, fieldsOf}
+use Rattle.commands.specs.Command.Deed.{assign, increment, expire, persist, renumber, ask}
+use Rattle.commands.specs.Command.Command.{onField}
+use Rattle.commands.specs.Parse.{deedVersioning, parse}
+use Rattle.commands.specs.Parse.Parsed.{accepted}
+use Rattle.commands.specs.Effect.{Change, Effect, answer, writing, change, changeAll, nextVersion, isStale, setterVersion, nextExpiry, barred, written, setEffect, incrementEffect, expireEffect, deedEffect, effect}
+use Rattle.commands.specs.Effect.Change.{write}
+use Rattle.commands.specs.Execute.{sweep, passes, writes, adds, added, room, lateChecks, exec}
+use Rattle.commands.specs.Claims.{Applies, Proper, idle, Numbered, Behind, Step, execAll}
+use Rattle.commands.specs.Claims.Behind.{below, missing}
+use Rattle.commands.proofs.Went.{sweptBy, effectOn, accepted-refusal}
+use Rattle.commands.proofs.Sweep.{sweep-apart, sweep-from, sweep-keeps-live, found-alive, room-sweep}
+use Rattle.commands.proofs.Room.{slot-none}
+use Rattle.commands.proofs.Clock.{dead-later}
+use Rattle.commands.proofs.ParseChecks.{check-applies, lowest-none}
+use Rattle.commands.proofs.Full.{done-exactly}
+use Rattle.commands.proofs.Exactly.{late-exactly, done-gives}
+use Rattle.commands.proofs.Refused.{refused-keeps-live}
+use Rattle.commands.proofs.Keeps.{exec-apart}
+use Rattle.commands.proofs.GivenVersion.{above-most, parse-anytime}
+
+-- ---- the named field and the sweep
+
+-- an entry that is found by its own name is found by the names that it has
+named-entry : (k f : Word) (ss : List Slot) (e : Entry) → Named k f e → entryOf (e .key) (e .field) ss ≡ some e → entryOf k f ss ≡ some e
+named-entry k f ss e n h = ap (λ x. entryOf x f ss) (sym (n .key)) ∙ ap (λ y. entryOf (e .key) y ss) (sym (n .field)) ∙ h
+
+module _ (now : ℕ) (k f : Word) (ss : List Slot) (apart : Apart ss) where
+  -- A live entry is found after the sweep,
+  live-found : (e : Entry) → entryOf k f ss ≡ some e → live now e ≡ true → entryOf k f (sweep now k (f ∷ []) ss) ≡ some e
+  live-found e h l =
+      let t = entry-some k f ss e h in
+      named-entry k f (sweep now k (f ∷ []) ss) e (t .named)
+      (entry-is (sweep now k (f ∷ []) ss) (t .slot) e (sweep-apart now k (f ∷ []) ss apart) (sweep-keeps-live now k (f ∷ []) ss (t .slot) e (t .here) l))
+
+  -- and a dead one is not.
+  dead-gone : ((e : Entry) → entryOf k f ss ≡ some e → live now e ≡ false) → entryOf k f (sweep now k (f ∷ []) ss) ≡ none
+  unfolding any
+  dead-gone dead = go (entryOf k f (sweep now k (f ∷ []) ss)) refl
+    where
+      go : (o : Option Entry) → entryOf k f (sweep now k (f ∷ []) ss) ≡ o → entryOf k f (sweep now k (f ∷ []) ss) ≡ none
+      go none q = q
+      go (some e) q =
+          let t = entry-some k f (sweep now k (f ∷ []) ss) e q in
+          let was : entryOf k f ss ≡ some e =
+          named-entry k f ss e (t .named) (entry-is ss (t .slot) e apart (sweep-from now k (f ∷ []) ss (t .slot) e (t .here))) in
+          both-ways (found-alive now k (f ∷ []) ss f e (rw (same-refl f) refl) q) (dead e was)
+
+-- As time goes no slot is lost that was empty or dead.
+room-later : (now later : ℕ) → now ≤ later → (ss : List Slot) → room now ss ≤ room later ss
+unfolding room keep roomSlot liveSlot orElse
+room-later now later l [] = omega arith
+room-later now later l (none ∷ ss) = omega (arith, room-later now later l ss)
+room-later now later l (some e ∷ ss) = go (live now e) refl (live later e) refl (room-later now later l ss)
+  where
+    go : (a : Bool) → live now e ≡ a → (b : Bool) → live later e ≡ b → room now ss ≤ room later ss
+        → length (cond (not a) (some e ∷ keep (roomSlot now) ss) (keep (roomSlot now) ss))
+        ≤ length (cond (not b) (some e ∷ keep (roomSlot later) ss) (keep (roomSlot later) ss))
+    go true p true q h = h
+    go true p false q h = omega (arith, h)
+    go false p true q h = both-ways q (dead-later now later e l p)
+    go false p false q h = omega (arith, h)
+
+-- ---- one entry written
+
+-- A command that is done and writes just one entry leaves it as the entry of its key and field.
+wrote-one : (clock : ℕ) (command : List ℕ) (s : Store) (c : Command) (e : Entry) → Apart (s .slots) → parse (nowAt clock s) clock command ≡ accepted c
+    → exec clock command s .refusal ≡ none → effectOn (nowAt clock s) c s .changes ≡ write e ∷ []
+    → entryOf (e .key) (e .field) (exec clock command s .store .slots) ≡ some e
+unfolding changeAll change added adds any
+wrote-one clock command s c e apart a r w =
+    rw (done-gives clock command s c a r .1, w)
+    (go (slotFor (nowAt clock s) (e .key) (e .field) left) refl (rw w at (done-exactly clock command s c a .0 r .1)))
+  where
+    left : List Slot
+    left = sweptBy (nowAt clock s) c s
+
+    go : (o : Option ℕ) → slotFor (nowAt clock s) (e .key) (e .field) left ≡ o → added (write e ∷ []) left ≤ room (nowAt clock s) left
+        → entryOf (e .key) (e .field) (put (nowAt clock s) e left) ≡ some e
+    go (some i) q h = put-entry (nowAt clock s) e left i (sweep-apart (nowAt clock s) (keyOf c) (fieldsOf c) (s .slots) apart) q
+    go none q h =
+        let full = slot-none (nowAt clock s) (e .key) (e .field) left q in
+        absurd (omega (arith, rw (full .0, full .1) at h))
+
+-- ---- what a command with GT does
+
+-- no change, or one entry of the field at the version that GT gives; and it is stale where GT is
+abbrev Changed : Word → Word → ℕ → Option Entry → Effect → Type 0
+Changed k f v found E =
+    (E .changes ≡ [])
+    ⊎ ((e : Entry) × (E .changes ≡ write e ∷ []) × Named k f e × (e .version ≡ v) × (E .stale ≡ isStale (Above v) found))
+
+-- an entry that is found has the names by which it was looked for
+FoundBy : Word → Word → Option Entry → Type 0
+FoundBy k f none = Unit {0}
+FoundBy k f (some e) = Named k f e
+
+module _ (now : ℕ) (ss : List Slot) (k f : Word) (v : ℕ) where
+  named-self : {e : Entry} → e .key ≡ k → e .field ≡ f → Named k f e
+  named-self p q = record { key = p; field = q }
+
+  above-changes : (d : Deed) (found : Option Entry) → FoundBy k f found → deedVersioning d ≡ Above v → Changed k f v found (deedEffect now ss k f d found)
+  unfolding deedEffect deedVersioning setEffect incrementEffect expireEffect setterVersion nextVersion written orElse FoundBy
+  above-changes (assign x c n t) found b h = go (barred c found)
+    where
+      go : (p : Bool)
+          → Changed k f v found
+          (cond p (answer (integer (negsuc 0))) (writing (isStale n found) (written k f x n t found) (number (orElse found 1 (λ e. 0)))))
+      go true = inl refl
+      go false = inr (written k f x n t found, refl, named-self refl refl, rw h refl, rw h refl)
+  above-changes (increment a l g n t) found b h = inr (_, refl, named-self refl refl, rw h refl, rw h refl)
+  above-changes (expire t n) none b h = inl refl
+  above-changes (expire t n) (some e) b h = inr (_, refl, named-self (b .key) (b .field), rw h refl, rw h refl)
+  above-changes persist found b h = impossible cc
+  above-changes (renumber m) found b h = impossible cc
+  above-changes (ask q) found b h = impossible cc
+
+  held-own : (e : Entry) → Named k f e → any (writes k f) (write e ∷ []) ≡ true
+  unfolding any writes
+  held-own e n = rw (← n .key, ← n .field, holds-own e) refl
+
+  -- It writes the field unless it is idle.
+  above-writes : (d : Deed) (found : Option Entry) → FoundBy k f found → deedVersioning d ≡ Above v
+      → any (writes k f) (deedEffect now ss k f d found .changes) ≡ not (idle d found)
+  unfolding deedEffect deedVersioning setEffect incrementEffect expireEffect written any idle isSome orElse FoundBy
+  above-writes (assign x c n t) found b h = go (barred c found)
+    where
+      go : (p : Bool)
+          → any (writes k f)
+          (cond p (answer (integer (negsuc 0))) (writing (isStale n found) (written k f x n t found) (number (orElse found 1 (λ e. 0)))) .changes)
+          ≡ not p
+      go true = refl
+      go false = held-own (written k f x n t found) (named-self refl refl)
+  above-writes (increment a l g n t) found b h = held-own _ (named-self refl refl)
+  above-writes (expire t n) none b h = refl
+  above-writes (expire t n) (some e) b h = held-own _ (named-self (b .key) (b .field))
+  above-writes persist found b h = impossible cc
+  above-writes (renumber m) found b h = impossible cc
+  above-writes (ask q) found b h = impossible cc
+
+found-by : (k f : Word) (ss : List Slot) → FoundBy k f (entryOf k f ss)
+unfolding FoundBy
+found-by k f ss = go (entryOf k f ss) refl
+  where
+    go : (o : Option Entry) → entryOf k f ss ≡ o → FoundBy k f o
+    go none h = tt
+    go (some e) h = entry-some k f ss e h .named
+
+-- A command with GT v that is done and writes its field leaves it at version v, and it was missing or below v.
+module _ (clock : ℕ) (command : List ℕ) (s : Store) (k f : Word) (d : Deed) (v : ℕ) (apart : Apart (s .slots))
+    (a : parse (nowAt clock s) clock command ≡ accepted (onField k f d)) (h : deedVersioning d ≡ Above v) where
+  abbrev left : List Slot
+  left = sweep (nowAt clock s) k (f ∷ []) (s .slots)
+
+  changed : Changed k f v (entryOf k f left) (effectOn (nowAt clock s) (onField k f d) s)
+  unfolding effect keyOf fieldsOf
+  changed = above-changes (nowAt clock s) left k f v d (entryOf k f left) (found-by k f left) h
+
+  pub above-writes-unless : any (writes k f) (effectOn (nowAt clock s) (onField k f d) s .changes) ≡ not (idle d (entryOf k f left))
+  unfolding effect keyOf fieldsOf
+  above-writes-unless = above-writes (nowAt clock s) left k f v d (entryOf k f left) (found-by k f left) h
+
+  pub above-forward : exec clock command s .refusal ≡ none → any (writes k f) (effectOn (nowAt clock s) (onField k f d) s .changes) ≡ true
+      → Numbered k f v (exec clock command s .store .slots)
+      × ((e : Entry) → entryOf k f (s .slots) ≡ some e → live (nowAt clock s) e ≡ true → e .version < v)
+  unfolding any isStale orElse
+  above-forward r w = go changed
+    where
+      go : Changed k f v (entryOf k f left) (effectOn (nowAt clock s) (onField k f d) s)
+          → Numbered k f v (exec clock command s .store .slots)
+          × ((e : Entry) → entryOf k f (s .slots) ≡ some e → live (nowAt clock s) e ≡ true → e .version < v)
+      go (inl q) = both-ways w (rw q refl)
+      go (inr (e, q, n, m, st)) = (
+        record {
+          entry = e;
+          here = named-entry k f (exec clock command s .store .slots) e n (wrote-one clock command s (onField k f d) e apart a r q);
+          version = m;
+        },
+        λ x found l.
+            let fresh : isStale (Above v) (entryOf k f left) ≡ false = sym st ∙ done-exactly clock command s (onField k f d) a .0 r .0 .fresh in
+            leb-false v (x .version) (rw (live-found (nowAt clock s) k f (s .slots) apart x found l) at fresh),
+      )
+
+  numbered : any passes (effectOn (nowAt clock s) (onField k f d) s .changes) ≡ false
+  unfolding any passes
+  numbered = go changed
+    where
+      go : Changed k f v (entryOf k f left) (effectOn (nowAt clock s) (onField k f d) s)
+          → any passes (effectOn (nowAt clock s) (onField k f d) s .changes) ≡ false
+      go (inl q) = rw q refl
+      go (inr (e, q, n, m, st)) = rw (q, m, le-ltb versionMost v (above-most (nowAt clock s) clock command k f d v a h)) refl
+
+  -- It is never refused with 23.
+  pub above-never-passes : exec clock command s .refusal ≡ some 23 → ⊥
+  unfolding lateChecks Applies
+  above-never-passes r = go (late-exactly clock command s (onField k f d) a 23 .0 r .applies)
+    where
+      go : Applies 23 (lateChecks (nowAt clock s) (effectOn (nowAt clock s) (onField k f d) s) (sweptBy (nowAt clock s) (onField k f d) s)) → ⊥
+      go (inl p) = omega (arith, p .0)
+      go (inr (inl p)) = omega (arith, p .0)
+      go (inr (inr (inl p))) = omega (arith, p .0)
+      go (inr (inr (inr (inl p)))) = both-ways (p .1) numbered
+      go (inr (inr (inr (inr (inl p))))) = omega (arith, p .0)
+      go (inr (inr (inr (inr (inr p))))) = p
+
+-- ---- the later count wins
+
+module _ (clock : ℕ) (command : List ℕ) (s : Store) (k f x : Word) (v : ℕ) (apart : Apart (s .slots))
+    (a : parse (nowAt clock s) clock command ≡ accepted (onField k f (assign x Always (Above v) Clear))) where
+  abbrev counting : Command
+  counting = onField k f (assign x Always (Above v) Clear)
+
+  abbrev counted : List Slot
+  counted = sweep (nowAt clock s) k (f ∷ []) (s .slots)
+
+  not-before : s .clock ≤ nowAt clock s
+  unfolding nowAt
+  not-before = omega arith
+
+  counting-writes : effectOn (nowAt clock s) counting s .changes ≡ write (entry k f x v Never) ∷ []
+  unfolding effect deedEffect setEffect barred written nextVersion nextExpiry
+  counting-writes = refl
+
+  counting-stale : effectOn (nowAt clock s) counting s .stale ≡ isStale (Above v) (entryOf k f counted)
+  unfolding effect deedEffect setEffect barred keyOf fieldsOf
+  counting-stale = refl
+
+  -- the field is found below v, or not found while there is room
+  found-behind : Behind k f v s
+      → (isStale (Above v) (entryOf k f counted) ≡ false) × (added (write (entry k f x v Never) ∷ []) counted ≤ room (nowAt clock s) counted)
+  unfolding isStale orElse added adds any live before
+  found-behind (below e q n l) =
+      let here : entryOf k f counted ≡ some e = live-found (nowAt clock s) k f (s .slots) apart e q (rw n refl) in
+      let t = entry-some k f counted e here in
+      let held : any (holds k f) counted ≡ true =
+      any-some (holds k f) counted none (t .slot) (t .inside) (rw (t .here) (rw (← t .named .key, ← t .named .field) (holds-own e))) in
+      (rw here (lt-leb v (e .version) l), rw held (omega arith))
+  found-behind (missing dead free) =
+      let gone : entryOf k f counted ≡ none =
+      dead-gone (nowAt clock s) k f (s .slots) apart (λ e q. dead-later (s .clock) (nowAt clock s) e not-before (dead e q)) in
+      let least : 1 ≤ room (nowAt clock s) counted =
+      rw (room-sweep (nowAt clock s) k (f ∷ []) (s .slots)) (omega (arith, room-later (s .clock) (nowAt clock s) not-before (s .slots), free)) in
+      (rw gone refl, omega (arith, added-one (not (any (holds k f) counted || false)), least))
+    where
+      added-one : (t : Bool) → cond t 1 0 ≤ 1
+      added-one true = omega arith
+      added-one false = omega arith
+
+  -- Where the field is behind v it takes the count.
+  pub count-taken : Behind k f v s → entryOf k f (exec clock command s .store .slots) ≡ some (entry k f x v Never)
+  unfolding effect deedEffect setEffect barred deedVersioning keyOf fieldsOf
+  count-taken b =
+      let g = found-behind b in
+      wrote-one clock command s counting (entry k f x v Never) apart a
+      (done-exactly clock command s counting a .1 (
+        record {
+          fresh = counting-stale ∙ g .0;
+          integral = refl;
+          bounded = refl;
+          numbered = numbered clock command s k f (assign x Always (Above v) Clear) v apart a refl;
+        },
+        rw counting-writes (g .1),
+      ))
+      counting-writes
+
+  -- Where it is live without expiry and not behind v it stays.
+  pub count-kept : (e : Entry) → entryOf k f (s .slots) ≡ some e → e .expiry ≡ Never → v ≤ e .version → entryOf k f (exec clock command s .store .slots) ≡ some e
+  unfolding live before lateChecks isStale orElse
+  count-kept e q n l =
+      let alive : live (nowAt clock s) e ≡ true = rw n refl in
+      let stale : effectOn (nowAt clock s) counting s .stale ≡ true =
+      counting-stale ∙ rw (live-found (nowAt clock s) k f (s .slots) apart e q alive) (le-leb v (e .version) l) in
+      let refused : exec clock command s .refusal ≡ some 20 = accepted-refusal clock command s counting a ∙ check-applies 20 _ stale in
+      let t = entry-some k f (s .slots) e q in
+      named-entry k f (exec clock command s .store .slots) e (t .named)
+      (entry-is (exec clock command s .store .slots) (t .slot) e (exec-apart clock command s apart)
+      (refused-keeps-live clock command s 20 refused (t .slot) e (t .here) alive))
+
+behind-more : (k f : Word) (v w : ℕ) (s : Store) → v < w → Behind k f v s → Behind k f w s
+behind-more k f v w s l (below e q n m) = below e q n (omega arith)
+behind-more k f v w s l (missing dead free) = missing dead free
+
+module _ (first second : Step) (s : Store) (k f x y : Word) (v w : ℕ) (apart : Apart (s .slots))
+    (p : parse (nowAt (first .clock) s) (first .clock) (first .command) ≡ accepted (onField k f (assign x Always (Above v) Clear)))
+    (q : parse (nowAt (second .clock) s) (second .clock) (second .command) ≡ accepted (onField k f (assign y Always (Above w) Clear)))
+    (l : v < w) (b : Behind k f v s) where
+  abbrev after-first : Store
+  after-first = exec (first .clock) (first .command) s .store
+
+  abbrev after-second : Store
+  after-second = exec (second .clock) (second .command) s .store
+
+  -- Of two counts the one with the greater GT wins, whichever comes first.
+  pub greater-wins : (entryOf k f (execAll (first ∷ second ∷ []) s .slots) ≡ some (entry k f y w Never))
+      × (entryOf k f (execAll (second ∷ first ∷ []) s .slots) ≡ some (entry k f y w Never))
+  unfolding execAll
+  greater-wins = (
+    count-taken (second .clock) (second .command) after-first k f y w (exec-apart (first .clock) (first .command) s apart)
+        (parse-anytime k f y Always (Above w) (nowAt (second .clock) s) (nowAt (second .clock) after-first) (second .clock) (second .command) q)
+        (below (entry k f x v Never) (count-taken (first .clock) (first .command) s k f x v apart p b) refl l),
+    count-kept (first .clock) (first .command) after-second k f x v (exec-apart (second .clock) (second .command) s apart)
+        (parse-anytime k f x Always (Above v) (nowAt (first .clock) s) (nowAt (first .clock) after-second) (first .clock) (first .command) p)
+        (entry k f y w Never) (count-taken (second .clock) (second .command) s k f y w apart q (behind-more k f v w s l b)) refl (omega arith),
+  )

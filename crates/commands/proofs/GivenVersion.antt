@@ -1,0 +1,172 @@
+-- What an accepted command says of its field's version, and that a command without an expiry option says the same at any time.
+use mathlib.Core.Path.{_≡_, refl, sym, _∙_}
+use mathlib.Core.Bool.{Bool, true, false, cond, _&&_}
+use mathlib.Core.List.{List, [], _∷_}
+use mathlib.Core.Option.{Option, none, some, Option·getD}
+use Prim.Native.Nat.{ℕ, _≤_}
+use lib.Dec.{leb, eqb}
+use lib.IntN.{ℤ, pos, negsuc, natAbs}
+use native.Mathlib.Omega.{arith}
+use borrow.Author.Tests.{leb-true, lt-leb}
+use Rattle.wire.specs.Lists.{any, isSome, orElse}
+use Rattle.wire.specs.Bytes.{spells}
+use Rattle.wire.specs.Integers.{readInteger, within}
+use Rattle.wire.specs.Words.{Word, wordAt}
+use Rattle.wire.proofs.Lists.{impossible, and-right, both-ways}
+use Rattle.wire.proofs.IntegerLaws.{read-within}
+use Rattle.store.specs.Layout.{timeLimit, versionMost}
+use Rattle.commands.specs.declared.Versioning.{Versioning}
+use Rattle.commands.specs.declared.Versioning.the-variants.{Next, Above}
+use Rattle.commands.specs.declared.Lifetime.{Lifetime}
+use Rattle.commands.specs.declared.Lifetime.the-variants.{Clear}
+use Rattle.commands.specs.declared.Condition.{Condition}
+use Rattle.commands.specs.Refusal.{lowest}
+use Rattle.commands.specs.Command.{Deed, Command}
+use Rattle.commands.specs.Command.Deed.{assign, increment, expire, persist, renumber, ask}
+use Rattle.commands.specs.Command.Command.{onField, countHeld, countLive}
+use Rattle.commands.specs.Options.{OptionKind, OptionRow, Given, versions, readIn, numberIn, naturalIn, options, group, optionNamed, expiryGroup, versionGroup, noExpGroup, givenOf, lifetimeOf, versioningOf, lifetime, versioning}
+use Rattle.commands.specs.Options.OptionKind.{expires, keepTTL, only, versioned, bound, noExp}
+use Rattle.commands.specs.Parse.{Form, allowed, optionWords, build, deedVersioning, checks, scannedOf, saidBy, parseWords, parse}
+use Rattle.commands.specs.Parse.Form.{setForm, setManyForm, incrementForm, expireForm, persistForm, renumberForm, askForm, getManyForm, deleteForm, countForm, listForm}
+use Rattle.commands.specs.Parse.Parsed.{refused, accepted}
+use Rattle.commands.proofs.ParseChecks.{parse-accepted}
+use Rattle.commands.proofs.OptionsOneEach.{Each, each-given, scanned-each}
+
+-- ---- GT's number is a version
+
+-- a kind whose GT is its operand's number
+abbrev Plain : OptionKind → Type 0
+Plain (expires u) = Unit {0}
+Plain keepTTL = Unit {0}
+Plain (only c) = Unit {0}
+Plain (versioned f) = (n v : ℕ) → f n ≡ Above v → n ≡ v
+Plain (bound n) = Unit {0}
+Plain noExp = Unit {0}
+
+abbrev AllPlain : List OptionRow → Type 0
+AllPlain [] = Unit {0}
+AllPlain (r ∷ rs) = Plain (r .kind) × AllPlain rs
+
+options-plain : AllPlain options
+unfolding options
+options-plain = (tt, (tt, (tt, (tt, (tt, (tt, (tt, ((λ n v e. impossible cc), ((λ n v e. impossible cc), ((λ n v e. cc), (tt, (tt, (tt, tt)))))))))))))
+
+named-plain : (al : List ℕ) (rows : List OptionRow) → AllPlain rows → (w : Word) (m : OptionKind) → optionNamed rows al w ≡ some m → Plain m
+unfolding optionNamed
+named-plain al [] p w m e = impossible cc
+named-plain al (r ∷ rs) p w m e = go (spells (r .name) w && any (eqb (group (r .kind))) al) (named-plain al rs (p .1) w m) e
+  where
+    go : (t : Bool) → (optionNamed rs al w ≡ some m → Plain m) → cond t (some (r .kind)) (optionNamed rs al w) ≡ some m → Plain m
+    go true later q =
+        let s : r .kind ≡ m = cc in
+        rw s at (p .0)
+    go false later q = later q
+
+number-most : (w : Word) → naturalIn versions w ≤ versionMost
+unfolding naturalIn numberIn readIn within
+number-most w = go (readInteger (pos 0) (pos versionMost) w) refl
+  where
+    go : (o : Option ℤ) → readInteger (pos 0) (pos versionMost) w ≡ o → natAbs (Option·getD o (pos 0)) ≤ versionMost
+    go none e = omega arith
+    go (some (pos n)) e = leb-true n versionMost (and-right (leb 0 n) (leb n versionMost) (read-within (pos 0) (pos versionMost) w (pos n) e))
+    go (some (negsuc n)) e = both-ways (read-within (pos 0) (pos versionMost) w (negsuc n) e) refl
+
+kind-most : (m : OptionKind) (w : Word) (v : ℕ) → Plain m → versioningOf m w ≡ Above v → v ≤ versionMost
+unfolding versioningOf
+kind-most (expires u) w v p e = impossible cc
+kind-most keepTTL w v p e = impossible cc
+kind-most (only c) w v p e = impossible cc
+kind-most (versioned f) w v p e = rw (p (naturalIn versions w) v e) at (number-most w)
+kind-most (bound n) w v p e = impossible cc
+kind-most noExp w v p e = impossible cc
+
+versioning-most : (gs : List Given) (v : ℕ) → Each Plain gs → versioning gs ≡ Above v → v ≤ versionMost
+unfolding versioning orElse
+versioning-most gs v p = go (givenOf versionGroup gs) refl
+  where
+    go : (o : Option Given) → givenOf versionGroup gs ≡ o → orElse o Next (λ g. versioningOf (g .kind) (g .operand)) ≡ Above v → v ≤ versionMost
+    go none q e = impossible cc
+    go (some g) q e = kind-most (g .kind) (g .operand) v (each-given Plain versionGroup gs p g q) e
+
+-- The version that an accepted command gives with GT is at most the largest.
+pub above-most : (now clock : ℕ) (s : List ℕ) (k f : Word) (d : Deed) (v : ℕ) → parse now clock s ≡ accepted (onField k f d) → deedVersioning d ≡ Above v
+    → v ≤ versionMost
+unfolding build deedVersioning
+above-most now clock s k f d v h n =
+    let a = parse-accepted now clock s (onField k f d) h in
+    let al : List ℕ = allowed (a .row .form) in
+    go (a .row .form) (Option·getD (scannedOf (a .row .form) (a .words)) [])
+    (scanned-each Plain al (named-plain al options options-plain) (optionWords (a .row .form) (a .words)))
+    (a .words)
+    (a .built)
+  where
+    go : (form : Form) (gs : List Given) → Each Plain gs → (ws : List Word) → build now form ws gs ≡ onField k f d → v ≤ versionMost
+    go setForm gs p ws e = let q : versioning gs ≡ Above v = cc in versioning-most gs v p q
+    go setManyForm gs p ws e = impossible cc
+    go incrementForm gs p ws e = let q : versioning gs ≡ Above v = cc in versioning-most gs v p q
+    go (expireForm u) gs p ws e = let q : versioning gs ≡ Above v = cc in versioning-most gs v p q
+    go persistForm gs p ws e = impossible cc
+    go renumberForm gs p ws e = impossible cc
+    go (askForm q) gs p ws e = impossible cc
+    go (getManyForm q) gs p ws e = impossible cc
+    go deleteForm gs p ws e = impossible cc
+    go countForm gs p ws e = none-named (isSome (givenOf noExpGroup gs)) e
+      where
+        none-named : (t : Bool) → cond t (countLive (wordAt 1 ws)) (countHeld (wordAt 1 ws)) ≡ onField k f d → v ≤ versionMost
+        none-named true q = impossible cc
+        none-named false q = impossible cc
+    go (listForm l) gs p ws e = impossible cc
+
+-- ---- a command without an expiry option, at any time
+
+clear-anytime : (now later : ℕ) (m : OptionKind) (w : Word) → lifetimeOf now m w ≡ Clear → lifetimeOf later m w ≡ Clear
+unfolding lifetimeOf
+clear-anytime now later (expires u) w e = impossible cc
+clear-anytime now later keepTTL w e = impossible cc
+clear-anytime now later (only c) w e = refl
+clear-anytime now later (versioned f) w e = refl
+clear-anytime now later (bound n) w e = refl
+clear-anytime now later noExp w e = refl
+
+lifetime-anytime : (now later : ℕ) (gs : List Given) → lifetime now gs ≡ Clear → lifetime later gs ≡ Clear
+unfolding lifetime orElse
+lifetime-anytime now later gs = go (givenOf expiryGroup gs)
+  where
+    go : (o : Option Given) → orElse o Clear (λ g. lifetimeOf now (g .kind) (g .operand)) ≡ Clear
+        → orElse o Clear (λ g. lifetimeOf later (g .kind) (g .operand)) ≡ Clear
+    go none e = refl
+    go (some g) e = clear-anytime now later (g .kind) (g .operand) e
+
+module _ (k f x : Word) (c : Condition) (n : Versioning) where
+  build-anytime : (now later : ℕ) (form : Form) (ws : List Word) (gs : List Given) → build now form ws gs ≡ onField k f (assign x c n Clear)
+      → build later form ws gs ≡ onField k f (assign x c n Clear)
+  unfolding build
+  build-anytime now later setForm ws gs e =
+      let l : lifetime now gs ≡ Clear = cc in
+      rw (lifetime-anytime now later gs l) (rw l at e)
+  build-anytime now later setManyForm ws gs e = impossible cc
+  build-anytime now later incrementForm ws gs e = impossible cc
+  build-anytime now later (expireForm u) ws gs e = impossible cc
+  build-anytime now later persistForm ws gs e = impossible cc
+  build-anytime now later renumberForm ws gs e = impossible cc
+  build-anytime now later (askForm q) ws gs e = impossible cc
+  build-anytime now later (getManyForm q) ws gs e = impossible cc
+  build-anytime now later deleteForm ws gs e = impossible cc
+  build-anytime now later countForm ws gs e = go (isSome (givenOf noExpGroup gs)) e
+    where
+      go : (t : Bool) → cond t (countLive (wordAt 1 ws)) (countHeld (wordAt 1 ws)) ≡ onField k f (assign x c n Clear)
+          → cond t (countLive (wordAt 1 ws)) (countHeld (wordAt 1 ws)) ≡ onField k f (assign x c n Clear)
+      go t q = q
+  build-anytime now later (listForm l) ws gs e = impossible cc
+
+  -- An EXHSET without an expiry option that is accepted at one time is accepted at any, and says the same.
+  pub parse-anytime : (now later clock : ℕ) (s : List ℕ) → parse now clock s ≡ accepted (onField k f (assign x c n Clear))
+      → parse later clock s ≡ accepted (onField k f (assign x c n Clear))
+  unfolding parse parseWords orElse
+  parse-anytime now later clock s h =
+      let a = parse-accepted now clock s (onField k f (assign x c n Clear)) h in
+      let form : Form = a .row .form in
+      let again : saidBy later form (a .words) ≡ onField k f (assign x c n Clear) =
+      build-anytime now later form (a .words) (Option·getD (scannedOf form (a .words)) []) (a .built) in
+      let clear : lowest (checks form (a .row .count) (a .words) (scannedOf form (a .words)) (onField k f (assign x c n Clear))) ≡ none = rw (a .built) at (a .clear) in
+      rw (a .split) (rw (lt-leb timeLimit clock (a .early)) (rw (a .named) (rw again (rw clear refl))))
