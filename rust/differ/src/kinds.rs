@@ -1,5 +1,6 @@
 //! The kinds of cases: each makes its inputs from a generator and compares every call.
 
+use crate::greater;
 use crate::pair::{Call, Pair, hex};
 use generate::layout::{LEAST_REPLY_BUFFER, MOST_WAITING};
 use generate::{Generator, State};
@@ -37,11 +38,13 @@ pub fn large_session(generator: &mut Generator, pair: &mut Pair) -> Result<(), S
 fn record(generator: &mut Generator, pair: &mut Pair) -> Result<(), String> {
     let record = generator.record(pair.store());
     let call = pair.feed(&record, LEAST_REPLY_BUFFER)?;
-    if call.used == record.len() && call.reply_len > 0 {
-        Ok(())
-    } else {
-        Err(format!("not done: {call:?}\npiece {}", hex(&record)))
+    if call.used != record.len() || call.reply_len == 0 {
+        return Err(format!("not done: {call:?}\npiece {}", hex(&record)));
     }
+    if let Some(outcome) = greater::outcome(&record, pair.store_before(), pair.reply(call)) {
+        *pair.tally.greater.entry(outcome).or_default() += 1;
+    }
+    Ok(())
 }
 
 /// A stream cut anywhere, some calls with a short reply buffer, and then the uncut stream.

@@ -3,6 +3,7 @@
 
 #![forbid(unsafe_code)]
 
+mod greater;
 mod kinds;
 mod pair;
 
@@ -83,4 +84,14 @@ pub fn errors<'t>(tallies: &'t [(&str, Tally)]) -> Vec<(&'t str, u64)> {
         *all.entry(line.as_str()).or_default() += count;
     }
     all.into_iter().collect()
+}
+
+/// How often GT came to each of its outcomes in all kinds together.
+pub fn greater_met(tallies: &[(&str, Tally)]) -> [(&'static str, u64); greater::OUTCOMES.len()] {
+    greater::OUTCOMES.map(|outcome| {
+        let counts = tallies
+            .iter()
+            .filter_map(|(_, tally)| tally.greater.get(outcome));
+        (outcome, counts.sum())
+    })
 }

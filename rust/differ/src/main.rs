@@ -1,6 +1,6 @@
 //! The full comparison: `cargo run --release -p differ [SEED]`.
 
-use differ::{Sizes, Tally, compare, errors};
+use differ::{Sizes, Tally, compare, errors, greater_met};
 use std::process::ExitCode;
 use std::time::Instant;
 
@@ -31,6 +31,13 @@ fn main() -> ExitCode {
     print_tallies(&tallies);
     for (line, count) in errors(&tallies) {
         println!("{count} replies {line}");
+    }
+    for (outcome, count) in greater_met(&tallies) {
+        println!("{count} GT {outcome}");
+        if count == 0 {
+            println!("no difference, but this was not met");
+            return ExitCode::FAILURE;
+        }
     }
     println!("no difference, {:.1} s", start.elapsed().as_secs_f64());
     ExitCode::SUCCESS

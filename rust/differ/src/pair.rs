@@ -39,6 +39,8 @@ pub struct Tally {
     pub bytes: u64,
     /// Error lines by their text.
     pub errors: BTreeMap<String, u64>,
+    /// What GT came to in records that were fed one by one.
+    pub greater: BTreeMap<&'static str, u64>,
 }
 
 /// Both implementations, each with its own memory.
@@ -124,6 +126,11 @@ impl Pair {
 
     pub fn store(&self) -> &[u8] {
         &self.library.store
+    }
+
+    /// The store before the last call.
+    pub fn store_before(&self) -> &[u8] {
+        &self.before.store
     }
 
     pub fn waiting(&self) -> &[u8] {

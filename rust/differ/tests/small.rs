@@ -1,6 +1,6 @@
 //! A small comparison, for builds without optimization.
 
-use differ::{Sizes, compare, errors};
+use differ::{Sizes, compare, errors, greater_met};
 use model::reply::Refusal;
 
 const SIZES: Sizes = Sizes {
@@ -42,4 +42,6 @@ fn the_library_agrees_with_the_model() {
     let answers = |number: usize| tallies.iter().map(move |(_, tally)| tally.answers[number]);
     assert!((0..4).all(|number| answers(number).sum::<u64>() > 0));
     assert_eq!(errors(&tallies).len(), Refusal::ALL.len());
+    let greater = greater_met(&tallies);
+    assert!(greater.iter().all(|(_, count)| *count > 20), "{greater:?}");
 }

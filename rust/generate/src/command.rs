@@ -78,6 +78,7 @@ enum Operand {
     Nothing,
     Time(Unit),
     Version,
+    GreaterVersion,
     Bound,
 }
 
@@ -91,12 +92,16 @@ const EXPIRY_OPTIONS: [OptionWord; 5] = [
     (b"KEEPTTL", Operand::Nothing),
 ];
 const CONDITION_OPTIONS: [OptionWord; 2] = [(b"NX", Operand::Nothing), (b"XX", Operand::Nothing)];
-const VERSION_OPTIONS: [OptionWord; 2] = [(b"VER", Operand::Version), (b"ABS", Operand::Version)];
+const VERSION_OPTIONS: [OptionWord; 3] = [
+    (b"VER", Operand::Version),
+    (b"ABS", Operand::Version),
+    (b"GT", Operand::GreaterVersion),
+];
 const MIN_OPTION: [OptionWord; 1] = [(b"MIN", Operand::Bound)];
 const MAX_OPTION: [OptionWord; 1] = [(b"MAX", Operand::Bound)];
 const STRAY_OPTIONS: [OptionWord; 5] = [
     (b"NOEXP", Operand::Nothing),
-    (b"GT", Operand::Version),
+    (b"COUNT", Operand::Version),
     (b"EXX", Operand::Nothing),
     (b"", Operand::Nothing),
     (b"7", Operand::Nothing),
@@ -317,6 +322,7 @@ impl Generator {
             Operand::Nothing => {}
             Operand::Time(unit) => self.push_time(words, unit, store),
             Operand::Version => self.push_version(words, store),
+            Operand::GreaterVersion => self.push_greater_version(words, store),
             Operand::Bound => self.push_increment(words),
         }
     }
@@ -329,6 +335,18 @@ impl Generator {
             1 => words.push_number(i128::from(held) + 1),
             2 => words.push_number(self.random.pick(&[0, 1, 2, i128::from(LARGEST_VERSION)])),
             _ => words.push_number(i128::from(held)),
+        }
+    }
+
+    /// A version one below, at or above a slot's, or an end.
+    fn push_greater_version(&mut self, words: &mut Words, store: &[u8]) {
+        let held = i128::from(low_first(&self.slot(store)[VERSION]));
+        match self.random.below(8) {
+            0 => words.push(self.random.pick(&text::NUMBERS)),
+            1 => words.push_number(self.random.pick(&[0, i128::from(LARGEST_VERSION)])),
+            2 => words.push_number(held - 1),
+            3 | 4 => words.push_number(held),
+            _ => words.push_number(held + 1),
         }
     }
 

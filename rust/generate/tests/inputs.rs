@@ -1,9 +1,10 @@
 //! What the generator promises of its inputs, judged by the model.
 
-use generate::layout::LEAST_REPLY_BUFFER;
-use generate::{Generator, LONGEST_REPLY_BUFFER, State};
+use generate::layout::{LEAST_REPLY_BUFFER, store_size};
+use generate::{Generator, LONGEST_REPLY_BUFFER, State, record};
 use model::feeder::whole;
 use model::reply::Refusal;
+use model::resp::words;
 use model::{Feeder, execute, feed, store_check};
 use std::collections::BTreeMap;
 
@@ -65,6 +66,39 @@ fn commands_meet_every_refusal() {
         assert!(met[&refusal.number()] >= 20, "{refusal:?}");
     }
     assert_eq!(met.len(), 1 + Refusal::ALL.len());
+}
+
+/// On a field at version 7, VER, ABS and GT are offered alike, and GT with every telling operand.
+#[test]
+fn version_options_are_offered_alike() {
+    let mut generator = Generator::new(7);
+    let mut store = vec![0; store_size(1)];
+    whole(&record(0, "EXHSET m a 1 ABS 7"), &mut store);
+    let mut met: BTreeMap<Vec<u8>, Vec<Vec<u8>>> = BTreeMap::new();
+    for _ in 0..20_000 {
+        let command = generator.command(&store);
+        let words = words(&command).map_or(Vec::new(), |words| words.as_slice().to_vec());
+        for (option, operand) in words.iter().zip(words.iter().skip(1)).skip(4) {
+            let operands = met.entry(option.to_ascii_uppercase()).or_default();
+            operands.push(operand.to_vec());
+        }
+    }
+    let [ver, abs, gt] = [&b"VER"[..], b"ABS", b"GT"].map(|option| &met[option]);
+    for other in [ver, abs] {
+        assert!(gt.len().abs_diff(other.len()) < gt.len() / 4);
+    }
+    for operand in [
+        &b"6"[..],
+        b"7",
+        b"8",
+        b"0",
+        b"4294967295",
+        b"4294967296",
+        b"-1",
+        b"01",
+    ] {
+        assert!(gt.iter().any(|given| given == operand), "{operand:?}");
+    }
 }
 
 /// Cut anywhere, with refused calls in between, a stream gives what it gives uncut.

@@ -69,13 +69,14 @@ fn feeding_byte_by_byte_gives_the_answers() {
     assert_eq!(count, CASES);
 }
 
-/// Every name is offered, every refusal of a command given; bytes are skipped and left waiting.
+/// Every name and version option is offered, every refusal of a command given; bytes are skipped and
+/// left waiting.
 #[test]
 fn the_cases_meet_every_name_and_refusal() {
     let cases = cases(SEED, CASES);
     let text = |bytes: &[u8]| String::from_utf8_lossy(bytes).to_ascii_uppercase();
     let streams: String = cases.iter().map(|case| text(&case.stream)).collect();
-    for name in generate::names() {
+    for name in generate::names().chain(["VER", "ABS", "GT"]) {
         let word = format!("${}\r\n{name}\r\n", name.len());
         assert!(streams.contains(&word), "{name}");
     }

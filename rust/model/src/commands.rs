@@ -200,7 +200,8 @@ fn expire(command: &Expire, store: &mut Store, now: u64) -> Result<i64, Refusal>
     if versions::is_stale(command.version, held) {
         return Err(Refusal::StaleVersion);
     }
-    // "The four expiry setters change the version only when VER or ABS is given."
+    // "The four expiry setters change the version only when VER or ABS is given", or GT: "take it
+    // there and on the four expiry setters, where a missing field still replies 0".
     if command.version != Given::Nothing {
         let version = versions::next(command.version, held);
         store::set_version(slot, version.ok_or(Refusal::VersionOverflow)?);

@@ -1,4 +1,5 @@
-//! The second implementation of paper 01: written from the paper, clear before fast.
+//! The second implementation of paper 01 and of the requests that have landed: written from the papers,
+//! clear before fast.
 //!
 //! The modules follow the paper's sections, from the bottom: its numbers (`layout`), integers and
 //! words (`integer`, `resp`), the store (`store`, `time`, `versions`), commands (`parse`, `commands`,

@@ -220,7 +220,7 @@ fn set<'w>(
 ) -> Result<Command<'w>, Refusal> {
     let options = Options::read(options, is_for_set)?;
     let numbers = options.numbers()?;
-    refuse_abs_zero(numbers.version)?;
+    refuse_zero(numbers.version)?;
     Ok(Command::Set(Set {
         name,
         value,
@@ -239,7 +239,7 @@ fn incr_by<'w>(
     let options = Options::read(options, is_for_incr_by)?;
     let increment = integer(increment)?;
     let numbers = options.numbers()?;
-    refuse_abs_zero(numbers.version)?;
+    refuse_zero(numbers.version)?;
     Ok(Command::IncrBy(IncrBy {
         name,
         increment,
@@ -260,7 +260,7 @@ fn expire<'w>(
     let options = Options::read(options, is_for_expire)?;
     let time = self::time(time)?;
     let version = options.numbers()?.version;
-    refuse_abs_zero(version)?;
+    refuse_zero(version)?;
     Ok(Command::Expire(Expire {
         name,
         expiry: instant(unit, time, now)?,
@@ -295,10 +295,10 @@ fn version(text: Word) -> Result<u32, Refusal> {
         .ok_or(Refusal::NotAnInteger)
 }
 
-/// "ABS v: version v; 0 is refused."
-fn refuse_abs_zero(version: Given) -> Result<(), Refusal> {
+/// "ABS v: version v; 0 is refused." "GT 0 is 17."
+fn refuse_zero(version: Given) -> Result<(), Refusal> {
     match version {
-        Given::Abs(0) => Err(Refusal::InvalidVersion),
+        Given::Abs(0) | Given::Gt(0) => Err(Refusal::InvalidVersion),
         _ => Ok(()),
     }
 }
@@ -316,12 +316,13 @@ enum OptionName {
     Condition(Condition),
     Ver,
     Abs,
+    Gt,
     Min,
     Max,
     NoExp,
 }
 
-const OPTION_NAMES: [(&[u8], OptionName); 12] = [
+const OPTION_NAMES: [(&[u8], OptionName); 13] = [
     (b"EX", OptionName::Time(Unit::Ex)),
     (b"EXAT", OptionName::Time(Unit::ExAt)),
     (b"PX", OptionName::Time(Unit::Px)),
@@ -331,6 +332,7 @@ const OPTION_NAMES: [(&[u8], OptionName); 12] = [
     (b"XX", OptionName::Condition(Condition::Xx)),
     (b"VER", OptionName::Ver),
     (b"ABS", OptionName::Abs),
+    (b"GT", OptionName::Gt),
     (b"MIN", OptionName::Min),
     (b"MAX", OptionName::Max),
     (b"NOEXP", OptionName::NoExp),
@@ -346,7 +348,7 @@ fn is_for_incr_by(name: OptionName) -> bool {
 }
 
 fn is_for_expire(name: OptionName) -> bool {
-    matches!(name, OptionName::Ver | OptionName::Abs)
+    matches!(name, OptionName::Ver | OptionName::Abs | OptionName::Gt)
 }
 
 /// The options as given, their operands not yet read as numbers.
@@ -365,9 +367,11 @@ enum ExpiryOption<'w> {
     KeepTtl,
 }
 
+/// "GT joins VER and ABS: at most one."
 enum VersionOption<'w> {
     Ver(Word<'w>),
     Abs(Word<'w>),
+    Gt(Word<'w>),
 }
 
 impl<'w> Options<'w> {
@@ -395,6 +399,7 @@ impl<'w> Options<'w> {
             OptionName::Condition(condition) => once(&mut self.condition, condition),
             OptionName::Ver => once(&mut self.version, VersionOption::Ver(operand()?)),
             OptionName::Abs => once(&mut self.version, VersionOption::Abs(operand()?)),
+            OptionName::Gt => once(&mut self.version, VersionOption::Gt(operand()?)),
             OptionName::Min => once(&mut self.min, operand()?),
             OptionName::Max => once(&mut self.max, operand()?),
             OptionName::NoExp => once(&mut self.no_exp, ()),
@@ -412,6 +417,7 @@ impl<'w> Options<'w> {
                 None => Given::Nothing,
                 Some(VersionOption::Ver(text)) => Given::Ver(version(text)?),
                 Some(VersionOption::Abs(text)) => Given::Abs(version(text)?),
+                Some(VersionOption::Gt(text)) => Given::Gt(version(text)?),
             },
             min: self.min.map_or(Ok(i64::MIN), integer)?,
             max: self.max.map_or(Ok(i64::MAX), integer)?,
