@@ -1,48 +1,44 @@
 -- A version that only moves forward: what a command with GT leaves, and that of two counts the later one wins.
 use mathlib.Core.Path.{_≡_, refl, sym, ap, _∙_}
-use mathlib.Core.Logic.{_⊎_, inl, inr, _↔_}
+use mathlib.Core.Logic.{_⊎_, inl, inr}
 use mathlib.Core.Bool.{Bool, true, false, cond, not, _||_}
 use mathlib.Core.List.{List, [], _∷_}
 use mathlib.Core.Option.{Option, none, some}
-use Prim.Native.Nat.{ℕ, suc, _≤_, _<_}
-use lib.Dec.{leb, ltb}
+use Prim.Native.Nat.{ℕ, _≤_, _<_}
 use lib.IntN.{negsuc}
-use lib.ListN.{length, getD}
+use lib.ListN.{length}
 use native.Mathlib.Omega.{arith}
 use borrow.Author.Tests.{leb-false, le-leb, lt-leb, le-ltb}
 use Rattle.wire.specs.Lists.{any, keep, isSome, orElse}
-use Rattle.wire.specs.Bytes.{same}
 use Rattle.wire.specs.Words.{Word}
 use Rattle.wire.specs.Replies.{integer, number}
-use Rattle.wire.proofs.Lists.{impossible, both-ways, any-some, any-none}
+use Rattle.wire.proofs.Lists.{impossible, both-ways, any-some}
 use Rattle.wire.proofs.ByteLaws.{same-refl}
 use Rattle.store.specs.Layout.{versionMost}
-use Rattle.store.specs.declared.Expiry.the-variants.{Never, At}
-use Rattle.store.specs.Store.{Entry, entry, withVersion, withExpiry, Slot, Store, holds}
+use Rattle.store.specs.declared.Expiry.the-variants.{Never}
+use Rattle.store.specs.Store.{Entry, entry, Slot, Store, holds}
 use Rattle.store.specs.Time.{nowAt, before, live, liveSlot, roomSlot, entryOf, slotFor, put}
 use Rattle.store.specs.Valid.{Apart}
-use Rattle.store.proofs.Slots.{Named, entry-some, entry-is, entry-none, holds-own}
+use Rattle.store.proofs.Slots.{Named, entry-some, entry-is, holds-own}
 use Rattle.store.proofs.Put.{put-entry}
-use Rattle.commands.specs.declared.Versioning.{Versioning}
 use Rattle.commands.specs.declared.Versioning.the-variants.{Above}
 use Rattle.commands.specs.declared.Lifetime.the-variants.{Clear}
-use Rattle.commands.specs.declared.Condition.{Condition}
 use Rattle.commands.specs.declared.Condition.the-variants.{Always}
 use Rattle.commands.specs.Command.{Deed, Command, keyOf, fieldsOf}
 use Rattle.commands.specs.Command.Deed.{assign, increment, expire, persist, renumber, ask}
 use Rattle.commands.specs.Command.Command.{onField}
 use Rattle.commands.specs.Parse.{deedVersioning, parse}
 use Rattle.commands.specs.Parse.Parsed.{accepted}
-use Rattle.commands.specs.Effect.{Change, Effect, answer, writing, change, changeAll, nextVersion, isStale, setterVersion, nextExpiry, barred, written, setEffect, incrementEffect, expireEffect, deedEffect, effect}
+use Rattle.commands.specs.Effect.{Effect, answer, writing, change, changeAll, nextVersion, isStale, setterVersion, nextExpiry, barred, written, setEffect, incrementEffect, expireEffect, deedEffect, effect}
 use Rattle.commands.specs.Effect.Change.{write}
 use Rattle.commands.specs.Execute.{sweep, passes, writes, adds, added, room, lateChecks, exec}
-use Rattle.commands.specs.Claims.{Applies, Proper, idle, Numbered, Behind, Step, execAll}
+use Rattle.commands.specs.Claims.{Applies, idle, Numbered, Behind, Step, execAll}
 use Rattle.commands.specs.Claims.Behind.{below, missing}
 use Rattle.commands.proofs.Went.{sweptBy, effectOn, accepted-refusal}
 use Rattle.commands.proofs.Sweep.{sweep-apart, sweep-from, sweep-keeps-live, found-alive, room-sweep}
 use Rattle.commands.proofs.Room.{slot-none}
 use Rattle.commands.proofs.Clock.{dead-later}
-use Rattle.commands.proofs.ParseChecks.{check-applies, lowest-none}
+use Rattle.commands.proofs.ParseChecks.{check-applies}
 use Rattle.commands.proofs.Full.{done-exactly}
 use Rattle.commands.proofs.Exactly.{late-exactly, done-gives}
 use Rattle.commands.proofs.Refused.{refused-keeps-live}
@@ -115,10 +111,10 @@ wrote-one clock command s c e apart a r w =
 -- ---- what a command with GT does
 
 -- no change, or one entry of the field at the version that GT gives; and it is stale where GT is
-abbrev Changed : Word → Word → ℕ → Option Entry → Effect → Type 0
-Changed k f v found E =
-    (E .changes ≡ [])
-    ⊎ ((e : Entry) × (E .changes ≡ write e ∷ []) × Named k f e × (e .version ≡ v) × (E .stale ≡ isStale (Above v) found))
+abbrev Changed : Word → Word → ℕ → Deed → Option Entry → Effect → Type 0
+Changed k f v d found E =
+    ((idle d found ≡ true) × (E .changes ≡ []))
+    ⊎ ((e : Entry) × (idle d found ≡ false) × (E .changes ≡ write e ∷ []) × Named k f e × (e .version ≡ v) × (E .stale ≡ isStale (Above v) found))
 
 -- an entry that is found has the names by which it was looked for
 FoundBy : Word → Word → Option Entry → Type 0
@@ -126,47 +122,21 @@ FoundBy k f none = Unit {0}
 FoundBy k f (some e) = Named k f e
 
 module _ (now : ℕ) (ss : List Slot) (k f : Word) (v : ℕ) where
-  named-self : {e : Entry} → e .key ≡ k → e .field ≡ f → Named k f e
-  named-self p q = record { key = p; field = q }
-
-  above-changes : (d : Deed) (found : Option Entry) → FoundBy k f found → deedVersioning d ≡ Above v → Changed k f v found (deedEffect now ss k f d found)
-  unfolding deedEffect deedVersioning setEffect incrementEffect expireEffect setterVersion nextVersion written orElse FoundBy
-  above-changes (assign x c n t) found b h = go (barred c found)
+  above-changes : (d : Deed) (found : Option Entry) → FoundBy k f found → deedVersioning d ≡ Above v → Changed k f v d found (deedEffect now ss k f d found)
+  unfolding deedEffect deedVersioning setEffect incrementEffect expireEffect setterVersion nextVersion written idle isSome orElse FoundBy
+  above-changes (assign x c n t) found b h = go (barred c found) refl
     where
-      go : (p : Bool)
-          → Changed k f v found
+      go : (p : Bool) → barred c found ≡ p
+          → Changed k f v (assign x c n t) found
           (cond p (answer (integer (negsuc 0))) (writing (isStale n found) (written k f x n t found) (number (orElse found 1 (λ e. 0)))))
-      go true = inl refl
-      go false = inr (written k f x n t found, refl, named-self refl refl, rw h refl, rw h refl)
-  above-changes (increment a l g n t) found b h = inr (_, refl, named-self refl refl, rw h refl, rw h refl)
-  above-changes (expire t n) none b h = inl refl
-  above-changes (expire t n) (some e) b h = inr (_, refl, named-self (b .key) (b .field), rw h refl, rw h refl)
+      go true q = inl (q, refl)
+      go false q = inr (written k f x n t found, q, refl, record { key = refl; field = refl }, rw h refl, rw h refl)
+  above-changes (increment a l g n t) found b h = inr (_, refl, refl, record { key = refl; field = refl }, rw h refl, rw h refl)
+  above-changes (expire t n) none b h = inl (refl, refl)
+  above-changes (expire t n) (some e) b h = inr (_, refl, refl, record { key = b .key; field = b .field }, rw h refl, rw h refl)
   above-changes persist found b h = impossible cc
   above-changes (renumber m) found b h = impossible cc
   above-changes (ask q) found b h = impossible cc
-
-  held-own : (e : Entry) → Named k f e → any (writes k f) (write e ∷ []) ≡ true
-  unfolding any writes
-  held-own e n = rw (← n .key, ← n .field, holds-own e) refl
-
-  -- It writes the field unless it is idle.
-  above-writes : (d : Deed) (found : Option Entry) → FoundBy k f found → deedVersioning d ≡ Above v
-      → any (writes k f) (deedEffect now ss k f d found .changes) ≡ not (idle d found)
-  unfolding deedEffect deedVersioning setEffect incrementEffect expireEffect written any idle isSome orElse FoundBy
-  above-writes (assign x c n t) found b h = go (barred c found)
-    where
-      go : (p : Bool)
-          → any (writes k f)
-          (cond p (answer (integer (negsuc 0))) (writing (isStale n found) (written k f x n t found) (number (orElse found 1 (λ e. 0)))) .changes)
-          ≡ not p
-      go true = refl
-      go false = held-own (written k f x n t found) (named-self refl refl)
-  above-writes (increment a l g n t) found b h = held-own _ (named-self refl refl)
-  above-writes (expire t n) none b h = refl
-  above-writes (expire t n) (some e) b h = held-own _ (named-self (b .key) (b .field))
-  above-writes persist found b h = impossible cc
-  above-writes (renumber m) found b h = impossible cc
-  above-writes (ask q) found b h = impossible cc
 
 found-by : (k f : Word) (ss : List Slot) → FoundBy k f (entryOf k f ss)
 unfolding FoundBy
@@ -182,13 +152,18 @@ module _ (clock : ℕ) (command : List ℕ) (s : Store) (k f : Word) (d : Deed) 
   abbrev left : List Slot
   left = sweep (nowAt clock s) k (f ∷ []) (s .slots)
 
-  changed : Changed k f v (entryOf k f left) (effectOn (nowAt clock s) (onField k f d) s)
+  changed : Changed k f v d (entryOf k f left) (effectOn (nowAt clock s) (onField k f d) s)
   unfolding effect keyOf fieldsOf
   changed = above-changes (nowAt clock s) left k f v d (entryOf k f left) (found-by k f left) h
 
   pub above-writes-unless : any (writes k f) (effectOn (nowAt clock s) (onField k f d) s .changes) ≡ not (idle d (entryOf k f left))
-  unfolding effect keyOf fieldsOf
-  above-writes-unless = above-writes (nowAt clock s) left k f v d (entryOf k f left) (found-by k f left) h
+  unfolding any writes
+  above-writes-unless = go changed
+    where
+      go : Changed k f v d (entryOf k f left) (effectOn (nowAt clock s) (onField k f d) s)
+          → any (writes k f) (effectOn (nowAt clock s) (onField k f d) s .changes) ≡ not (idle d (entryOf k f left))
+      go (inl (i, q)) = rw (q, i) refl
+      go (inr (e, i, q, n, m, st)) = rw (q, i, ← n .key, ← n .field, holds-own e) refl
 
   pub above-forward : exec clock command s .refusal ≡ none → any (writes k f) (effectOn (nowAt clock s) (onField k f d) s .changes) ≡ true
       → Numbered k f v (exec clock command s .store .slots)
@@ -196,11 +171,11 @@ module _ (clock : ℕ) (command : List ℕ) (s : Store) (k f : Word) (d : Deed) 
   unfolding any isStale orElse
   above-forward r w = go changed
     where
-      go : Changed k f v (entryOf k f left) (effectOn (nowAt clock s) (onField k f d) s)
+      go : Changed k f v d (entryOf k f left) (effectOn (nowAt clock s) (onField k f d) s)
           → Numbered k f v (exec clock command s .store .slots)
           × ((e : Entry) → entryOf k f (s .slots) ≡ some e → live (nowAt clock s) e ≡ true → e .version < v)
-      go (inl q) = both-ways w (rw q refl)
-      go (inr (e, q, n, m, st)) = (
+      go (inl (i, q)) = both-ways w (rw q refl)
+      go (inr (e, i, q, n, m, st)) = (
         record {
           entry = e;
           here = named-entry k f (exec clock command s .store .slots) e n (wrote-one clock command s (onField k f d) e apart a r q);
@@ -215,10 +190,10 @@ module _ (clock : ℕ) (command : List ℕ) (s : Store) (k f : Word) (d : Deed) 
   unfolding any passes
   numbered = go changed
     where
-      go : Changed k f v (entryOf k f left) (effectOn (nowAt clock s) (onField k f d) s)
+      go : Changed k f v d (entryOf k f left) (effectOn (nowAt clock s) (onField k f d) s)
           → any passes (effectOn (nowAt clock s) (onField k f d) s .changes) ≡ false
-      go (inl q) = rw q refl
-      go (inr (e, q, n, m, st)) = rw (q, m, le-ltb versionMost v (above-most (nowAt clock s) clock command k f d v a h)) refl
+      go (inl (i, q)) = rw q refl
+      go (inr (e, i, q, n, m, st)) = rw (q, m, le-ltb versionMost v (above-most (nowAt clock s) clock command k f d v a h)) refl
 
   -- It is never refused with 23.
   pub above-never-passes : exec clock command s .refusal ≡ some 23 → ⊥

@@ -1,5 +1,5 @@
 -- What an accepted command says of its field's version, and that a command without an expiry option says the same at any time.
-use mathlib.Core.Path.{_≡_, refl, sym, _∙_}
+use mathlib.Core.Path.{_≡_, refl}
 use mathlib.Core.Bool.{Bool, true, false, cond, _&&_}
 use mathlib.Core.List.{List, [], _∷_}
 use mathlib.Core.Option.{Option, none, some, Option·getD}
@@ -17,18 +17,17 @@ use Rattle.wire.proofs.IntegerLaws.{read-within}
 use Rattle.store.specs.Layout.{timeLimit, versionMost}
 use Rattle.commands.specs.declared.Versioning.{Versioning}
 use Rattle.commands.specs.declared.Versioning.the-variants.{Next, Above}
-use Rattle.commands.specs.declared.Lifetime.{Lifetime}
 use Rattle.commands.specs.declared.Lifetime.the-variants.{Clear}
 use Rattle.commands.specs.declared.Condition.{Condition}
 use Rattle.commands.specs.Refusal.{lowest}
-use Rattle.commands.specs.Command.{Deed, Command}
-use Rattle.commands.specs.Command.Deed.{assign, increment, expire, persist, renumber, ask}
+use Rattle.commands.specs.Command.{Deed}
+use Rattle.commands.specs.Command.Deed.{assign}
 use Rattle.commands.specs.Command.Command.{onField, countHeld, countLive}
 use Rattle.commands.specs.Options.{OptionKind, OptionRow, Given, versions, readIn, numberIn, naturalIn, options, group, optionNamed, expiryGroup, versionGroup, noExpGroup, givenOf, lifetimeOf, versioningOf, lifetime, versioning}
 use Rattle.commands.specs.Options.OptionKind.{expires, keepTTL, only, versioned, bound, noExp}
 use Rattle.commands.specs.Parse.{Form, allowed, optionWords, build, deedVersioning, checks, scannedOf, saidBy, parseWords, parse}
 use Rattle.commands.specs.Parse.Form.{setForm, setManyForm, incrementForm, expireForm, persistForm, renumberForm, askForm, getManyForm, deleteForm, countForm, listForm}
-use Rattle.commands.specs.Parse.Parsed.{refused, accepted}
+use Rattle.commands.specs.Parse.Parsed.{accepted}
 use Rattle.commands.proofs.ParseChecks.{parse-accepted}
 use Rattle.commands.proofs.OptionsOneEach.{Each, each-given, scanned-each}
 
