@@ -146,32 +146,36 @@ found-by k f ss = go (entryOf k f ss) refl
     go none h = tt
     go (some e) h = entry-some k f ss e h .named
 
--- A command with GT v that is done and writes its field leaves it at version v, and it was missing or below v.
-module _ (clock : ℕ) (command : List ℕ) (s : Store) (k f : Word) (d : Deed) (v : ℕ) (apart : Apart (s .slots))
+module _ (clock : ℕ) (command : List ℕ) (s : Store) (k f : Word) (d : Deed) (v : ℕ)
     (a : parse (nowAt clock s) clock command ≡ accepted (onField k f d)) (h : deedVersioning d ≡ Above v) where
   abbrev left : List Slot
   left = sweep (nowAt clock s) k (f ∷ []) (s .slots)
 
-  changed : Changed k f v d (entryOf k f left) (effectOn (nowAt clock s) (onField k f d) s)
+  abbrev did : Effect
+  did = effectOn (nowAt clock s) (onField k f d) s
+
+  changed : Changed k f v d (entryOf k f left) did
   unfolding effect keyOf fieldsOf
   changed = above-changes (nowAt clock s) left k f v d (entryOf k f left) (found-by k f left) h
 
-  pub above-writes-unless : any (writes k f) (effectOn (nowAt clock s) (onField k f d) s .changes) ≡ not (idle d (entryOf k f left))
+  -- It writes its field, unless it is idle.
+  pub above-writes-unless : any (writes k f) (did .changes) ≡ not (idle d (entryOf k f left))
   unfolding any writes
   above-writes-unless = go changed
     where
-      go : Changed k f v d (entryOf k f left) (effectOn (nowAt clock s) (onField k f d) s)
-          → any (writes k f) (effectOn (nowAt clock s) (onField k f d) s .changes) ≡ not (idle d (entryOf k f left))
+      go : Changed k f v d (entryOf k f left) did
+          → any (writes k f) (did .changes) ≡ not (idle d (entryOf k f left))
       go (inl (i, q)) = rw (q, i) refl
       go (inr (e, i, q, n, m, st)) = rw (q, i, ← n .key, ← n .field, holds-own e) refl
 
-  pub above-forward : exec clock command s .refusal ≡ none → any (writes k f) (effectOn (nowAt clock s) (onField k f d) s .changes) ≡ true
+  -- If it is done and writes its field, it leaves it at version v, and a live one was below v.
+  pub above-forward : Apart (s .slots) → exec clock command s .refusal ≡ none → any (writes k f) (did .changes) ≡ true
       → Numbered k f v (exec clock command s .store .slots)
       × ((e : Entry) → entryOf k f (s .slots) ≡ some e → live (nowAt clock s) e ≡ true → e .version < v)
   unfolding any isStale orElse
-  above-forward r w = go changed
+  above-forward apart r w = go changed
     where
-      go : Changed k f v d (entryOf k f left) (effectOn (nowAt clock s) (onField k f d) s)
+      go : Changed k f v d (entryOf k f left) did
           → Numbered k f v (exec clock command s .store .slots)
           × ((e : Entry) → entryOf k f (s .slots) ≡ some e → live (nowAt clock s) e ≡ true → e .version < v)
       go (inl (i, q)) = both-ways w (rw q refl)
@@ -186,12 +190,12 @@ module _ (clock : ℕ) (command : List ℕ) (s : Store) (k f : Word) (d : Deed) 
             leb-false v (x .version) (rw (live-found (nowAt clock s) k f (s .slots) apart x found l) at fresh),
       )
 
-  numbered : any passes (effectOn (nowAt clock s) (onField k f d) s .changes) ≡ false
+  numbered : any passes (did .changes) ≡ false
   unfolding any passes
   numbered = go changed
     where
-      go : Changed k f v d (entryOf k f left) (effectOn (nowAt clock s) (onField k f d) s)
-          → any passes (effectOn (nowAt clock s) (onField k f d) s .changes) ≡ false
+      go : Changed k f v d (entryOf k f left) did
+          → any passes (did .changes) ≡ false
       go (inl (i, q)) = rw q refl
       go (inr (e, i, q, n, m, st)) = rw (q, m, le-ltb versionMost v (above-most (nowAt clock s) clock command k f d v a h)) refl
 
@@ -200,7 +204,7 @@ module _ (clock : ℕ) (command : List ℕ) (s : Store) (k f : Word) (d : Deed) 
   unfolding lateChecks Applies
   above-never-passes r = go (late-exactly clock command s (onField k f d) a 23 .0 r .applies)
     where
-      go : Applies 23 (lateChecks (nowAt clock s) (effectOn (nowAt clock s) (onField k f d) s) (sweptBy (nowAt clock s) (onField k f d) s)) → ⊥
+      go : Applies 23 (lateChecks (nowAt clock s) did (sweptBy (nowAt clock s) (onField k f d) s)) → ⊥
       go (inl p) = omega (arith, p .0)
       go (inr (inl p)) = omega (arith, p .0)
       go (inr (inr (inl p))) = omega (arith, p .0)
@@ -262,7 +266,7 @@ module _ (clock : ℕ) (command : List ℕ) (s : Store) (k f x : Word) (v : ℕ)
           fresh = counting-stale ∙ g .0;
           integral = refl;
           bounded = refl;
-          numbered = numbered clock command s k f (assign x Always (Above v) Clear) v apart a refl;
+          numbered = numbered clock command s k f (assign x Always (Above v) Clear) v a refl;
         },
         rw counting-writes (g .1),
       ))

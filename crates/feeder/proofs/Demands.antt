@@ -285,20 +285,20 @@ pub gt-only-forward : (clock : ℕ) (command : List ℕ) (s : Store) (k f : Word
     → Numbered k f v (exec clock command s .store .slots)
     × ((x : Entry) → entryOf k f (s .slots) ≡ some x → live (nowAt clock s) x ≡ true → x .version < v)
 unfolding keyOf fieldsOf
-gt-only-forward clock command s k f d v valid = above-forward clock command s k f d v (valid .apart)
+gt-only-forward clock command s k f d v valid p g = above-forward clock command s k f d v p g (valid .apart)
 
 -- A command with GT writes its field, unless it is an EXHSET that NX or XX bars or an expiry setter of a missing field.
-pub gt-writes-unless : (clock : ℕ) (command : List ℕ) (s : Store) (k f : Word) (d : Deed) (v : ℕ) → Valid s
+pub gt-writes-unless : (clock : ℕ) (command : List ℕ) (s : Store) (k f : Word) (d : Deed) (v : ℕ)
     → parse (nowAt clock s) clock command ≡ accepted (onField k f d) → deedVersioning d ≡ Above v
     → let left = sweep (nowAt clock s) k (f ∷ []) (s .slots) in
     any (writes k f) (effect (nowAt clock s) (onField k f d) left .changes) ≡ not (idle d (entryOf k f left))
 unfolding keyOf fieldsOf
-gt-writes-unless clock command s k f d v valid = above-writes-unless clock command s k f d v (valid .apart)
+gt-writes-unless = above-writes-unless
 
 -- No command with GT is refused with 23.
-pub gt-never-overflows : (clock : ℕ) (command : List ℕ) (s : Store) (k f : Word) (d : Deed) (v : ℕ) → Valid s
+pub gt-never-overflows : (clock : ℕ) (command : List ℕ) (s : Store) (k f : Word) (d : Deed) (v : ℕ)
     → parse (nowAt clock s) clock command ≡ accepted (onField k f d) → deedVersioning d ≡ Above v → exec clock command s .refusal ≢ some 23
-gt-never-overflows clock command s k f d v valid = above-never-passes clock command s k f d v (valid .apart)
+gt-never-overflows = above-never-passes
 
 -- The later count wins. Two EXHSETs past checks 10 to 18 count one field, with GT v and GT w, v below w, and neither a condition nor an expiry
 -- option, at any clocks. At the store's own clock the field is live without expiry at a version below v, or missing while a slot is empty or dead.
