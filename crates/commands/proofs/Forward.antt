@@ -1,6 +1,6 @@
 -- A version that only moves forward: what a command with GT leaves, and that of two counts the later one wins.
 use mathlib.Core.Path.{_≡_, refl, sym, ap, _∙_}
-use mathlib.Core.Logic.{_⊎_, inl, inr}
+use mathlib.Core.Logic.{_⊎_, inl, inr, _↔_}
 use mathlib.Core.Bool.{Bool, true, false, cond, not, _||_}
 use mathlib.Core.List.{List, [], _∷_}
 use mathlib.Core.Option.{Option, none, some}
@@ -8,7 +8,7 @@ use Prim.Native.Nat.{ℕ, _≤_, _<_}
 use lib.IntN.{negsuc}
 use lib.ListN.{length}
 use native.Mathlib.Omega.{arith}
-use borrow.Author.Tests.{leb-false, le-leb, lt-leb, le-ltb}
+use borrow.Author.Tests.{leb-true, leb-false, le-leb, lt-leb, le-ltb}
 use Rattle.wire.specs.Lists.{any, keep, isSome, orElse}
 use Rattle.wire.specs.Words.{Word}
 use Rattle.wire.specs.Replies.{integer, number}
@@ -59,18 +59,22 @@ module _ (now : ℕ) (k f : Word) (ss : List Slot) (apart : Apart ss) where
       named-entry k f (sweep now k (f ∷ []) ss) e (t .named)
       (entry-is (sweep now k (f ∷ []) ss) (t .slot) e (sweep-apart now k (f ∷ []) ss apart) (sweep-keeps-live now k (f ∷ []) ss (t .slot) e (t .here) l))
 
-  -- and a dead one is not.
-  dead-gone : ((e : Entry) → entryOf k f ss ≡ some e → live now e ≡ false) → entryOf k f (sweep now k (f ∷ []) ss) ≡ none
+  -- what is found then was there, and live,
+  found-was : (e : Entry) → entryOf k f (sweep now k (f ∷ []) ss) ≡ some e → (entryOf k f ss ≡ some e) × (live now e ≡ true)
   unfolding any
+  found-was e q =
+      let t = entry-some k f (sweep now k (f ∷ []) ss) e q in (
+        named-entry k f ss e (t .named) (entry-is ss (t .slot) e apart (sweep-from now k (f ∷ []) ss (t .slot) e (t .here))),
+        found-alive now k (f ∷ []) ss f e (rw (same-refl f) refl) q,
+      )
+
+  -- and a dead one is gone.
+  dead-gone : ((e : Entry) → entryOf k f ss ≡ some e → live now e ≡ false) → entryOf k f (sweep now k (f ∷ []) ss) ≡ none
   dead-gone dead = go (entryOf k f (sweep now k (f ∷ []) ss)) refl
     where
       go : (o : Option Entry) → entryOf k f (sweep now k (f ∷ []) ss) ≡ o → entryOf k f (sweep now k (f ∷ []) ss) ≡ none
       go none q = q
-      go (some e) q =
-          let t = entry-some k f (sweep now k (f ∷ []) ss) e q in
-          let was : entryOf k f ss ≡ some e =
-          named-entry k f ss e (t .named) (entry-is ss (t .slot) e apart (sweep-from now k (f ∷ []) ss (t .slot) e (t .here))) in
-          both-ways (found-alive now k (f ∷ []) ss f e (rw (same-refl f) refl) q) (dead e was)
+      go (some e) q = both-ways (found-was e q .1) (dead e (found-was e q .0))
 
 -- As time goes no slot is lost that was empty or dead.
 room-later : (now later : ℕ) → now ≤ later → (ss : List Slot) → room now ss ≤ room later ss
@@ -113,7 +117,7 @@ wrote-one clock command s c e apart a r w =
 -- no change, or one entry of the field at the version that GT gives; and it is stale where GT is
 abbrev Changed : Word → Word → ℕ → Deed → Option Entry → Effect → Type 0
 Changed k f v d found E =
-    ((idle d found ≡ true) × (E .changes ≡ []))
+    ((idle d found ≡ true) × (E .changes ≡ []) × (E .stale ≡ false))
     ⊎ ((e : Entry) × (idle d found ≡ false) × (E .changes ≡ write e ∷ []) × Named k f e × (e .version ≡ v) × (E .stale ≡ isStale (Above v) found))
 
 -- an entry that is found has the names by which it was looked for
@@ -129,10 +133,10 @@ module _ (now : ℕ) (ss : List Slot) (k f : Word) (v : ℕ) where
       go : (p : Bool) → barred c found ≡ p
           → Changed k f v (assign x c n t) found
           (cond p (answer (integer (negsuc 0))) (writing (isStale n found) (written k f x n t found) (number (orElse found 1 (λ e. 0)))))
-      go true q = inl (q, refl)
+      go true q = inl (q, refl, refl)
       go false q = inr (written k f x n t found, q, refl, record { key = refl; field = refl }, rw h refl, rw h refl)
   above-changes (increment a l g n t) found b h = inr (_, refl, refl, record { key = refl; field = refl }, rw h refl, rw h refl)
-  above-changes (expire t n) none b h = inl (refl, refl)
+  above-changes (expire t n) none b h = inl (refl, refl, refl)
   above-changes (expire t n) (some e) b h = inr (_, refl, refl, record { key = b .key; field = b .field }, rw h refl, rw h refl)
   above-changes persist found b h = impossible cc
   above-changes (renumber m) found b h = impossible cc
@@ -165,7 +169,7 @@ module _ (clock : ℕ) (command : List ℕ) (s : Store) (k f : Word) (d : Deed) 
     where
       go : Changed k f v d (entryOf k f left) did
           → any (writes k f) (did .changes) ≡ not (idle d (entryOf k f left))
-      go (inl (i, q)) = rw (q, i) refl
+      go (inl (i, q, z)) = rw (q, i) refl
       go (inr (e, i, q, n, m, st)) = rw (q, i, ← n .key, ← n .field, holds-own e) refl
 
   -- If it is done and writes its field, it leaves it at version v, and a live one was below v.
@@ -178,7 +182,7 @@ module _ (clock : ℕ) (command : List ℕ) (s : Store) (k f : Word) (d : Deed) 
       go : Changed k f v d (entryOf k f left) did
           → Numbered k f v (exec clock command s .store .slots)
           × ((e : Entry) → entryOf k f (s .slots) ≡ some e → live (nowAt clock s) e ≡ true → e .version < v)
-      go (inl (i, q)) = both-ways w (rw q refl)
+      go (inl (i, q, z)) = both-ways w (rw q refl)
       go (inr (e, i, q, n, m, st)) = (
         record {
           entry = e;
@@ -190,13 +194,51 @@ module _ (clock : ℕ) (command : List ℕ) (s : Store) (k f : Word) (d : Deed) 
             leb-false v (x .version) (rw (live-found (nowAt clock s) k f (s .slots) apart x found l) at fresh),
       )
 
-  numbered : any passes (did .changes) ≡ false
+  -- It is refused with 20 exactly if its field is live and not below v, and it is not idle.
+  pub above-stale-exactly : Apart (s .slots)
+      → (exec clock command s .refusal ≡ some 20)
+      ↔ ((x : Entry) × (entryOf k f (s .slots) ≡ some x) × (live (nowAt clock s) x ≡ true) × (idle d (some x) ≡ false) × (v ≤ x .version))
+  unfolding lateChecks Applies isStale orElse
+  above-stale-exactly apart = (λ r. there changed (stale-20 (late-exactly clock command s (onField k f d) a 20 .0 r .applies)), back)
+    where
+      Held : Type 0
+      Held = (x : Entry) × (entryOf k f (s .slots) ≡ some x) × (live (nowAt clock s) x ≡ true) × (idle d (some x) ≡ false) × (v ≤ x .version)
+
+      stale-20 : Applies 20 (lateChecks (nowAt clock s) did (sweptBy (nowAt clock s) (onField k f d) s)) → did .stale ≡ true
+      stale-20 (inl p) = p .1
+      stale-20 (inr (inl p)) = absurd (omega (arith, p .0))
+      stale-20 (inr (inr (inl p))) = absurd (omega (arith, p .0))
+      stale-20 (inr (inr (inr (inl p)))) = absurd (omega (arith, p .0))
+      stale-20 (inr (inr (inr (inr (inl p))))) = absurd (omega (arith, p .0))
+      stale-20 (inr (inr (inr (inr (inr p))))) = absurd p
+
+      found : (o : Option Entry) → entryOf k f left ≡ o → idle d o ≡ false → isStale (Above v) o ≡ true → Held
+      found none q i t = impossible cc
+      found (some x) q i t =
+          let was = found-was (nowAt clock s) k f (s .slots) apart x q in
+          (x, was .0, was .1, i, leb-true v (x .version) t)
+
+      there : Changed k f v d (entryOf k f left) did → did .stale ≡ true → Held
+      there (inl (i, q, z)) t = both-ways t z
+      there (inr (e, i, q, n, m, st)) t = found (entryOf k f left) refl i (sym st ∙ t)
+
+      refusing : Changed k f v d (entryOf k f left) did → idle d (entryOf k f left) ≡ false → isStale (Above v) (entryOf k f left) ≡ true
+          → exec clock command s .refusal ≡ some 20
+      refusing (inl (i, q, z)) j t = both-ways i j
+      refusing (inr (e, i, q, n, m, st)) j t = accepted-refusal clock command s (onField k f d) a ∙ check-applies 20 _ (st ∙ t)
+
+      back : Held → exec clock command s .refusal ≡ some 20
+      back (x, q, l, i, g) =
+          let here : entryOf k f left ≡ some x = live-found (nowAt clock s) k f (s .slots) apart x q l in
+          refusing changed (rw here i) (rw here (le-leb v (x .version) g))
+
+  above-within : any passes (did .changes) ≡ false
   unfolding any passes
-  numbered = go changed
+  above-within = go changed
     where
       go : Changed k f v d (entryOf k f left) did
           → any passes (did .changes) ≡ false
-      go (inl (i, q)) = rw q refl
+      go (inl (i, q, z)) = rw q refl
       go (inr (e, i, q, n, m, st)) = rw (q, m, le-ltb versionMost v (above-most (nowAt clock s) clock command k f d v a h)) refl
 
   -- It is never refused with 23.
@@ -208,7 +250,7 @@ module _ (clock : ℕ) (command : List ℕ) (s : Store) (k f : Word) (d : Deed) 
       go (inl p) = omega (arith, p .0)
       go (inr (inl p)) = omega (arith, p .0)
       go (inr (inr (inl p))) = omega (arith, p .0)
-      go (inr (inr (inr (inl p)))) = both-ways (p .1) numbered
+      go (inr (inr (inr (inl p)))) = both-ways (p .1) above-within
       go (inr (inr (inr (inr (inl p))))) = omega (arith, p .0)
       go (inr (inr (inr (inr (inr p))))) = p
 
@@ -219,8 +261,8 @@ module _ (clock : ℕ) (command : List ℕ) (s : Store) (k f x : Word) (v : ℕ)
   abbrev counting : Command
   counting = onField k f (assign x Always (Above v) Clear)
 
-  abbrev counted : List Slot
-  counted = sweep (nowAt clock s) k (f ∷ []) (s .slots)
+  abbrev remaining : List Slot
+  remaining = sweep (nowAt clock s) k (f ∷ []) (s .slots)
 
   not-before : s .clock ≤ nowAt clock s
   unfolding nowAt
@@ -230,26 +272,26 @@ module _ (clock : ℕ) (command : List ℕ) (s : Store) (k f x : Word) (v : ℕ)
   unfolding effect deedEffect setEffect barred written nextVersion nextExpiry
   counting-writes = refl
 
-  counting-stale : effectOn (nowAt clock s) counting s .stale ≡ isStale (Above v) (entryOf k f counted)
+  counting-stale : effectOn (nowAt clock s) counting s .stale ≡ isStale (Above v) (entryOf k f remaining)
   unfolding effect deedEffect setEffect barred keyOf fieldsOf
   counting-stale = refl
 
   -- the field is found below v, or not found while there is room
   found-behind : Behind k f v s
-      → (isStale (Above v) (entryOf k f counted) ≡ false) × (added (write (entry k f x v Never) ∷ []) counted ≤ room (nowAt clock s) counted)
+      → (isStale (Above v) (entryOf k f remaining) ≡ false) × (added (write (entry k f x v Never) ∷ []) remaining ≤ room (nowAt clock s) remaining)
   unfolding isStale orElse added adds any live before
   found-behind (below e q n l) =
-      let here : entryOf k f counted ≡ some e = live-found (nowAt clock s) k f (s .slots) apart e q (rw n refl) in
-      let t = entry-some k f counted e here in
-      let held : any (holds k f) counted ≡ true =
-      any-some (holds k f) counted none (t .slot) (t .inside) (rw (t .here) (rw (← t .named .key, ← t .named .field) (holds-own e))) in
+      let here : entryOf k f remaining ≡ some e = live-found (nowAt clock s) k f (s .slots) apart e q (rw n refl) in
+      let t = entry-some k f remaining e here in
+      let held : any (holds k f) remaining ≡ true =
+      any-some (holds k f) remaining none (t .slot) (t .inside) (rw (t .here) (rw (← t .named .key, ← t .named .field) (holds-own e))) in
       (rw here (lt-leb v (e .version) l), rw held (omega arith))
   found-behind (missing dead free) =
-      let gone : entryOf k f counted ≡ none =
+      let gone : entryOf k f remaining ≡ none =
       dead-gone (nowAt clock s) k f (s .slots) apart (λ e q. dead-later (s .clock) (nowAt clock s) e not-before (dead e q)) in
-      let least : 1 ≤ room (nowAt clock s) counted =
+      let least : 1 ≤ room (nowAt clock s) remaining =
       rw (room-sweep (nowAt clock s) k (f ∷ []) (s .slots)) (omega (arith, room-later (s .clock) (nowAt clock s) not-before (s .slots), free)) in
-      (rw gone refl, omega (arith, added-one (not (any (holds k f) counted || false)), least))
+      (rw gone refl, omega (arith, added-one (not (any (holds k f) remaining || false)), least))
     where
       added-one : (t : Bool) → cond t 1 0 ≤ 1
       added-one true = omega arith
@@ -266,7 +308,7 @@ module _ (clock : ℕ) (command : List ℕ) (s : Store) (k f x : Word) (v : ℕ)
           fresh = counting-stale ∙ g .0;
           integral = refl;
           bounded = refl;
-          numbered = numbered clock command s k f (assign x Always (Above v) Clear) v a refl;
+          numbered = above-within clock command s k f (assign x Always (Above v) Clear) v a refl;
         },
         rw counting-writes (g .1),
       ))

@@ -34,28 +34,28 @@ use Rattle.commands.proofs.OptionsOneEach.{Each, each-given, scanned-ea
 -- ---- GT's number is a version
 
 -- a kind whose GT is its operand's number
-abbrev Plain : OptionKind → Type 0
-Plain (expires u) = Unit {0}
-Plain keepTTL = Unit {0}
-Plain (only c) = Unit {0}
-Plain (versioned f) = (n v : ℕ) → f n ≡ Above v → n ≡ v
-Plain (bound n) = Unit {0}
-Plain noExp = Unit {0}
+abbrev GivesOperand : OptionKind → Type 0
+GivesOperand (expires u) = Unit {0}
+GivesOperand keepTTL = Unit {0}
+GivesOperand (only c) = Unit {0}
+GivesOperand (versioned f) = (n v : ℕ) → f n ≡ Above v → n ≡ v
+GivesOperand (bound n) = Unit {0}
+GivesOperand noExp = Unit {0}
 
-abbrev AllPlain : List OptionRow → Type 0
-AllPlain [] = Unit {0}
-AllPlain (r ∷ rs) = Plain (r .kind) × AllPlain rs
+abbrev AllGive : List OptionRow → Type 0
+AllGive [] = Unit {0}
+AllGive (r ∷ rs) = GivesOperand (r .kind) × AllGive rs
 
-options-plain : AllPlain options
+options-give : AllGive options
 unfolding options
-options-plain = (tt, (tt, (tt, (tt, (tt, (tt, (tt, ((λ n v e. impossible cc), ((λ n v e. impossible cc), ((λ n v e. cc), (tt, (tt, (tt, tt)))))))))))))
+options-give = (tt, (tt, (tt, (tt, (tt, (tt, (tt, ((λ n v e. impossible cc), ((λ n v e. impossible cc), ((λ n v e. cc), (tt, (tt, (tt, tt)))))))))))))
 
-named-plain : (al : List ℕ) (rows : List OptionRow) → AllPlain rows → (w : Word) (m : OptionKind) → optionNamed rows al w ≡ some m → Plain m
+named-gives : (al : List ℕ) (rows : List OptionRow) → AllGive rows → (w : Word) (m : OptionKind) → optionNamed rows al w ≡ some m → GivesOperand m
 unfolding optionNamed
-named-plain al [] p w m e = impossible cc
-named-plain al (r ∷ rs) p w m e = go (spells (r .name) w && any (eqb (group (r .kind))) al) (named-plain al rs (p .1) w m) e
+named-gives al [] p w m e = impossible cc
+named-gives al (r ∷ rs) p w m e = go (spells (r .name) w && any (eqb (group (r .kind))) al) (named-gives al rs (p .1) w m) e
   where
-    go : (t : Bool) → (optionNamed rs al w ≡ some m → Plain m) → cond t (some (r .kind)) (optionNamed rs al w) ≡ some m → Plain m
+    go : (t : Bool) → (optionNamed rs al w ≡ some m → GivesOperand m) → cond t (some (r .kind)) (optionNamed rs al w) ≡ some m → GivesOperand m
     go true later q =
         let s : r .kind ≡ m = cc in
         rw s at (p .0)
@@ -70,7 +70,7 @@ number-most w = go (readInteger (pos 0) (pos versionMost) w) refl
     go (some (pos n)) e = leb-true n versionMost (and-right (leb 0 n) (leb n versionMost) (read-within (pos 0) (pos versionMost) w (pos n) e))
     go (some (negsuc n)) e = both-ways (read-within (pos 0) (pos versionMost) w (negsuc n) e) refl
 
-kind-most : (m : OptionKind) (w : Word) (v : ℕ) → Plain m → versioningOf m w ≡ Above v → v ≤ versionMost
+kind-most : (m : OptionKind) (w : Word) (v : ℕ) → GivesOperand m → versioningOf m w ≡ Above v → v ≤ versionMost
 unfolding versioningOf
 kind-most (expires u) w v p e = impossible cc
 kind-most keepTTL w v p e = impossible cc
@@ -79,13 +79,13 @@ kind-most (versioned f) w v p e = rw (p (naturalIn versions w) v e) at (number-m
 kind-most (bound n) w v p e = impossible cc
 kind-most noExp w v p e = impossible cc
 
-versioning-most : (gs : List Given) (v : ℕ) → Each Plain gs → versioning gs ≡ Above v → v ≤ versionMost
+versioning-most : (gs : List Given) (v : ℕ) → Each GivesOperand gs → versioning gs ≡ Above v → v ≤ versionMost
 unfolding versioning orElse
 versioning-most gs v p = go (givenOf versionGroup gs) refl
   where
     go : (o : Option Given) → givenOf versionGroup gs ≡ o → orElse o Next (λ g. versioningOf (g .kind) (g .operand)) ≡ Above v → v ≤ versionMost
     go none q e = impossible cc
-    go (some g) q e = kind-most (g .kind) (g .operand) v (each-given Plain versionGroup gs p g q) e
+    go (some g) q e = kind-most (g .kind) (g .operand) v (each-given GivesOperand versionGroup gs p g q) e
 
 -- The version that an accepted command gives with GT is at most the largest.
 pub above-most : (now clock : ℕ) (s : List ℕ) (k f : Word) (d : Deed) (v : ℕ) → parse now clock s ≡ accepted (onField k f d) → deedVersioning d ≡ Above v
@@ -95,11 +95,11 @@ above-most now clock s k f d v h n =
     let a = parse-accepted now clock s (onField k f d) h in
     let al : List ℕ = allowed (a .row .form) in
     go (a .row .form) (Option·getD (scannedOf (a .row .form) (a .words)) [])
-    (scanned-each Plain al (named-plain al options options-plain) (optionWords (a .row .form) (a .words)))
+    (scanned-each GivesOperand al (named-gives al options options-give) (optionWords (a .row .form) (a .words)))
     (a .words)
     (a .built)
   where
-    go : (form : Form) (gs : List Given) → Each Plain gs → (ws : List Word) → build now form ws gs ≡ onField k f d → v ≤ versionMost
+    go : (form : Form) (gs : List Given) → Each GivesOperand gs → (ws : List Word) → build now form ws gs ≡ onField k f d → v ≤ versionMost
     go setForm gs p ws e = let q : versioning gs ≡ Above v = cc in versioning-most gs v p q
     go setManyForm gs p ws e = impossible cc
     go incrementForm gs p ws e = let q : versioning gs ≡ Above v = cc in versioning-most gs v p q
@@ -167,5 +167,6 @@ module _ (k f x : Word) (c : Condition) (n : Versioning) where
       let form : Form = a .row .form in
       let again : saidBy later form (a .words) ≡ onField k f (assign x c n Clear) =
       build-anytime now later form (a .words) (Option·getD (scannedOf form (a .words)) []) (a .built) in
-      let clear : lowest (checks form (a .row .count) (a .words) (scannedOf form (a .words)) (onField k f (assign x c n Clear))) ≡ none = rw (a .built) at (a .clear) in
+      let clear : lowest (checks form (a .row .count) (a .words) (scannedOf form (a .words)) (onField k f (assign x c n Clear))) ≡ none =
+      rw (a .built) at (a .clear) in
       rw (a .split) (rw (lt-leb timeLimit clock (a .early)) (rw (a .named) (rw again (rw clear refl))))

@@ -69,7 +69,8 @@ pub record Numbered (k f : Word) (v : ℕ) (ss : List Slot) : Type 0 where
   pub here : entryOf k f ss ≡ some entry
   pub version : entry .version ≡ v
 
--- a deed that says something of the version and does not write its field: an EXHSET that NX or XX bars, an expiry setter of a missing field
+-- a deed that takes VER, ABS or GT and does not write its field: an EXHSET that NX or XX bars, an expiry setter of a missing field. The last three
+-- take none of them.
 unfoldable pub idle : Deed → Option Entry → Bool
 idle (assign v c n t) found = barred c found
 idle (increment a l g n t) found = false

@@ -293,6 +293,28 @@ changeRequestCases =
     ∷ request 1000 "EXHPEXPIRE m a 500 GT 8" ":1\r\n"
     ∷ [])
     1000 (entry "m" "a" "2" 8 (At 1500)) none
+    ∷ case "M-100: any greater version is taken, by EXHSET, EXHINCRBY and each setter, from version 0 too"
+    (request 1000 "EXHSET m a 1 GT 5" ":1\r\n"
+    ∷ request 1000 "EXHSET m a 1 GT 9" ":0\r\n"
+    ∷ request 1000 "EXHINCRBY m a 1 GT 20" ":2\r\n"
+    ∷ request 1000 "EXHEXPIRE m a 9 GT 30" ":1\r\n"
+    ∷ request 1000 "EXHEXPIREAT m a 9 GT 44" ":1\r\n"
+    ∷ request 1000 "EXHPEXPIRE m a 500 GT 60" ":1\r\n"
+    ∷ request 1000 "EXHPEXPIREAT m a 5000 GT 77" ":1\r\n"
+    ∷ request 1000 "EXHVER m a" ":77\r\n"
+    ∷ request 1000 "EXHSETVER m a 0" ":1\r\n"
+    ∷ request 1000 "EXHPEXPIRE m a 600 GT 7" ":1\r\n"
+    ∷ [])
+    1000 (entry "m" "a" "2" 7 (At 1600)) none
+    ∷ case "M-100: GT beside the options of the other groups"
+    (request 1000 "EXHSET m a 1 GT 3 NX PX 500" ":1\r\n"
+    ∷ request 1000 "EXHSET m a 2 XX KEEPTTL GT 30" ":0\r\n"
+    ∷ request 1000 "EXHPTTL m a" ":500\r\n"
+    ∷ request 1000 "EXHINCRBY m a 1 MIN 0 GT 50 MAX 9 EX 9" ":3\r\n"
+    ∷ request 1000 "EXHSET m b 1 EXAT 9 GT 4" ":1\r\n"
+    ∷ request 1000 "EXHSET m b 2 GT 8 PXAT 5000" ":0\r\n"
+    ∷ [])
+    1000 (entry "m" "a" "3" 50 (At 10000)) (entry "m" "b" "2" 8 (At 5000))
     ∷ case "M-100: a missing field takes it as its version, EXHINCRBY too; a dead one is missing"
     (request 1000 "EXHINCRBY m a 3 GT 4" ":3\r\n"
     ∷ request 1000 "EXHSET m b 1 ABS 9 PX 500" ":1\r\n"

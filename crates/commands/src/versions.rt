@@ -1,4 +1,4 @@
-// What decides a field's version and expiry, and whether it is written. A missing field counts as version 0 with no expiry.
+// What decides a field's version and expiry, and whether it is written. A missing field counts as version 0 with no expiry; it is never stale.
 use crate::Condition;
 use crate::Lifetime;
 use crate::Versioning;

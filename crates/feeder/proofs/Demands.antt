@@ -42,7 +42,7 @@ use Rattle.commands.proofs.Exactly.{early-exactly, early-lowest, late-exactly, 
 use Rattle.commands.proofs.Sweep.{room-sweep}
 use Rattle.commands.proofs.Others.{others-kept, others-from}
 use Rattle.commands.proofs.AllOrNone.{all-set}
-use Rattle.commands.proofs.Forward.{above-forward, above-writes-unless, above-never-passes, greater-wins}
+use Rattle.commands.proofs.Forward.{above-forward, above-writes-unless, above-stale-exactly, above-never-passes, greater-wins}
 use Rattle.commands.proofs.Clock.{clock-is-now, clock-forward-all, dead-at-clock, dead-stays-dead}
 use Rattle.commands.proofs.Full.{full-exactly, full-accepted, done-exactly}
 use Rattle.commands.proofs.SomeReply.{exec-some, refused-said}
@@ -287,7 +287,7 @@ pub gt-only-forward : (clock : ℕ) (command : List ℕ) (s : Store) (k f : Word
 unfolding keyOf fieldsOf
 gt-only-forward clock command s k f d v valid p g = above-forward clock command s k f d v p g (valid .apart)
 
--- A command with GT writes its field, unless it is an EXHSET that NX or XX bars or an expiry setter of a missing field.
+-- The effect of a command with GT writes its field, unless it is an EXHSET that NX or XX bars or an expiry setter of a missing field.
 pub gt-writes-unless : (clock : ℕ) (command : List ℕ) (s : Store) (k f : Word) (d : Deed) (v : ℕ)
     → parse (nowAt clock s) clock command ≡ accepted (onField k f d) → deedVersioning d ≡ Above v
     → let left = sweep (nowAt clock s) k (f ∷ []) (s .slots) in
@@ -295,12 +295,19 @@ pub gt-writes-unless : (clock : ℕ) (command : List ℕ) (s : Store) (k f : Wor
 unfolding keyOf fieldsOf
 gt-writes-unless = above-writes-unless
 
+-- A command with GT v is refused with 20 exactly if its field is live at v or above, and NX or XX does not bar it.
+pub gt-stale-exactly-if : (clock : ℕ) (command : List ℕ) (s : Store) (k f : Word) (d : Deed) (v : ℕ) → Valid s
+    → parse (nowAt clock s) clock command ≡ accepted (onField k f d) → deedVersioning d ≡ Above v
+    → (exec clock command s .refusal ≡ some 20)
+    ↔ ((x : Entry) × (entryOf k f (s .slots) ≡ some x) × (live (nowAt clock s) x ≡ true) × (idle d (some x) ≡ false) × (v ≤ x .version))
+gt-stale-exactly-if clock command s k f d v valid p g = above-stale-exactly clock command s k f d v p g (valid .apart)
+
 -- No command with GT is refused with 23.
 pub gt-never-overflows : (clock : ℕ) (command : List ℕ) (s : Store) (k f : Word) (d : Deed) (v : ℕ)
     → parse (nowAt clock s) clock command ≡ accepted (onField k f d) → deedVersioning d ≡ Above v → exec clock command s .refusal ≢ some 23
 gt-never-overflows = above-never-passes
 
--- The later count wins. Two EXHSETs past checks 10 to 18 count one field, with GT v and GT w, v below w, and neither a condition nor an expiry
+-- The later count wins. Two EXHSETs past checks 10 to 18 set one field, with GT v and GT w, v below w, and neither a condition nor an expiry
 -- option, at any clocks. At the store's own clock the field is live without expiry at a version below v, or missing while a slot is empty or dead.
 -- Then in both orders the field ends with the value that came with GT w, at version w, without expiry.
 pub later-count-wins : (first second : Step) (s : Store) (k f x y : Word) (v w : ℕ) → Valid s

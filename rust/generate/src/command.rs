@@ -338,7 +338,7 @@ impl Generator {
         }
     }
 
-    /// A version one below, at or above a slot's, or an end.
+    /// A version one below, at, one above or far above a slot's, or an end.
     fn push_greater_version(&mut self, words: &mut Words, store: &[u8]) {
         let held = i128::from(low_first(&self.slot(store)[VERSION]));
         match self.random.below(8) {
@@ -346,6 +346,7 @@ impl Generator {
             1 => words.push_number(self.random.pick(&[0, i128::from(LARGEST_VERSION)])),
             2 => words.push_number(held - 1),
             3 | 4 => words.push_number(held),
+            5 => words.push_number(held + 1000),
             _ => words.push_number(held + 1),
         }
     }

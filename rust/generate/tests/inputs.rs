@@ -91,6 +91,7 @@ fn version_options_are_offered_alike() {
         &b"6"[..],
         b"7",
         b"8",
+        b"1007",
         b"0",
         b"4294967295",
         b"4294967296",

@@ -110,6 +110,7 @@ fn where_gt_stands_among_the_refusals() {
         ("EXHINCRBY m a 1 GT 3 MAX 0".to_string(), 20),
         ("EXHINCRBY m a 1 GT 4 MAX 0".to_string(), 22),
         ("EXHSET m b 1 GT 4".to_string(), 24),
+        // Here GT is a field, for which there is no slot.
         ("EXHMSET m a 1 GT 0".to_string(), 24),
         ("EXHSETVER m a GT".to_string(), 16),
     ] {
