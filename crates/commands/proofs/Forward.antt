@@ -315,13 +315,13 @@ module _ (clock : ℕ) (command : List ℕ) (s : Store) (k f x : Word) (v : ℕ)
       counting-writes
 
   -- Where it is live without expiry and not behind v it stays.
-  pub count-kept : (e : Entry) → entryOf k f (s .slots) ≡ some e → e .expiry ≡ Never → v ≤ e .version → entryOf k f (exec clock command s .store .slots) ≡ some e
-  unfolding live before lateChecks isStale orElse
+  pub count-kept : (e : Entry) → entryOf k f (s .slots) ≡ some e → e .expiry ≡ Never → v ≤ e .version
+      → entryOf k f (exec clock command s .store .slots) ≡ some e
+  unfolding live before deedVersioning idle barred
   count-kept e q n l =
       let alive : live (nowAt clock s) e ≡ true = rw n refl in
-      let stale : effectOn (nowAt clock s) counting s .stale ≡ true =
-      counting-stale ∙ rw (live-found (nowAt clock s) k f (s .slots) apart e q alive) (le-leb v (e .version) l) in
-      let refused : exec clock command s .refusal ≡ some 20 = accepted-refusal clock command s counting a ∙ check-applies 20 _ stale in
+      let refused : exec clock command s .refusal ≡ some 20 =
+      above-stale-exactly clock command s k f (assign x Always (Above v) Clear) v a refl apart .1 (e, q, alive, refl, l) in
       let t = entry-some k f (s .slots) e q in
       named-entry k f (exec clock command s .store .slots) e (t .named)
       (entry-is (exec clock command s .store .slots) (t .slot) e (exec-apart clock command s apart)
