@@ -142,6 +142,17 @@ module _ (now : ℕ) (ss : List Slot) (k f : Word) (v : ℕ) where
   above-changes (renumber m) found b h = impossible cc
   above-changes (ask q) found b h = impossible cc
 
+-- what 20 and 23 say where they apply
+late-applied : (now : ℕ) (e : Effect) (ss : List Slot) (n : ℕ) → Applies n (lateChecks now e ss)
+    → (n ≡ 20 → e .stale ≡ true) × (n ≡ 23 → any passes (e .changes) ≡ true)
+unfolding lateChecks Applies
+late-applied now e ss n (inl p) = (λ q. p .1, λ q. absurd (omega (arith, p .0)))
+late-applied now e ss n (inr (inl p)) = (λ q. absurd (omega (arith, p .0)), λ q. absurd (omega (arith, p .0)))
+late-applied now e ss n (inr (inr (inl p))) = (λ q. absurd (omega (arith, p .0)), λ q. absurd (omega (arith, p .0)))
+late-applied now e ss n (inr (inr (inr (inl p)))) = (λ q. absurd (omega (arith, p .0)), λ q. p .1)
+late-applied now e ss n (inr (inr (inr (inr (inl p))))) = (λ q. absurd (omega (arith, p .0)), λ q. absurd (omega (arith, p .0)))
+late-applied now e ss n (inr (inr (inr (inr (inr p))))) = absurd p
+
 found-by : (k f : Word) (ss : List Slot) → FoundBy k f (entryOf k f ss)
 unfolding FoundBy
 found-by k f ss = go (entryOf k f ss) refl
@@ -198,19 +209,11 @@ module _ (clock : ℕ) (command : List ℕ) (s : Store) (k f : Word) (d : Deed) 
   pub above-stale-exactly : Apart (s .slots)
       → (exec clock command s .refusal ≡ some 20)
       ↔ ((x : Entry) × (entryOf k f (s .slots) ≡ some x) × (live (nowAt clock s) x ≡ true) × (idle d (some x) ≡ false) × (v ≤ x .version))
-  unfolding lateChecks Applies isStale orElse
-  above-stale-exactly apart = (λ r. there changed (stale-20 (late-exactly clock command s (onField k f d) a 20 .0 r .applies)), back)
+  unfolding lateChecks isStale orElse
+  above-stale-exactly apart = (λ r. there changed (late-applied (nowAt clock s) did _ 20 (late-exactly clock command s (onField k f d) a 20 .0 r .applies) .0 refl), back)
     where
       Held : Type 0
       Held = (x : Entry) × (entryOf k f (s .slots) ≡ some x) × (live (nowAt clock s) x ≡ true) × (idle d (some x) ≡ false) × (v ≤ x .version)
-
-      stale-20 : Applies 20 (lateChecks (nowAt clock s) did (sweptBy (nowAt clock s) (onField k f d) s)) → did .stale ≡ true
-      stale-20 (inl p) = p .1
-      stale-20 (inr (inl p)) = absurd (omega (arith, p .0))
-      stale-20 (inr (inr (inl p))) = absurd (omega (arith, p .0))
-      stale-20 (inr (inr (inr (inl p)))) = absurd (omega (arith, p .0))
-      stale-20 (inr (inr (inr (inr (inl p))))) = absurd (omega (arith, p .0))
-      stale-20 (inr (inr (inr (inr (inr p))))) = absurd p
 
       found : (o : Option Entry) → entryOf k f left ≡ o → idle d o ≡ false → isStale (Above v) o ≡ true → Held
       found none q i t = impossible cc
@@ -243,16 +246,8 @@ module _ (clock : ℕ) (command : List ℕ) (s : Store) (k f : Word) (d : Deed) 
 
   -- It is never refused with 23.
   pub above-never-passes : exec clock command s .refusal ≡ some 23 → ⊥
-  unfolding lateChecks Applies
-  above-never-passes r = go (late-exactly clock command s (onField k f d) a 23 .0 r .applies)
-    where
-      go : Applies 23 (lateChecks (nowAt clock s) did (sweptBy (nowAt clock s) (onField k f d) s)) → ⊥
-      go (inl p) = omega (arith, p .0)
-      go (inr (inl p)) = omega (arith, p .0)
-      go (inr (inr (inl p))) = omega (arith, p .0)
-      go (inr (inr (inr (inl p)))) = both-ways (p .1) above-within
-      go (inr (inr (inr (inr (inl p))))) = omega (arith, p .0)
-      go (inr (inr (inr (inr (inr p))))) = p
+  above-never-passes r =
+      both-ways (late-applied (nowAt clock s) did _ 23 (late-exactly clock command s (onField k f d) a 23 .0 r .applies) .1 refl) above-within
 
 -- ---- the later count wins
 

@@ -1,15 +1,14 @@
 -- What an accepted command says of its field's version, and that a command without an expiry option says the same at any time.
 use mathlib.Core.Path.{_≡_, refl}
-use mathlib.Core.Bool.{Bool, true, false, cond, _&&_}
-use mathlib.Core.List.{List, [], _∷_}
+use mathlib.Core.Bool.{Bool, true, false, cond}
+use mathlib.Core.List.{List, []}
 use mathlib.Core.Option.{Option, none, some, Option·getD}
 use Prim.Native.Nat.{ℕ, _≤_}
-use lib.Dec.{leb, eqb}
+use lib.Dec.{leb}
 use lib.IntN.{ℤ, pos, negsuc, natAbs}
 use native.Mathlib.Omega.{arith}
 use borrow.Author.Tests.{leb-true, lt-leb}
 use Rattle.wire.specs.Lists.{any, isSome, orElse}
-use Rattle.wire.specs.Bytes.{spells}
 use Rattle.wire.specs.Integers.{readInteger, within}
 use Rattle.wire.specs.Words.{Word, wordAt}
 use Rattle.wire.proofs.Lists.{impossible, and-right, both-ways}
@@ -23,13 +22,13 @@ use Rattle.commands.specs.Refusal.{lowest}
 use Rattle.commands.specs.Command.{Deed}
 use Rattle.commands.specs.Command.Deed.{assign}
 use Rattle.commands.specs.Command.Command.{onField, countHeld, countLive}
-use Rattle.commands.specs.Options.{OptionKind, OptionRow, Given, versions, readIn, numberIn, naturalIn, options, group, optionNamed, expiryGroup, versionGroup, noExpGroup, givenOf, lifetimeOf, versioningOf, lifetime, versioning}
+use Rattle.commands.specs.Options.{OptionKind, Given, versions, readIn, numberIn, naturalIn, options, expiryGroup, versionGroup, noExpGroup, givenOf, lifetimeOf, versioningOf, lifetime, versioning}
 use Rattle.commands.specs.Options.OptionKind.{expires, keepTTL, only, versioned, bound, noExp}
 use Rattle.commands.specs.Parse.{Form, allowed, optionWords, build, deedVersioning, checks, scannedOf, saidBy, parseWords, parse}
 use Rattle.commands.specs.Parse.Form.{setForm, setManyForm, incrementForm, expireForm, persistForm, renumberForm, askForm, getManyForm, deleteForm, countForm, listForm}
 use Rattle.commands.specs.Parse.Parsed.{accepted}
 use Rattle.commands.proofs.ParseChecks.{parse-accepted}
-use Rattle.commands.proofs.OptionsOneEach.{Each, each-given, scanned-each}
+use Rattle.commands.proofs.OptionsOneEach.{Each, EachRow, named-row, each-given, scanned-each}
 
 -- ---- GT's number is a version
 
@@ -42,24 +41,9 @@ GivesOperand (versioned f) = (n v : ℕ) → f n ≡ Above v → n ≡ v
 GivesOperand (bound n) = Unit {0}
 GivesOperand noExp = Unit {0}
 
-abbrev AllGive : List OptionRow → Type 0
-AllGive [] = Unit {0}
-AllGive (r ∷ rs) = GivesOperand (r .kind) × AllGive rs
-
-options-give : AllGive options
+options-give : EachRow GivesOperand options
 unfolding options
 options-give = (tt, (tt, (tt, (tt, (tt, (tt, (tt, ((λ n v e. impossible cc), ((λ n v e. impossible cc), ((λ n v e. cc), (tt, (tt, (tt, tt)))))))))))))
-
-named-gives : (al : List ℕ) (rows : List OptionRow) → AllGive rows → (w : Word) (m : OptionKind) → optionNamed rows al w ≡ some m → GivesOperand m
-unfolding optionNamed
-named-gives al [] p w m e = impossible cc
-named-gives al (r ∷ rs) p w m e = go (spells (r .name) w && any (eqb (group (r .kind))) al) (named-gives al rs (p .1) w m) e
-  where
-    go : (t : Bool) → (optionNamed rs al w ≡ some m → GivesOperand m) → cond t (some (r .kind)) (optionNamed rs al w) ≡ some m → GivesOperand m
-    go true later q =
-        let s : r .kind ≡ m = cc in
-        rw s at (p .0)
-    go false later q = later q
 
 number-most : (w : Word) → naturalIn versions w ≤ versionMost
 unfolding naturalIn numberIn readIn within
@@ -95,7 +79,7 @@ above-most now clock s k f d v h n =
     let a = parse-accepted now clock s (onField k f d) h in
     let al : List ℕ = allowed (a .row .form) in
     go (a .row .form) (Option·getD (scannedOf (a .row .form) (a .words)) [])
-    (scanned-each GivesOperand al (named-gives al options options-give) (optionWords (a .row .form) (a .words)))
+    (scanned-each GivesOperand al (λ w m e. named-row GivesOperand al options options-give w m e .0) (optionWords (a .row .form) (a .words)))
     (a .words)
     (a .built)
   where

@@ -27,7 +27,31 @@ abbrev Pending : (OptionKind → Type 0) → Option OptionKind → Type 0
 Pending P none = Unit {0}
 Pending P (some m) = P m
 
+-- every row is of a kind of which P holds
+abbrev pub EachRow : (OptionKind → Type 0) → List OptionRow → Type 0
+EachRow P [] = Unit {0}
+EachRow P (r ∷ rs) = P (r .kind) × EachRow P rs
+
+any-row : (rows : List OptionRow) → EachRow (λ m. Unit {0}) rows
+any-row [] = tt
+any-row (r ∷ rs) = (tt, any-row rs)
+
 module _ (P : OptionKind → Type 0) where
+  -- what a word names is the kind of a row, and its group is allowed
+  pub named-row : (al : List ℕ) (rows : List OptionRow) → EachRow P rows → (w : Word) (m : OptionKind) → optionNamed rows al w ≡ some m
+      → P m × (any (eqb (group m)) al ≡ true)
+  unfolding optionNamed
+  named-row al [] p w m e = impossible cc
+  named-row al (r ∷ rs) p w m e = go (spells (r .name) w) (any (eqb (group (r .kind))) al) refl (named-row al rs (p .1) w m) e
+    where
+      go : (t a : Bool) → any (eqb (group (r .kind))) al ≡ a → (optionNamed rs al w ≡ some m → P m × (any (eqb (group m)) al ≡ true))
+          → cond (t && a) (some (r .kind)) (optionNamed rs al w) ≡ some m → P m × (any (eqb (group m)) al ≡ true)
+      go true true q later e =
+          let s : r .kind ≡ m = cc in
+          (rw s at (p .0), rw s at q)
+      go true false q later e = later e
+      go false a q later e = later e
+
   one-more : (x : Given) → P (x .kind) → (o : Option (List Given)) → Found P o → Found P (Option·map (λ gs. x ∷ gs) o)
   one-more x h none k = tt
   one-more x h (some gs) k = (h, k)
@@ -76,19 +100,6 @@ module _ (al : List ℕ) where
   unfoldable pub permitted : Given → Bool
   permitted g = any (eqb (group (g .kind))) al
 
-  named-allowed : (rows : List OptionRow) (w : Word) (m : OptionKind) → optionNamed rows al w ≡ some m → any (eqb (group m)) al ≡ true
-  unfolding optionNamed
-  named-allowed [] w m e = impossible cc
-  named-allowed (r ∷ rs) w m e = go (spells (r .name) w) (any (eqb (group (r .kind))) al) refl (named-allowed rs w m) e
-    where
-      go : (t a : Bool) → any (eqb (group (r .kind))) al ≡ a → (optionNamed rs al w ≡ some m → any (eqb (group m)) al ≡ true)
-          → cond (t && a) (some (r .kind)) (optionNamed rs al w) ≡ some m → any (eqb (group m)) al ≡ true
-      go true true q later e =
-          let s : r .kind ≡ m = cc in
-          rw s at q
-      go true false q later e = later e
-      go false a q later e = later e
-
   each-permitted : (gs : List Given) → Each (λ m. any (eqb (group m)) al ≡ true) gs → all permitted gs ≡ true
   unfolding all permitted
   each-permitted [] h = refl
@@ -97,8 +108,11 @@ module _ (al : List ℕ) where
   -- a scan finds only options of groups that are allowed
   pub scan-allowed : (ws : List Word) → orElse (scan al none ws) true (all permitted) ≡ true
   unfolding orElse
-  scan-allowed ws = go (scan al none ws) (scan-each (λ m. any (eqb (group m)) al ≡ true) al (named-allowed options) none ws tt)
+  scan-allowed ws = go (scan al none ws) (scan-each (λ m. any (eqb (group m)) al ≡ true) al named none ws tt)
     where
+      named : (w : Word) (m : OptionKind) → optionNamed options al w ≡ some m → any (eqb (group m)) al ≡ true
+      named w m e = named-row (λ k. Unit {0}) al options (any-row options) w m e .1
+
       go : (o : Option (List Given)) → Found (λ m. any (eqb (group m)) al ≡ true) o → orElse o true (all permitted) ≡ true
       go none h = refl
       go (some gs) h = each-permitted gs h
