@@ -29,7 +29,7 @@ abbrev pub addedBy : ℕ → Command → Store → ℕ
 addedBy now c s = added (effectOn now c s .changes) (sweptBy now c s)
 
 -- The first check is passed where another number is given; the only one applies where one is.
-check-other : {m : ℕ} (c : Check) (cs : List Check) → (c .number ≡ m → ⊥) → lowest (c ∷ cs) ≡ some m → (c .applies ≡ false) × (lowest cs ≡ some m)
+pub check-other : {m : ℕ} (c : Check) (cs : List Check) → (c .number ≡ m → ⊥) → lowest (c ∷ cs) ≡ some m → (c .applies ≡ false) × (lowest cs ≡ some m)
 check-other {m} c cs d h = go (lowest-some c cs m h)
   where
     go : ((c .applies ≡ true) × (c .number ≡ m)) ⊎ ((c .applies ≡ false) × (lowest cs ≡ some m)) → (c .applies ≡ false) × (lowest cs ≡ some m)

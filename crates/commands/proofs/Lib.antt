@@ -20,9 +20,11 @@ pub mod SomeReply
 pub mod Names
 pub mod Ready
 pub mod AllOrNone
--- ---- a version that only moves forward
+-- ---- what VER, ABS and GT do: a version that only moves forward, one that is compared unless it is 0
+pub mod VersionOption
 pub mod GivenVersion
 pub mod Forward
+pub mod VersionCheck
 -- ---- tables and lines: the code's rows are the definitions' own
 pub mod TableRows
 pub mod RefusalLines

@@ -72,9 +72,10 @@ nextVersion (Exactly v) found = v
 nextVersion (Above v) found = v
 
 -- "VER v: if the field is live with a version other than 0 and v differs, refusal 20" M-100: "a GT not greater than a live field's version is 20"
+-- M-101: "a VER of 0 makes no version check", in place of 01's "A VER of 0 is compared like any other."
 unfoldable pub isStale : Versioning → Option Entry → Bool
 isStale Next found = false
-isStale (Match v) found = orElse found false (λ e. not (eqb (e .version) 0) && not (eqb (e .version) v))
+isStale (Match v) found = orElse found false (λ e. not (eqb v 0) && not (eqb (e .version) 0) && not (eqb (e .version) v))
 isStale (Exactly v) found = false
 isStale (Above v) found = orElse found false (λ e. leb v (e .version))
 

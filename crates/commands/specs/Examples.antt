@@ -387,4 +387,98 @@ changeRequestCases =
     ∷ refusal 1000 "EXHSET m b 1 GT 1" 20 "-ERR update version is stale\r\n"
     ∷ [])
     1000 (entry "m" "a" "2" 2 Never) (entry "m" "b" "2" 2 Never)
+    ∷ case "M-101: a live at version 3, EXHSET m a 1 VER 0: 0, version 4"
+    (request 1000 "EXHSET m a 1 ABS 3" ":1\r\n"
+    ∷ request 1000 "EXHSET m a 1 VER 0" ":0\r\n"
+    ∷ request 1000 "EXHVER m a" ":4\r\n"
+    ∷ [])
+    1000 (entry "m" "a" "1" 4 Never) none
+    ∷ case "M-101: a missing field gets 1, by EXHSET and EXHINCRBY; a dead one is missing"
+    (request 1000 "EXHSET m a 1 VER 0" ":1\r\n"
+    ∷ request 1000 "EXHSET m b 1 ABS 9 PX 500" ":1\r\n"
+    ∷ request 1500 "EXHINCRBY m b 3 VER 0" ":3\r\n"
+    ∷ [])
+    1500 (entry "m" "a" "1" 1 Never) (entry "m" "b" "3" 1 Never)
+    ∷ case "M-101: a live one gets its version plus 1, by EXHSET, EXHINCRBY and each setter, whatever its version"
+    (request 1000 "EXHSET m a 1 ABS 7" ":1\r\n"
+    ∷ request 1000 "EXHSET m a 2 VER 0" ":0\r\n"
+    ∷ request 1000 "EXHVER m a" ":8\r\n"
+    ∷ request 1000 "EXHINCRBY m a 1 ver 0" ":3\r\n"
+    ∷ request 1000 "EXHVER m a" ":9\r\n"
+    ∷ request 1000 "EXHEXPIRE m a 9 VER 0" ":1\r\n"
+    ∷ request 1000 "EXHVER m a" ":10\r\n"
+    ∷ request 1000 "EXHSETVER m a 20" ":1\r\n"
+    ∷ request 1000 "EXHEXPIREAT m a 9 VER 0" ":1\r\n"
+    ∷ request 1000 "EXHVER m a" ":21\r\n"
+    ∷ request 1000 "EXHPEXPIRE m a 500 VER 0" ":1\r\n"
+    ∷ request 1000 "EXHVER m a" ":22\r\n"
+    ∷ request 1000 "EXHPEXPIREAT m a 5000 VER 0" ":1\r\n"
+    ∷ [])
+    1000 (entry "m" "a" "3" 23 (At 5000)) none
+    ∷ case "M-101: a live field at version 0 goes to 1, with a setter too"
+    (request 1000 "EXHSET m a 1" ":1\r\n"
+    ∷ request 1000 "EXHSETVER m a 0" ":1\r\n"
+    ∷ request 1000 "EXHSET m a 2 VER 0" ":0\r\n"
+    ∷ request 1000 "EXHSET m b 1" ":1\r\n"
+    ∷ request 1000 "EXHSETVER m b 0" ":1\r\n"
+    ∷ request 1000 "EXHPEXPIRE m b 500 VER 0" ":1\r\n"
+    ∷ [])
+    1000 (entry "m" "a" "2" 1 Never) (entry "m" "b" "1" 1 (At 1500))
+    ∷ case "M-101: the setters reply 0 where the field is missing, and make none"
+    (request 1000 "EXHEXPIRE m a 9 VER 0" ":0\r\n"
+    ∷ request 1000 "EXHEXPIREAT m a 9 VER 0" ":0\r\n"
+    ∷ request 1000 "EXHPEXPIRE m a 500 VER 0" ":0\r\n"
+    ∷ request 1000 "EXHPEXPIREAT m a 5000 VER 0" ":0\r\n"
+    ∷ [])
+    1000 none none
+    ∷ case "M-101: at the largest version 23, on each command; at the one before it VER 0 is taken"
+    (request 1000 "EXHSET m a 1 ABS 4294967295" ":1\r\n"
+    ∷ refusal 1000 "EXHSET m a 2 VER 0" 23 "-ERR version overflow\r\n"
+    ∷ refusal 1000 "EXHINCRBY m a 1 VER 0" 23 "-ERR version overflow\r\n"
+    ∷ refusal 1000 "EXHEXPIRE m a 9 VER 0" 23 "-ERR version overflow\r\n"
+    ∷ refusal 1000 "EXHEXPIREAT m a 9 VER 0" 23 "-ERR version overflow\r\n"
+    ∷ refusal 1000 "EXHPEXPIRE m a 500 VER 0" 23 "-ERR version overflow\r\n"
+    ∷ refusal 1000 "EXHPEXPIREAT m a 5000 VER 0" 23 "-ERR version overflow\r\n"
+    ∷ request 1000 "EXHSET m a 2 NX VER 0" ":-1\r\n"
+    ∷ request 1000 "EXHSET m b 1 ABS 4294967294" ":1\r\n"
+    ∷ request 1000 "EXHSET m b 2 VER 0" ":0\r\n"
+    ∷ [])
+    1000 (entry "m" "a" "1" 4294967295 Never) (entry "m" "b" "2" 4294967295 Never)
+    ∷ case "M-101: a VER of 1 or more is compared as before, also after a VER 0"
+    (request 1000 "EXHSET m a 1 ABS 3" ":1\r\n"
+    ∷ refusal 1000 "EXHSET m a 2 VER 1" 20 "-ERR update version is stale\r\n"
+    ∷ refusal 1000 "EXHINCRBY m a 1 VER 2" 20 "-ERR update version is stale\r\n"
+    ∷ refusal 1000 "EXHEXPIRE m a 9 VER 1" 20 "-ERR update version is stale\r\n"
+    ∷ refusal 1000 "EXHEXPIREAT m a 9 VER 4" 20 "-ERR update version is stale\r\n"
+    ∷ refusal 1000 "EXHPEXPIRE m a 500 VER 1" 20 "-ERR update version is stale\r\n"
+    ∷ refusal 1000 "EXHPEXPIREAT m a 5000 VER 2" 20 "-ERR update version is stale\r\n"
+    ∷ request 1000 "EXHSET m a 2 VER 0" ":0\r\n"
+    ∷ refusal 1000 "EXHSET m a 3 VER 3" 20 "-ERR update version is stale\r\n"
+    ∷ request 1000 "EXHSET m a 4 VER 4" ":0\r\n"
+    ∷ request 1000 "EXHSET m b 1 VER 1" ":1\r\n"
+    ∷ request 1000 "EXHINCRBY m b 1 VER 1" ":2\r\n"
+    ∷ refusal 1000 "EXHINCRBY m b 1 VER 1" 20 "-ERR update version is stale\r\n"
+    ∷ [])
+    1000 (entry "m" "a" "4" 5 Never) (entry "m" "b" "2" 2 Never)
+    ∷ case "M-101: VER 0 beside the options of the other groups"
+    (request 1000 "EXHSET m a 1 VER 0 NX PX 500" ":1\r\n"
+    ∷ request 1000 "EXHSET m a 2 XX KEEPTTL VER 0" ":0\r\n"
+    ∷ request 1000 "EXHSET m a 9 NX VER 0" ":-1\r\n"
+    ∷ request 1000 "EXHSET m b 1 XX VER 0" ":-1\r\n"
+    ∷ request 1000 "EXHINCRBY m a 1 MIN 0 VER 0 MAX 9 KEEPTTL" ":3\r\n"
+    ∷ request 1000 "EXHSET m b 1 VER 0 EX 9" ":1\r\n"
+    ∷ [])
+    1000 (entry "m" "a" "3" 3 (At 1500)) (entry "m" "b" "1" 1 (At 10000))
+    ∷ case "M-101: the other refusals of a command with VER 0 are as they were"
+    (refusal 1000 "EXHSET m a 1 VER 0 ABS 1" 15 "-ERR syntax error\r\n"
+    ∷ refusal 1000 "EXHSET m a 1 VER 0 VER 0" 15 "-ERR syntax error\r\n"
+    ∷ refusal 1000 "EXHSET m a 1 VER 00" 16 "-ERR value is not an integer or out of range\r\n"
+    ∷ refusal 1000 "EXHSET m a 1 VER 0 EX 4102444800" 18 "-ERR invalid expire time\r\n"
+    ∷ request 1000 "EXHSET m a x VER 0" ":1\r\n"
+    ∷ refusal 1000 "EXHINCRBY m a 1 VER 0" 21 "-ERR hash value is not an integer\r\n"
+    ∷ request 1000 "EXHSET m b 5 VER 0" ":1\r\n"
+    ∷ refusal 1000 "EXHINCRBY m b 1 MAX 5 VER 0" 22 "-ERR increment or decrement would overflow\r\n"
+    ∷ refusal 1000 "EXHSET m c 1 VER 0" 24 "-ERR store is full\r\n"
+    ∷ [])
+    1000 (entry "m" "a" "x" 1 Never) (entry "m" "b" "5" 1 Never)
     ∷ []

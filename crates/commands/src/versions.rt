@@ -12,12 +12,12 @@ ghost use Rattle.store.specs.Layout.{versionMost};
 ghost use Rattle.commands.specs.Effect.{isStale, nextVersion, setterVersion, nextExpiry, barred};
 ghost use Rattle.commands.specs.Promises.{entryFor, versioned, expiring};
 
-// Whether VER names another version than the one that is held, or GT one that is not greater.
+// Whether VER names another version than the one that is held, or GT one that is not greater. VER 0 names none.
 pub fn is_stale(versioning: Versioning, held: u64) -> bool
     ensures { λ r. ⌜ r ≡ isStale versioning (some (versioned held)) ⌝ }
 {
     match versioning {
-        Versioning::Match(v) => held != 0 && held != v,
+        Versioning::Match(v) => 1 <= v && (held != 0 && held != v),
         Versioning::Above(v) => v <= held,
         Versioning::Next => false,
         Versioning::Exactly(_) => false,

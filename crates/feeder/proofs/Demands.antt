@@ -17,23 +17,25 @@ use Rattle.wire.specs.Words.{Word, wordsMost, wordsOf, crlf}
 use Rattle.wire.specs.Replies.{line, respOf, laidOver}
 use Rattle.wire.proofs.IntegerLaws.{read-text, text-read, read-within}
 use Rattle.wire.proofs.WordLaws.{words-respOf, respOf-words, words-count}
-use Rattle.store.specs.Layout.{headerSize, slotSize}
+use Rattle.store.specs.Layout.{headerSize, slotSize, versionMost}
 use Rattle.store.specs.declared.Expiry.the-variants.{Never}
 use Rattle.store.specs.Store.{Entry, entry, Slot, Store, withClock, decode, encode, wellFormed, slotCount}
 use Rattle.store.specs.Time.{nowAt, live, entryOf}
 use Rattle.store.specs.Valid.{Valid}
 use Rattle.store.proofs.Encode.{decode-encode, encode-decode, encode-well, decode-valid}
 use Rattle.commands.specs.Refusal.{RefusalRow, table, errorLine, bufferLeast, earlyLeast, earlyMost, lateLeast, lateMost}
-use Rattle.commands.specs.declared.Versioning.the-variants.{Above}
+use Rattle.commands.specs.declared.Versioning.the-variants.{Next, Match, Above}
+use Rattle.commands.specs.declared.Lifetime.{Lifetime}
 use Rattle.commands.specs.declared.Lifetime.the-variants.{Clear}
+use Rattle.commands.specs.declared.Condition.{Condition}
 use Rattle.commands.specs.declared.Condition.the-variants.{Always}
 use Rattle.commands.specs.Command.{Deed, Command, Pair, keyOf, fieldsOf}
-use Rattle.commands.specs.Command.Deed.{assign}
+use Rattle.commands.specs.Command.Deed.{assign, increment}
 use Rattle.commands.specs.Command.Command.{onField, setMany}
 use Rattle.commands.specs.Parse.{deedVersioning, parse}
 use Rattle.commands.specs.Parse.Parsed.{refused, accepted}
 use Rattle.commands.specs.Effect.{effect, changeAll}
-use Rattle.commands.specs.Execute.{sweep, swept, writes, room, added, lateChecks, exec, execBytes}
+use Rattle.commands.specs.Execute.{sweep, swept, writes, room, added, lateChecks, run, exec, execBytes}
 use Rattle.commands.specs.Claims.{earlyChecks, LowestOf, Proper, names, lastOf, Written, Numbered, idle, Behind, Step, execAll}
 use Rattle.commands.specs.Examples.{given, expected, markedExamples, workedCases, commandCases, changeRequestCases}
 use Rattle.commands.proofs.Examples as commandExamples
@@ -43,6 +45,7 @@ use Rattle.commands.proofs.Sweep.{room-sweep}
 use Rattle.commands.proofs.Others.{others-kept, others-from}
 use Rattle.commands.proofs.AllOrNone.{all-set}
 use Rattle.commands.proofs.Forward.{above-forward, above-writes-unless, above-stale-exactly, above-never-passes, greater-wins}
+use Rattle.commands.proofs.VersionCheck.{zero-never-stale, zero-sets-as-none, zero-adds-as-none, zero-overflows-exactly, match-stale-exactly, match-raises, match-starts, match-writes-unless}
 use Rattle.commands.proofs.Clock.{clock-is-now, clock-forward-all, dead-at-clock, dead-stays-dead}
 use Rattle.commands.proofs.Full.{full-exactly, full-accepted, done-exactly}
 use Rattle.commands.proofs.SomeReply.{exec-some, refused-said}
@@ -317,6 +320,72 @@ pub later-count-wins : (first second : Step) (s : Store) (k f x y : Word) (v w :
     → (entryOf k f (execAll (first ∷ second ∷ []) s .slots) ≡ some (entry k f y w Never))
     × (entryOf k f (execAll (second ∷ first ∷ []) s .slots) ≡ some (entry k f y w Never))
 later-count-wins first second s k f x y v w valid = greater-wins first second s k f x y v w (valid .apart)
+
+-- ════ Demand 2: VER 0 is not compared (M-101)
+
+-- No command with VER 0 is refused with 20.
+pub ver-0-never-stale : (clock : ℕ) (command : List ℕ) (s : Store) (k f : Word) (d : Deed)
+    → parse (nowAt clock s) clock command ≡ accepted (onField k f d) → deedVersioning d ≡ Match 0 → exec clock command s .refusal ≢ some 20
+ver-0-never-stale = zero-never-stale
+
+-- An EXHSET or EXHINCRBY past checks 10 to 18 with VER 0 has the outcome of the same parsed command with no version option.
+pub ver-0-as-none : (clock : ℕ) (command : List ℕ) (s : Store) (k f : Word) (t : Lifetime)
+    → ((x : Word) (c : Condition) → parse (nowAt clock s) clock command ≡ accepted (onField k f (assign x c (Match 0) t))
+    → exec clock command s ≡ run (nowAt clock s) (onField k f (assign x c Next t)) s)
+    × ((a l g : ℤ) → parse (nowAt clock s) clock command ≡ accepted (onField k f (increment a l g (Match 0) t))
+    → exec clock command s ≡ run (nowAt clock s) (onField k f (increment a l g Next t)) s)
+ver-0-as-none clock command s k f t = (zero-sets-as-none clock command s k f t, zero-adds-as-none clock command s k f t)
+
+-- A command with VER 0 is refused with 23 exactly if its field is live at the largest version, NX or XX does not bar it, and neither 21 nor 22
+-- applies.
+pub ver-0-overflows-exactly-if : (clock : ℕ) (command : List ℕ) (s : Store) (k f : Word) (d : Deed) → Valid s
+    → parse (nowAt clock s) clock command ≡ accepted (onField k f d) → deedVersioning d ≡ Match 0
+    → let e = effect (nowAt clock s) (onField k f d) (sweep (nowAt clock s) k (f ∷ []) (s .slots)) in
+    (exec clock command s .refusal ≡ some 23)
+    ↔ ((x : Entry)
+    × (entryOf k f (s .slots) ≡ some x)
+    × (live (nowAt clock s) x ≡ true)
+    × (idle d (some x) ≡ false)
+    × (x .version ≡ versionMost)
+    × (e .notInteger ≡ false)
+    × (e .overflows ≡ false))
+unfolding keyOf fieldsOf
+ver-0-overflows-exactly-if clock command s k f d valid p g = zero-overflows-exactly clock command s k f d p g (valid .apart) (valid .fits)
+
+-- A command with VER v is refused with 20 exactly if v is not 0, its field is live at a version that is neither 0 nor v, and NX or XX does not bar
+-- it.
+pub ver-stale-exactly-if : (clock : ℕ) (command : List ℕ) (s : Store) (k f : Word) (d : Deed) (v : ℕ) → Valid s
+    → parse (nowAt clock s) clock command ≡ accepted (onField k f d) → deedVersioning d ≡ Match v
+    → (exec clock command s .refusal ≡ some 20)
+    ↔ ((x : Entry)
+    × (entryOf k f (s .slots) ≡ some x)
+    × (live (nowAt clock s) x ≡ true)
+    × (idle d (some x) ≡ false)
+    × (v ≢ 0)
+    × (x .version ≢ 0)
+    × (x .version ≢ v))
+ver-stale-exactly-if clock command s k f d v valid p g = match-stale-exactly clock command s k f d v p g (valid .apart)
+
+-- A command with VER that is not refused and writes its field leaves a live one at its version plus 1 and a missing one at 1.
+pub ver-counts-on : (clock : ℕ) (command : List ℕ) (s : Store) (k f : Word) (d : Deed) (v : ℕ) → Valid s
+    → parse (nowAt clock s) clock command ≡ accepted (onField k f d) → deedVersioning d ≡ Match v → exec clock command s .refusal ≡ none
+    → let e = effect (nowAt clock s) (onField k f d) (sweep (nowAt clock s) k (f ∷ []) (s .slots)) in
+    any (writes k f) (e .changes) ≡ true
+    → ((x : Entry) → entryOf k f (s .slots) ≡ some x → live (nowAt clock s) x ≡ true
+    → Numbered k f (x .version + 1) (exec clock command s .store .slots))
+    × (((x : Entry) → entryOf k f (s .slots) ≡ some x → live (nowAt clock s) x ≡ false)
+    → Numbered k f 1 (exec clock command s .store .slots))
+unfolding keyOf fieldsOf
+ver-counts-on clock command s k f d v valid p g r w =
+    (match-raises clock command s k f d v p g (valid .apart) r w, match-starts clock command s k f d v p g (valid .apart) r w)
+
+-- The effect of a command with VER writes its field, unless it is an EXHSET that NX or XX bars or an expiry setter of a missing field.
+pub ver-writes-unless : (clock : ℕ) (command : List ℕ) (s : Store) (k f : Word) (d : Deed) (v : ℕ)
+    → parse (nowAt clock s) clock command ≡ accepted (onField k f d) → deedVersioning d ≡ Match v
+    → let left = sweep (nowAt clock s) k (f ∷ []) (s .slots) in
+    any (writes k f) (effect (nowAt clock s) (onField k f d) left .changes) ≡ not (idle d (entryOf k f left))
+unfolding keyOf fieldsOf
+ver-writes-unless = match-writes-unless
 
 -- ════ Demand 2: time
 
