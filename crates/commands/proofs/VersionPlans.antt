@@ -7,7 +7,7 @@ use mathlib.Core.Option.{Option, none, some}
 use Prim.Native.Nat.{ℕ, _+_, _≤_, _<_}
 use lib.Dec.{leb, eqb}
 use native.Mathlib.Omega.{arith}
-use borrow.Author.Tests.{ne-eqb}
+use borrow.Author.Tests.{lt-leb, ne-eqb}
 use Rattle.wire.specs.Lists.{orElse, isSome}
 use Rattle.store.specs.declared.Expiry.{Expiry}
 use Rattle.store.specs.declared.Expiry.the-variants.{Never, At}
@@ -26,18 +26,17 @@ use Rattle.commands.specs.Promises.{entryFor, heldVersion, heldExpiry, v
 -- ---- the cases
 
 module _ {n : Versioning} (v : ℕ) where
-  pub match-stale : {w : ℕ} → 1 ≤ w → v ≢ 0 → n ≡ Match w → not (eqb v w) ≡ isStale n (some (versioned v))
+  pub match-stale : {w : ℕ} → n ≡ Match w → 1 ≤ w → v ≢ 0 → not (eqb v w) ≡ isStale n (some (versioned v))
   unfolding isStale orElse
-  match-stale {w} l d h = rw (h, ne-eqb w 0 (omega arith), ne-eqb v 0 d) refl
+  match-stale {w} h l d = rw (h, ne-eqb w 0 (omega arith), ne-eqb v 0 d) refl
 
-  pub match-zero : {w : ℕ} → 1 ≤ w → v ≡ 0 → n ≡ Match w → not (eqb v 0) ≡ isStale n (some (versioned v))
+  pub match-zero : {w : ℕ} → n ≡ Match w → 1 ≤ w → v ≡ 0 → not (eqb v 0) ≡ isStale n (some (versioned v))
   unfolding isStale orElse
-  match-zero {w} l z h = rw (h, z, ne-eqb w 0 (omega arith)) refl
+  match-zero {w} h l z = rw (h, z, ne-eqb w 0 (omega arith)) refl
 
-  -- VER 0 is compared with nothing
-  pub match-none : {w : ℕ} → w < 1 → n ≡ Match w → leb 1 w ≡ isStale n (some (versioned v))
+  pub match-none : {w least : ℕ} → n ≡ Match w → w ≡ 0 → w < least → leb least w ≡ isStale n (some (versioned v))
   unfolding isStale orElse
-  match-none {w} l h = let z : w ≡ 0 = omega arith in rw (h, z) refl
+  match-none {w} {least} h z l = rw (lt-leb least w l, h, z) refl
 
   pub above-stale : {w : ℕ} → n ≡ Above w → leb w v ≡ isStale n (some (versioned v))
   unfolding isStale orElse
