@@ -38,10 +38,13 @@ extern "C" {
 #endif
 
 /*
- * The number of the last change request that has landed: M-100, the option GT. Each landing raises it, so a caller can
- * ask for what it needs: #if EXH_VERSION >= 100.
+ * The number of the last change request that has landed. Each landing raises it, so a caller can ask for what it needs,
+ * as with #if EXH_VERSION >= 101. What they brought:
+ *
+ *     100   the option GT
+ *     101   VER 0 is not compared, so it is never stale
  */
-#define EXH_VERSION 100
+#define EXH_VERSION 101
 
 /* The bytes of a store of n slots, n from 1 to EXH_SLOTS_MOST. A slot holds one field. */
 #define EXH_STORE_SIZE(n) (16 + 128 * (size_t)(n))

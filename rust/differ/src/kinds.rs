@@ -1,6 +1,6 @@
 //! The kinds of cases: each makes its inputs from a generator and compares every call.
 
-use crate::greater;
+use crate::outcomes;
 use crate::pair::{Call, Pair, hex};
 use generate::layout::{LEAST_REPLY_BUFFER, MOST_WAITING};
 use generate::{Generator, State};
@@ -41,8 +41,8 @@ fn record(generator: &mut Generator, pair: &mut Pair) -> Result<(), String> {
     if call.used != record.len() || call.reply_len == 0 {
         return Err(format!("not done: {call:?}\npiece {}", hex(&record)));
     }
-    if let Some(outcome) = greater::outcome(&record, pair.store_before(), pair.reply(call)) {
-        *pair.tally.greater.entry(outcome).or_default() += 1;
+    if let Some(outcome) = outcomes::outcome(&record, pair.store_before(), pair.reply(call)) {
+        *pair.tally.outcomes.entry(outcome).or_default() += 1;
     }
     Ok(())
 }

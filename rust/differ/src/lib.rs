@@ -3,15 +3,17 @@
 
 #![forbid(unsafe_code)]
 
-mod greater;
 mod kinds;
+mod outcomes;
 mod pair;
 
 use generate::{Generator, Random};
 use kinds::Kind;
+use outcomes::OUTCOMES;
 use pair::Pair;
 use std::fmt;
 
+pub use outcomes::Outcome;
 pub use pair::Tally;
 
 /// How many cases of each kind.
@@ -86,12 +88,12 @@ pub fn errors<'t>(tallies: &'t [(&str, Tally)]) -> Vec<(&'t str, u64)> {
     all.into_iter().collect()
 }
 
-/// How often GT came to each of its outcomes in all kinds together.
-pub fn greater_met(tallies: &[(&str, Tally)]) -> [(&'static str, u64); greater::OUTCOMES.len()] {
-    greater::OUTCOMES.map(|outcome| {
+/// How often GT and VER 0 came to each of their outcomes in all kinds together.
+pub fn outcomes_met(tallies: &[(&str, Tally)]) -> [(Outcome, u64); OUTCOMES.len()] {
+    OUTCOMES.map(|outcome| {
         let counts = tallies
             .iter()
-            .filter_map(|(_, tally)| tally.greater.get(outcome));
+            .filter_map(|(_, tally)| tally.outcomes.get(&outcome));
         (outcome, counts.sum())
     })
 }

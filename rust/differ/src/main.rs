@@ -1,6 +1,6 @@
 //! The full comparison: `cargo run --release -p differ [SEED]`.
 
-use differ::{Sizes, Tally, compare, errors, greater_met};
+use differ::{Sizes, Tally, compare, errors, outcomes_met};
 use std::process::ExitCode;
 use std::time::Instant;
 
@@ -32,8 +32,8 @@ fn main() -> ExitCode {
     for (line, count) in errors(&tallies) {
         println!("{count} replies {line}");
     }
-    for (outcome, count) in greater_met(&tallies) {
-        println!("{count} GT {outcome}");
+    for ((option, came_to), count) in outcomes_met(&tallies) {
+        println!("{count} {option} {came_to}");
         if count == 0 {
             println!("no difference, but this was not met");
             return ExitCode::FAILURE;

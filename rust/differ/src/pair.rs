@@ -1,5 +1,6 @@
 //! One feeding call made by both implementations, and everything compared.
 
+use crate::outcomes::Outcome;
 use exhash::interface;
 use generate::layout::MOST_WAITING;
 use generate::{LONGEST_REPLY_BUFFER, State};
@@ -39,8 +40,8 @@ pub struct Tally {
     pub bytes: u64,
     /// Error lines by their text.
     pub errors: BTreeMap<String, u64>,
-    /// What GT came to in records that were fed one by one.
-    pub greater: BTreeMap<&'static str, u64>,
+    /// What GT and VER 0 came to in records that were fed one by one.
+    pub outcomes: BTreeMap<Outcome, u64>,
 }
 
 /// Both implementations, each with its own memory.

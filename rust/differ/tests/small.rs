@@ -1,10 +1,10 @@
 //! A small comparison, for builds without optimization.
 
-use differ::{Sizes, compare, errors, greater_met};
+use differ::{Sizes, compare, errors, outcomes_met};
 use model::reply::Refusal;
 
 const SIZES: Sizes = Sizes {
-    commands: 10_000,
+    commands: 20_000,
     sessions: 50,
     large_sessions: 2,
     streams: 1_000,
@@ -42,6 +42,9 @@ fn the_library_agrees_with_the_model() {
     let answers = |number: usize| tallies.iter().map(move |(_, tally)| tally.answers[number]);
     assert!((0..4).all(|number| answers(number).sum::<u64>() > 0));
     assert_eq!(errors(&tallies).len(), Refusal::ALL.len());
-    let greater = greater_met(&tallies);
-    assert!(greater.iter().all(|(_, count)| *count > 20), "{greater:?}");
+    let outcomes = outcomes_met(&tallies);
+    assert!(
+        outcomes.iter().all(|(_, count)| *count > 20),
+        "{outcomes:?}"
+    );
 }

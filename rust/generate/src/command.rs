@@ -77,10 +77,33 @@ const UNKNOWN_NAMES: [&[u8]; 9] = [
 enum Operand {
     Nothing,
     Time(Unit),
-    Version,
-    GreaterVersion,
+    Version(Versions),
     Bound,
 }
+
+/// Versions to choose from; what stands there twice is chosen twice as often.
+#[derive(Clone, Copy)]
+struct Versions {
+    /// What is added to a slot's version.
+    near: &'static [i128],
+    others: &'static [u32],
+}
+
+/// For ABS and EXHSETVER, which write it.
+const WRITTEN_VERSIONS: Versions = Versions {
+    near: &[0, 0, 0, 1],
+    others: &[0, 1, 2, LARGEST_VERSION],
+};
+/// For VER, which must be the one held; 0 is not compared.
+const HELD_VERSIONS: Versions = Versions {
+    near: &[-1, 0, 0, 1],
+    others: &[0, 0, 0, 1, LARGEST_VERSION],
+};
+/// For GT, which must be greater than the one held; 0 is refused.
+const GREATER_VERSIONS: Versions = Versions {
+    near: &[-1, 0, 0, 1, 1, 1000],
+    others: &[0, 1, 1000, LARGEST_VERSION],
+};
 
 type OptionWord = (&'static [u8], Operand);
 
@@ -93,15 +116,15 @@ const EXPIRY_OPTIONS: [OptionWord; 5] = [
 ];
 const CONDITION_OPTIONS: [OptionWord; 2] = [(b"NX", Operand::Nothing), (b"XX", Operand::Nothing)];
 const VERSION_OPTIONS: [OptionWord; 3] = [
-    (b"VER", Operand::Version),
-    (b"ABS", Operand::Version),
-    (b"GT", Operand::GreaterVersion),
+    (b"VER", Operand::Version(HELD_VERSIONS)),
+    (b"ABS", Operand::Version(WRITTEN_VERSIONS)),
+    (b"GT", Operand::Version(GREATER_VERSIONS)),
 ];
 const MIN_OPTION: [OptionWord; 1] = [(b"MIN", Operand::Bound)];
 const MAX_OPTION: [OptionWord; 1] = [(b"MAX", Operand::Bound)];
 const STRAY_OPTIONS: [OptionWord; 5] = [
     (b"NOEXP", Operand::Nothing),
-    (b"COUNT", Operand::Version),
+    (b"COUNT", Operand::Version(WRITTEN_VERSIONS)),
     (b"EXX", Operand::Nothing),
     (b"", Operand::Nothing),
     (b"7", Operand::Nothing),
@@ -121,6 +144,13 @@ const ALL_OPTIONS: Groups = &[
     &MAX_OPTION,
     &STRAY_OPTIONS,
 ];
+
+/// The store that a command is made for, and the slot whose entry it is mostly about.
+#[derive(Clone, Copy)]
+struct Target<'s> {
+    store: &'s [u8],
+    slot: &'s [u8],
+}
 
 impl Generator {
     /// A command's bytes, no more than a record takes. Its names, versions and times are often the store's.
@@ -168,7 +198,8 @@ impl Generator {
     fn longest_command(&mut self, store: &[u8]) -> Vec<u8> {
         let mut words = Words::default();
         words.push(b"EXHMGET");
-        self.push_key(&mut words, store);
+        let slot = self.slot(store);
+        self.push_key(&mut words, slot);
         let filled = words.resp().len() + b"$999\r\n\r\n".len();
         words.push(&vec![b'x'; LONGEST_COMMAND.saturating_sub(filled)]);
         words.resp()
@@ -181,7 +212,8 @@ impl Generator {
             .random
             .pick(&[&b"EXHMGET"[..], b"EXHDEL", b"EXHMSET", b"EXHMGETWITHVER"]);
         words.push(name);
-        self.push_key(&mut words, store);
+        let slot = self.slot(store);
+        self.push_key(&mut words, slot);
         let count = self.random.between(MOST_WORDS - 4, MOST_WORDS + 1);
         while words.count() < count {
             words.push(self.random.pick(&[&b""[..], b"a", b"b", b"1"]));
@@ -190,21 +222,19 @@ impl Generator {
     }
 
     fn words(&mut self, store: &[u8]) -> Words {
+        let slot = self.held_slot(store);
+        let target = Target { store, slot };
         let mut words = Words::default();
-        // The three that write values are the most frequent.
-        let names = if self.random.once_in(4) {
-            3
-        } else {
-            NAMES.len()
-        };
+        // The three that write values are the most frequent, then the four that set an expiry.
+        let names = self.random.pick(&[3, 7, NAMES.len(), NAMES.len()]);
         let (name, shape) = self.random.pick(&NAMES[..names]);
         let unknown = self
             .random
             .once_in(64)
             .then(|| self.random.pick(&UNKNOWN_NAMES));
         words.push_in_some_case(unknown.unwrap_or(name), &mut self.random);
-        self.push_key(&mut words, store);
-        self.push_arguments(&mut words, shape, store);
+        self.push_key(&mut words, slot);
+        self.push_arguments(&mut words, shape, target);
         match self.random.below(48) {
             0 => words.pop(),
             1 => words.push(usual_or_long(
@@ -212,33 +242,33 @@ impl Generator {
                 &text::FIELDS,
                 &text::LONG_FIELDS,
             )),
-            2 => self.push_option(&mut words, ALL_OPTIONS, store),
+            2 => self.push_option(&mut words, ALL_OPTIONS, target),
             _ => {}
         }
         words
     }
 
-    fn push_arguments(&mut self, words: &mut Words, shape: Shape, store: &[u8]) {
+    fn push_arguments(&mut self, words: &mut Words, shape: Shape, target: Target) {
         match shape {
             Shape::Nothing | Shape::NoExp => {}
-            Shape::Fields => return self.push_fields(words, store, false),
-            Shape::Pairs => return self.push_fields(words, store, true),
-            _ => self.push_field(words, store),
+            Shape::Fields => return self.push_fields(words, target.store, false),
+            Shape::Pairs => return self.push_fields(words, target.store, true),
+            _ => self.push_field(words, target.slot),
         }
         match shape {
             Shape::FieldAndValue => {
                 self.push_value(words);
-                self.push_options(words, SET_OPTIONS, store);
+                self.push_options(words, SET_OPTIONS, target);
             }
             Shape::FieldAndIncrement => {
                 self.push_increment(words);
-                self.push_options(words, INCREMENT_OPTIONS, store);
+                self.push_options(words, INCREMENT_OPTIONS, target);
             }
             Shape::FieldAndTime(unit) => {
-                self.push_time(words, unit, store);
-                self.push_options(words, EXPIRE_OPTIONS, store);
+                self.push_time(words, unit, target.store);
+                self.push_options(words, EXPIRE_OPTIONS, target);
             }
-            Shape::FieldAndVersion => self.push_version(words, store),
+            Shape::FieldAndVersion => self.push_version(words, WRITTEN_VERSIONS, target.slot),
             Shape::NoExp if self.random.once_in(2) => {
                 words.push_in_some_case(b"NOEXP", &mut self.random)
             }
@@ -249,15 +279,16 @@ impl Generator {
     /// 1 to 6 fields, with values or without.
     fn push_fields(&mut self, words: &mut Words, store: &[u8], with_values: bool) {
         for _ in 0..self.random.between(1, 6) {
-            self.push_field(words, store);
+            let slot = self.slot(store);
+            self.push_field(words, slot);
             if with_values {
                 self.push_value(words);
             }
         }
     }
 
-    fn push_key(&mut self, words: &mut Words, store: &[u8]) {
-        match name_of(self.slot(store)) {
+    fn push_key(&mut self, words: &mut Words, slot: &[u8]) {
+        match name_of(slot) {
             Some((key, _)) if !self.random.once_in(8) => words.push(key),
             _ => words.push(usual_or_long(
                 &mut self.random,
@@ -267,8 +298,8 @@ impl Generator {
         }
     }
 
-    fn push_field(&mut self, words: &mut Words, store: &[u8]) {
-        match name_of(self.slot(store)) {
+    fn push_field(&mut self, words: &mut Words, slot: &[u8]) {
+        match name_of(slot) {
             Some((_, field)) if !self.random.once_in(3) => words.push(field),
             _ => words.push(usual_or_long(
                 &mut self.random,
@@ -295,23 +326,23 @@ impl Generator {
     }
 
     /// Each group's option or none, in any order; now and then one too many.
-    fn push_options(&mut self, words: &mut Words, groups: Groups, store: &[u8]) {
+    fn push_options(&mut self, words: &mut Words, groups: Groups, target: Target) {
         let first = self.random.below(groups.len());
         let backwards = self.random.once_in(2);
         for at in 0..groups.len() {
             let at = if backwards { groups.len() - 1 - at } else { at };
             let group = groups[(first + at) % groups.len()];
-            if self.random.once_in(3) {
-                self.push_option(words, &[group], store);
+            if self.random.once_in(2) {
+                self.push_option(words, &[group], target);
             }
         }
         if self.random.once_in(12) {
-            self.push_option(words, groups, store);
+            self.push_option(words, groups, target);
         }
     }
 
     /// One option with its operand, which is missing now and then.
-    fn push_option(&mut self, words: &mut Words, groups: &[&[OptionWord]], store: &[u8]) {
+    fn push_option(&mut self, words: &mut Words, groups: &[&[OptionWord]], target: Target) {
         let group = self.random.pick(groups);
         let (name, operand) = self.random.pick(group);
         words.push_in_some_case(name, &mut self.random);
@@ -320,34 +351,19 @@ impl Generator {
         }
         match operand {
             Operand::Nothing => {}
-            Operand::Time(unit) => self.push_time(words, unit, store),
-            Operand::Version => self.push_version(words, store),
-            Operand::GreaterVersion => self.push_greater_version(words, store),
+            Operand::Time(unit) => self.push_time(words, unit, target.store),
+            Operand::Version(versions) => self.push_version(words, versions, target.slot),
             Operand::Bound => self.push_increment(words),
         }
     }
 
-    /// A version: a slot's or one next to it, or an end.
-    fn push_version(&mut self, words: &mut Words, store: &[u8]) {
-        let held = low_first(&self.slot(store)[VERSION]);
+    /// A version: mostly near the slot's, or another, or a text that may be none.
+    fn push_version(&mut self, words: &mut Words, versions: Versions, slot: &[u8]) {
+        let held = i128::from(low_first(&slot[VERSION]));
         match self.random.below(8) {
             0 => words.push(self.random.pick(&text::NUMBERS)),
-            1 => words.push_number(i128::from(held) + 1),
-            2 => words.push_number(self.random.pick(&[0, 1, 2, i128::from(LARGEST_VERSION)])),
-            _ => words.push_number(i128::from(held)),
-        }
-    }
-
-    /// A version one below, at, one above or far above a slot's, or an end.
-    fn push_greater_version(&mut self, words: &mut Words, store: &[u8]) {
-        let held = i128::from(low_first(&self.slot(store)[VERSION]));
-        match self.random.below(8) {
-            0 => words.push(self.random.pick(&text::NUMBERS)),
-            1 => words.push_number(self.random.pick(&[0, i128::from(LARGEST_VERSION)])),
-            2 => words.push_number(held - 1),
-            3 | 4 => words.push_number(held),
-            5 => words.push_number(held + 1000),
-            _ => words.push_number(held + 1),
+            1..=3 => words.push_number(self.random.pick(versions.others).into()),
+            _ => words.push_number(held + self.random.pick(versions.near)),
         }
     }
 

@@ -189,6 +189,15 @@ impl Generator {
         let start = store_size(self.random.below(slots_of(store)));
         store.get(start..start + SLOT).unwrap_or(&[0; SLOT])
     }
+
+    /// One of the store's slots, a held one more often.
+    pub(crate) fn held_slot<'s>(&mut self, store: &'s [u8]) -> &'s [u8] {
+        let slot = self.slot(store);
+        match name_of(slot) {
+            Some(_) => slot,
+            None => self.slot(store),
+        }
+    }
 }
 
 fn store_clock(random: &mut Random) -> u64 {

@@ -71,7 +71,17 @@ pub const NUMBERS: [&[u8]; 27] = [
     &[b'1'; 70],
 ];
 
-pub const VERSIONS: [u32; 8] = [0, 1, 1, 2, 3, 7, LARGEST_VERSION - 1, LARGEST_VERSION];
+/// The largest stands there twice, so that it is met often enough to overflow.
+pub const VERSIONS: [u32; 8] = [
+    0,
+    1,
+    2,
+    3,
+    7,
+    LARGEST_VERSION - 1,
+    LARGEST_VERSION,
+    LARGEST_VERSION,
+];
 
 /// One of `usual`, or now and then of `long`.
 pub fn usual_or_long(

@@ -1,6 +1,6 @@
 //! What the generator promises of its inputs, judged by the model.
 
-use generate::layout::{LEAST_REPLY_BUFFER, store_size};
+use generate::layout::{LARGEST_VERSION, LEAST_REPLY_BUFFER, store_size};
 use generate::{Generator, LONGEST_REPLY_BUFFER, State, record};
 use model::feeder::whole;
 use model::reply::Refusal;
@@ -68,12 +68,12 @@ fn commands_meet_every_refusal() {
     assert_eq!(met.len(), 1 + Refusal::ALL.len());
 }
 
-/// On a field at version 7, VER, ABS and GT are offered alike, and GT with every telling operand.
-#[test]
-fn version_options_are_offered_alike() {
+/// The operands that VER, ABS and GT are offered with on a field at a version.
+fn version_operands(held: u32) -> [Vec<Vec<u8>>; 3] {
     let mut generator = Generator::new(7);
     let mut store = vec![0; store_size(1)];
-    whole(&record(0, "EXHSET m a 1 ABS 7"), &mut store);
+    whole(&record(0, "EXHSET m a 1"), &mut store);
+    whole(&record(0, &format!("EXHSETVER m a {held}")), &mut store);
     let mut met: BTreeMap<Vec<u8>, Vec<Vec<u8>>> = BTreeMap::new();
     for _ in 0..20_000 {
         let command = generator.command(&store);
@@ -83,22 +83,31 @@ fn version_options_are_offered_alike() {
             operands.push(operand.to_vec());
         }
     }
-    let [ver, abs, gt] = [&b"VER"[..], b"ABS", b"GT"].map(|option| &met[option]);
-    for other in [ver, abs] {
-        assert!(gt.len().abs_diff(other.len()) < gt.len() / 4);
-    }
-    for operand in [
-        &b"6"[..],
-        b"7",
-        b"8",
-        b"1007",
-        b"0",
-        b"4294967295",
-        b"4294967296",
-        b"-1",
-        b"01",
-    ] {
-        assert!(gt.iter().any(|given| given == operand), "{operand:?}");
+    [&b"VER"[..], b"ABS", b"GT"].map(|option| met.remove(option).unwrap_or_default())
+}
+
+/// VER, ABS and GT are offered alike, VER and GT with every telling operand, and VER 0 often.
+#[test]
+fn version_options_are_offered_alike() {
+    for held in [0, 1, 7, LARGEST_VERSION - 1, LARGEST_VERSION] {
+        let [ver, abs, gt] = version_operands(held);
+        for other in [&ver, &abs] {
+            assert!(gt.len().abs_diff(other.len()) < gt.len() / 4);
+        }
+        let count = |offered: &[Vec<u8>], operand: i64| {
+            let text = operand.to_string().into_bytes();
+            offered.iter().filter(|given| **given == text).count()
+        };
+        let (held, largest) = (i64::from(held), i64::from(LARGEST_VERSION));
+        for operand in [0, 1, held - 1, held, held + 1, largest, largest + 1, -1] {
+            assert!(count(&ver, operand) > 0, "VER {operand} at {held}");
+            assert!(count(&gt, operand) > 0, "GT {operand} at {held}");
+        }
+        assert!(count(&gt, held + 1000) > 0, "at {held}");
+        assert!(count(&ver, 0) > ver.len() / 8, "at {held}");
+        for text in [&b"00"[..], b"-0", b"01"].map(<[u8]>::to_vec) {
+            assert!(ver.contains(&text) && gt.contains(&text), "{text:?}");
+        }
     }
 }
 

@@ -69,8 +69,8 @@ fn feeding_byte_by_byte_gives_the_answers() {
     assert_eq!(count, CASES);
 }
 
-/// Every name and version option is offered, every refusal of a command given; bytes are skipped and
-/// left waiting.
+/// Every name and version option is offered, VER 0 too, every refusal of a command given; bytes are
+/// skipped and left waiting.
 #[test]
 fn the_cases_meet_every_name_and_refusal() {
     let cases = cases(SEED, CASES);
@@ -80,6 +80,7 @@ fn the_cases_meet_every_name_and_refusal() {
         let word = format!("${}\r\n{name}\r\n", name.len());
         assert!(streams.contains(&word), "{name}");
     }
+    assert!(streams.matches("$3\r\nVER\r\n$1\r\n0\r\n").count() >= 5);
     let replies: String = cases.iter().map(|case| text(&case.replies)).collect();
     let mut errors = BTreeMap::new();
     for line in replies.lines().filter(|line| line.starts_with("-ERR ")) {

@@ -11,10 +11,11 @@ pub enum Given {
     Gt(u32),
 }
 
-/// "If the field is live with a version other than 0 and v differs, refusal 20." "A GT not greater
-/// than a live field's version is 20."
+/// "If the field is live with a version other than 0 and v differs, refusal 20"; but "a VER of 0
+/// makes no version check". "A GT not greater than a live field's version is 20."
 pub fn is_stale(given: Given, live: Option<u32>) -> bool {
     match (given, live) {
+        (Given::Ver(0), _) => false,
         (Given::Ver(given), Some(held)) => held != 0 && given != held,
         (Given::Gt(given), Some(held)) => given <= held,
         _ => false,

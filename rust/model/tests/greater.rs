@@ -2,26 +2,8 @@
 
 mod common;
 
-use common::Handset;
+use common::{COMMANDS, Handset, live_at, without_field};
 use model::layout::{LARGEST_VERSION, TIME_LIMIT};
-
-/// The six commands that take GT, on key m and field a.
-const COMMANDS: [&str; 6] = [
-    "EXHSET m a 1",
-    "EXHINCRBY m a 1",
-    "EXHEXPIRE m a 9",
-    "EXHEXPIREAT m a 9",
-    "EXHPEXPIRE m a 9",
-    "EXHPEXPIREAT m a 9",
-];
-
-/// A handset with a = 1 at a version.
-fn live_at(version: u32) -> Handset {
-    let mut handset = Handset::new(1);
-    handset.reply(0, "EXHSET m a 1");
-    handset.reply(0, &format!("EXHSETVER m a {version}"));
-    handset
-}
 
 #[test]
 fn the_session_of_source_001() {
@@ -66,10 +48,7 @@ fn it_must_be_greater_and_becomes_the_version() {
 fn a_missing_field_takes_it_and_a_setter_still_replies_0() {
     for (at, command) in COMMANDS.iter().enumerate() {
         let (reply, version) = if at < 2 { (":1", ":5") } else { (":0", ":-1") };
-        // Empty, or dead at a greater version.
-        let mut dead = live_at(9);
-        dead.reply(0, "EXHPEXPIRE m a 1");
-        for mut handset in [Handset::new(1), dead] {
+        for mut handset in without_field() {
             assert_eq!(handset.reply(1, &format!("{command} GT 5")), reply);
             assert_eq!(handset.reply(1, "EXHVER m a"), version, "{command}");
         }

@@ -3,7 +3,19 @@
 use model::layout::{LEAST_REPLY_BUFFER, MARK, store_size};
 use model::{Fed, Feeder, execute, feed};
 
+/// The six commands that take VER, ABS or GT, on key m and field a.
+#[allow(dead_code)]
+pub const COMMANDS: [&str; 6] = [
+    "EXHSET m a 1",
+    "EXHINCRBY m a 1",
+    "EXHEXPIRE m a 9",
+    "EXHEXPIREAT m a 9",
+    "EXHPEXPIRE m a 9",
+    "EXHPEXPIREAT m a 9",
+];
+
 /// A fresh store of some slots.
+#[derive(Clone)]
 pub struct Handset {
     pub store: Vec<u8>,
     reply: Vec<u8>,
@@ -37,6 +49,23 @@ impl Handset {
         let reply = lines(&self.reply[..fed.reply_len]);
         (fed, reply)
     }
+}
+
+/// A handset of one slot with a = 1 at a version.
+#[allow(dead_code)]
+pub fn live_at(version: u32) -> Handset {
+    let mut handset = Handset::new(1);
+    handset.reply(0, "EXHSET m a 1");
+    handset.reply(0, &format!("EXHSETVER m a {version}"));
+    handset
+}
+
+/// Handsets of one slot in which a is missing from clock 1 on: empty, and with a dead at version 9.
+#[allow(dead_code)]
+pub fn without_field() -> [Handset; 2] {
+    let mut dead = live_at(9);
+    dead.reply(0, "EXHPEXPIRE m a 1");
+    [Handset::new(1), dead]
 }
 
 pub fn resp(command: &str) -> Vec<u8> {
