@@ -1,6 +1,6 @@
 -- A version that only moves forward: what a command with GT leaves, and that of two counts the later one wins.
 use mathlib.Core.Path.{_≡_, refl, _∙_}
-use mathlib.Core.Logic.{_≢_, inl, inr, _↔_}
+use mathlib.Core.Logic.{_≢_, _↔_}
 use mathlib.Core.Bool.{Bool, true, false, cond, not, _||_}
 use mathlib.Core.List.{List, [], _∷_}
 use mathlib.Core.Option.{none, some}
@@ -34,11 +34,10 @@ use Rattle.commands.proofs.Went.{effectOn}
 use Rattle.commands.proofs.Sweep.{room-sweep}
 use Rattle.commands.proofs.Clock.{dead-later}
 use Rattle.commands.proofs.Full.{done-exactly}
-use Rattle.commands.proofs.Exactly.{late-exactly}
 use Rattle.commands.proofs.Refused.{refused-keeps-live}
 use Rattle.commands.proofs.Keeps.{exec-apart}
 use Rattle.commands.proofs.GivenVersion.{above-most, parse-anytime}
-use Rattle.commands.proofs.VersionOption.{Changed, named-entry, live-found, dead-gone, wrote-one, late-applied, given-changed, given-writes-unless, given-leaves, given-stale-exactly}
+use Rattle.commands.proofs.VersionOption.{named-entry, live-found, dead-gone, wrote-one, and-none, overflow-given, given-passes, given-leaves, given-stale-exactly}
 
 -- As time goes no slot is lost that was empty or dead.
 room-later : (now later : ℕ) → now ≤ later → (ss : List Slot) → room now ss ≤ room later ss
@@ -68,10 +67,6 @@ module _ (clock : ℕ) (command : List ℕ) (s : Store) (k f : Word) (d : Deed) 
   abbrev did : Effect
   did = effectOn (nowAt clock s) (onField k f d) s
 
-  -- It writes its field, unless it is idle.
-  pub above-writes-unless : any (writes k f) (did .changes) ≡ not (idle d (entryOf k f left))
-  above-writes-unless = given-writes-unless clock command s k f d (Above v) (above-given v) a h
-
   -- If it is done and writes its field, it leaves it at version v, and a live one was below v.
   pub above-forward : Apart (s .slots) → exec clock command s .refusal ≡ none → any (writes k f) (did .changes) ≡ true
       → Numbered k f v (exec clock command s .store .slots)
@@ -95,17 +90,14 @@ module _ (clock : ℕ) (command : List ℕ) (s : Store) (k f : Word) (d : Deed) 
       )
 
   above-within : any passes (did .changes) ≡ false
-  unfolding any passes nextVersion
-  above-within = go (given-changed clock command s k f d (Above v) (above-given v) a h)
-    where
-      go : Changed k f (Above v) d (entryOf k f left) did → any passes (did .changes) ≡ false
-      go (inl (i, q, z)) = rw q refl
-      go (inr (e, i, q, n, m, st)) = rw (q, m, le-ltb versionMost v (above-most (nowAt clock s) clock command k f d v a h)) refl
+  unfolding nextVersion
+  above-within =
+      given-passes clock command s k f d (Above v) (above-given v) a h
+      ∙ rw (le-ltb versionMost v (above-most (nowAt clock s) clock command k f d v a h)) (and-none (not (idle d (entryOf k f left))))
 
   -- It is never refused with 23.
   pub above-never-passes : exec clock command s .refusal ≡ some 23 → ⊥
-  above-never-passes r =
-      both-ways (late-applied (nowAt clock s) did _ 23 (late-exactly clock command s (onField k f d) a 23 .0 r .applies) .1 refl) above-within
+  above-never-passes r = both-ways (overflow-given clock command s (onField k f d) a .0 r .3) above-within
 
 -- ---- the later count wins
 

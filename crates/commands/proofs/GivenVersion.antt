@@ -1,30 +1,37 @@
--- What an accepted command says of its field's version, and that a command without an expiry option says the same at any time.
+-- What an accepted command says of its field's version, that a command without an expiry option says the same at any time, and how VER is read.
 use mathlib.Core.Path.{_≡_, refl}
 use mathlib.Core.Bool.{Bool, true, false, cond}
-use mathlib.Core.List.{List, []}
+use mathlib.Core.List.{List, [], _∷_, map}
 use mathlib.Core.Option.{Option, none, some, Option·getD}
-use Prim.Native.Nat.{ℕ, _≤_}
+use Prim.Native.Nat.{ℕ, _≤_, _<_}
+use Prim.Native.String.{String}
 use lib.Dec.{leb}
 use lib.IntN.{ℤ, pos, negsuc, natAbs}
+use lib.ListN.{length}
 use native.Mathlib.Omega.{arith}
-use borrow.Author.Tests.{leb-true, lt-leb}
-use Rattle.wire.specs.Lists.{any, isSome, orElse}
-use Rattle.wire.specs.Integers.{readInteger, within}
+use borrow.Author.Tests.{leb-true, le-leb, lt-leb, le-ltb}
+use Rattle.wire.specs.Lists.{all, any, isSome, orElse}
+use Rattle.wire.specs.Bytes.{text, spells, upper, same}
+use Rattle.wire.specs.Integers.{readInteger, within, integerText, lowest64, highest64}
 use Rattle.wire.specs.Words.{Word, wordAt}
+use Rattle.wire.specs.Replies.{respOf}
 use Rattle.wire.proofs.Lists.{impossible, and-right, both-ways}
-use Rattle.wire.proofs.IntegerLaws.{read-within}
-use Rattle.store.specs.Layout.{timeLimit, versionMost}
+use Rattle.wire.proofs.IntegerLaws.{read-text, read-within}
+use Rattle.wire.proofs.WordLaws.{words-respOf}
+use Rattle.store.specs.Layout.{keyMost, fieldMost, valueMost, timeLimit, versionMost}
 use Rattle.commands.specs.declared.Versioning.{Versioning}
-use Rattle.commands.specs.declared.Versioning.the-variants.{Next, Above}
+use Rattle.commands.specs.declared.Versioning.the-variants.{Next, Match, Above}
 use Rattle.commands.specs.declared.Lifetime.the-variants.{Clear}
 use Rattle.commands.specs.declared.Condition.{Condition}
+use Rattle.commands.specs.declared.Condition.the-variants.{Always}
 use Rattle.commands.specs.Refusal.{lowest}
-use Rattle.commands.specs.Command.{Deed}
-use Rattle.commands.specs.Command.Deed.{assign}
+use Rattle.commands.specs.Command.{Deed, keyOf, fieldsOf, deedValues, valuesOf}
+use Rattle.commands.specs.Command.Deed.{assign, increment, expire}
 use Rattle.commands.specs.Command.Command.{onField, countHeld, countLive}
-use Rattle.commands.specs.Options.{OptionKind, Given, versions, readIn, numberIn, naturalIn, options, expiryGroup, versionGroup, noExpGroup, givenOf, lifetimeOf, versioningOf, lifetime, versioning}
+use Rattle.commands.specs.Options.{TimeUnit, OptionKind, Given, versions, readIn, readable, numberIn, naturalIn, instant, options, group, operandRange, optionNamed, scan, conflicting, readableOperand, expiryGroup, versionGroup, noExpGroup, givenOf, lifetimeOf, versioningOf, lifetime, condition, versioning, boundIn}
 use Rattle.commands.specs.Options.OptionKind.{expires, keepTTL, only, versioned, bound, noExp}
-use Rattle.commands.specs.Parse.{Form, allowed, optionWords, build, deedVersioning, checks, scannedOf, saidBy, parseWords, parse}
+use Rattle.commands.specs.Parse.{Form, row, commands, commandNamed, countFits, allowed, optionWords, numberRange, build, tooLong, isZero, deedVersioning, beyond, deedLifetime, onDeed, laterChecks, checks, scannedOf, saidBy, parseWords, parse}
+use Rattle.commands.specs.Parse.Count.{atLeast}
 use Rattle.commands.specs.Parse.Form.{setForm, setManyForm, incrementForm, expireForm, persistForm, renumberForm, askForm, getManyForm, deleteForm, countForm, listForm}
 use Rattle.commands.specs.Parse.Parsed.{accepted}
 use Rattle.commands.proofs.ParseChecks.{parse-accepted}
@@ -154,3 +161,44 @@ module _ (k f x : Word) (c : Condition) (n : Versioning) where
       let clear : lowest (checks form (a .row .count) (a .words) (scannedOf form (a .words)) (onField k f (assign x c n Clear))) ≡ none =
       rw (a .built) at (a .clear) in
       rw (a .split) (rw (lt-leb timeLimit clock (a .early)) (rw (a .named) (rw again (rw clear refl))))
+
+-- ---- VER as it is sent
+
+-- to compute what words say, with the numbers among them left as texts
+parsing : Unit {0}
+unfolding parse parseWords orElse commandNamed commands spells upper same map text wordAt checks laterChecks scan optionNamed options operandRange optionWords allowed group build tooLong keyOf fieldsOf valuesOf deedValues countFits conflicting readableOperand readable readIn numberIn naturalIn versioning condition lifetime givenOf versioningOf boundIn isZero deedVersioning beyond deedLifetime onDeed lowest any all isSome numberRange
+parsing = tt
+
+natural-read : (most n : ℕ) → n ≤ most → readInteger (pos 0) (pos most) (integerText (pos n)) ≡ some (pos n)
+unfolding within
+natural-read most n l = read-text (pos 0) (pos most) (pos n) (rw (le-leb 0 n (omega arith), le-leb n most l) refl)
+
+module _ (now clock : ℕ) (k f : Word) (v : ℕ) (c : clock < timeLimit) (lk : length k ≤ keyMost) (lf : length f ≤ fieldMost) (lv : v ≤ versionMost) where
+  abbrev sent : Word → Word → List Word
+  sent name x = name ∷ k ∷ f ∷ x ∷ text "VER" ∷ integerText (pos v) ∷ []
+
+  -- An EXHSET with VER v and no other option, as it is sent, is read as just that,
+  pub sent-assign : (x : Word) → length x ≤ valueMost
+      → parse now clock (respOf (sent (text "EXHSET") x)) ≡ accepted (onField k f (assign x Always (Match v) Clear))
+  unfolding parsing
+  sent-assign x lx =
+      rw (words-respOf (sent (text "EXHSET") x) (omega arith) (omega arith), lt-leb timeLimit clock c, le-ltb keyMost (length k) lk, le-ltb fieldMost (length f) lf)
+      (rw (le-ltb valueMost (length x) lx, natural-read versionMost v lv) refl)
+
+  -- and so are an EXHINCRBY
+  pub sent-increment : (z : ℤ) → within lowest64 highest64 z ≡ true
+      → parse now clock (respOf (sent (text "EXHINCRBY") (integerText z))) ≡ accepted (onField k f (increment z lowest64 highest64 (Match v) Clear))
+  unfolding parsing
+  sent-increment z inside =
+      rw (words-respOf (sent (text "EXHINCRBY") (integerText z)) (omega arith) (omega arith), lt-leb timeLimit clock c)
+      (rw (le-ltb keyMost (length k) lk, le-ltb fieldMost (length f) lf, read-text lowest64 highest64 z inside, natural-read versionMost v lv) refl)
+
+  -- and an expiry setter.
+  pub sent-expire : (name : String) (u : TimeUnit) (n : ℕ) → commandNamed commands (text name) ≡ some (row name (atLeast 4) (expireForm u)) → n ≤ timeLimit
+      → instant now u (integerText (pos n)) ≤ timeLimit
+      → parse now clock (respOf (sent (text name) (integerText (pos n)))) ≡ accepted (onField k f (expire (instant now u (integerText (pos n))) (Match v)))
+  unfolding parsing
+  sent-expire name u n named ln li =
+      rw (words-respOf (sent (text name) (integerText (pos n))) (omega arith) (omega arith), lt-leb timeLimit clock c, named)
+      (rw (le-ltb keyMost (length k) lk, le-ltb fieldMost (length f) lf, natural-read timeLimit n ln, natural-read versionMost v lv)
+      (rw (le-ltb timeLimit (instant now u (integerText (pos n))) li) refl))

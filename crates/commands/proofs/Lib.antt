@@ -20,7 +20,7 @@ pub mod SomeReply
 pub mod Names
 pub mod Ready
 pub mod AllOrNone
--- ---- what VER, ABS and GT do: a version that only moves forward, one that is compared unless it is 0
+-- ---- what VER, ABS and GT do: a version that only moves forward, a version that is checked
 pub mod VersionOption
 pub mod GivenVersion
 pub mod Forward

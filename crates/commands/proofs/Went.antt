@@ -68,3 +68,9 @@ accepted-refusal clock command s c a = go (went clock command s)
     go (early n p) = cc
     go (late d n p l) = let m : c ≡ d = cc in rw (m, l)
     go (done d p l) = let m : c ≡ d = cc in rw (m, l)
+
+-- An accepted command is run.
+pub accepted-runs : (clock : ℕ) (command : List ℕ) (s : Store) (c : Command) → parse (nowAt clock s) clock command ≡ accepted c
+    → exec clock command s ≡ run (nowAt clock s) c s
+unfolding exec perform
+accepted-runs clock command s c a = rw a refl

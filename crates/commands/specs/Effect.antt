@@ -64,7 +64,8 @@ changeAll now (c ∷ cs) ss = changeAll now cs (change now c ss)
 -- ---- versions
 
 -- "No VER or ABS: a missing field gets 1, a live one its version plus 1." "VER v: .. else as above." "ABS v: version v" M-100: "the given version must
--- be greater than the stored one and becomes the version"; "A missing field takes it as its version."
+-- be greater than the stored one and becomes the version"; "A missing field takes it as its version." M-101: "With VER 0 a missing field gets 1 and a
+-- live one its version plus 1."
 unfoldable pub nextVersion : Versioning → Option Entry → ℕ
 nextVersion Next found = orElse found 1 (λ e. e .version + 1)
 nextVersion (Match v) found = orElse found 1 (λ e. e .version + 1)
@@ -72,14 +73,14 @@ nextVersion (Exactly v) found = v
 nextVersion (Above v) found = v
 
 -- "VER v: if the field is live with a version other than 0 and v differs, refusal 20" M-100: "a GT not greater than a live field's version is 20"
--- M-101: "a VER of 0 makes no version check", in place of 01's "A VER of 0 is compared like any other."
+-- M-101: "a VER of 0 makes no version check. Here 004 decides, not 000", in place of 01's "A VER of 0 is compared like any other."
 unfoldable pub isStale : Versioning → Option Entry → Bool
 isStale Next found = false
 isStale (Match v) found = orElse found false (λ e. not (eqb v 0) && not (eqb (e .version) 0) && not (eqb (e .version) v))
 isStale (Exactly v) found = false
 isStale (Above v) found = orElse found false (λ e. leb v (e .version))
 
--- "The four expiry setters change the version only when VER or ABS is given." M-100: GT is taken there too
+-- "The four expiry setters change the version only when VER or ABS is given." M-100: GT is taken there too. M-101: VER 0 is given like any VER
 unfoldable pub setterVersion : Versioning → Entry → ℕ
 setterVersion Next e = e .version
 setterVersion (Match v) e = nextVersion (Match v) (some e)

@@ -388,7 +388,7 @@ changeRequestCases =
     ∷ [])
     1000 (entry "m" "a" "2" 2 Never) (entry "m" "b" "2" 2 Never)
     ∷ case "M-101: a live at version 3, EXHSET m a 1 VER 0: 0, version 4"
-    (request 1000 "EXHSET m a 1 ABS 3" ":1\r\n"
+    (request 1000 "EXHSET m a 7 ABS 3" ":1\r\n"
     ∷ request 1000 "EXHSET m a 1 VER 0" ":0\r\n"
     ∷ request 1000 "EXHVER m a" ":4\r\n"
     ∷ [])
@@ -460,6 +460,19 @@ changeRequestCases =
     ∷ refusal 1000 "EXHINCRBY m b 1 VER 1" 20 "-ERR update version is stale\r\n"
     ∷ [])
     1000 (entry "m" "a" "4" 5 Never) (entry "m" "b" "2" 2 Never)
+    ∷ case "M-101: a large VER is compared like a small one, and only 0 is read as 0; VER 0 at a large version"
+    (request 1000 "EXHSET m a 1 ABS 4294967294" ":1\r\n"
+    ∷ refusal 1000 "EXHSET m a 2 VER 4294967295" 20 "-ERR update version is stale\r\n"
+    ∷ refusal 1000 "EXHINCRBY m a 1 VER 10" 20 "-ERR update version is stale\r\n"
+    ∷ refusal 1000 "EXHPEXPIRE m a 500 VER 4294967293" 20 "-ERR update version is stale\r\n"
+    ∷ refusal 1000 "EXHSET m a 2 VER 4294967296" 16 "-ERR value is not an integer or out of range\r\n"
+    ∷ refusal 1000 "EXHSET m a 2 VER -0" 16 "-ERR value is not an integer or out of range\r\n"
+    ∷ request 1000 "EXHSET m a 2 VER 4294967294" ":0\r\n"
+    ∷ refusal 1000 "EXHSET m a 3 VER 4294967295" 23 "-ERR version overflow\r\n"
+    ∷ request 1000 "EXHSET m b 1 ABS 1000000" ":1\r\n"
+    ∷ request 1000 "EXHEXPIRE m b 9 VER 0" ":1\r\n"
+    ∷ [])
+    1000 (entry "m" "a" "2" 4294967295 Never) (entry "m" "b" "1" 1000001 (At 10000))
     ∷ case "M-101: VER 0 beside the options of the other groups"
     (request 1000 "EXHSET m a 1 VER 0 NX PX 500" ":1\r\n"
     ∷ request 1000 "EXHSET m a 2 XX KEEPTTL VER 0" ":0\r\n"

@@ -12,7 +12,7 @@ ghost use Rattle.store.specs.Layout.{versionMost};
 ghost use Rattle.commands.specs.Effect.{isStale, nextVersion, setterVersion, nextExpiry, barred};
 ghost use Rattle.commands.specs.Promises.{entryFor, versioned, expiring};
 
-// Whether VER names another version than the one that is held, or GT one that is not greater. VER 0 names none.
+// Whether VER names another version than the one that is held, or GT one that is not greater. VER 0 is not compared, and a held 0 with no VER.
 pub fn is_stale(versioning: Versioning, held: u64) -> bool
     ensures { λ r. ⌜ r ≡ isStale versioning (some (versioned held)) ⌝ }
 {

@@ -1,24 +1,27 @@
 -- The customer's three demands over the definitions: the page to open first. Each theorem has one plain sentence above it; the proofs are laws
 -- of the other files. `exec` is one record on what a store holds, `execBytes` the same on its bytes, `meaning` demand 3's definition of a whole
 -- stream, `absorb` the bytes that one call takes, `feed` one feeding call. The definitions speak of lists of numbers: where a theorem asks for
--- `Bytes` or `AllBytes`, the numbers are below 256, as the elements of the code's slices always are.
+-- `Bytes` or `AllBytes`, the numbers are below 256, as the elements of the code's slices always are. A `Valid` store is one that well-formed bytes hold
+-- (`store-bytes-only`). What a command on one field says of its version is `deedVersioning`: `Next` nothing, `Match v` VER v, `Exactly v` ABS v,
+-- `Above v` GT v.
 use mathlib.Core.Path.{_≡_, refl, sym, ap, _∙_}
 use mathlib.Core.Logic.{_≢_, _⊎_, _↔_}
 use mathlib.Core.Bool.{true, false, not}
 use mathlib.Core.List.{List, [], _∷_, _++_, map, flatten, flatMap, List·Mem}
 use mathlib.Core.Option.{none, some}
 use Prim.Native.Nat.{ℕ, suc, _+_, _*_, _^_, _≤_, _<_}
-use lib.IntN.{ℤ}
+use Prim.Native.String.{String}
+use lib.IntN.{ℤ, pos}
 use lib.ListN.{length, drop, getD}
 use Rattle.wire.specs.Lists.{any, keep}
 use Rattle.wire.specs.Bytes.{Bytes, part, text}
-use Rattle.wire.specs.Integers.{within, readInteger, integerText}
+use Rattle.wire.specs.Integers.{lowest64, highest64, within, readInteger, integerText}
 use Rattle.wire.specs.Words.{Word, wordsMost, wordsOf, crlf}
-use Rattle.wire.specs.Replies.{line, respOf, laidOver}
+use Rattle.wire.specs.Replies.{line, number, respOf, laidOver}
 use Rattle.wire.proofs.IntegerLaws.{read-text, text-read, read-within}
 use Rattle.wire.proofs.WordLaws.{words-respOf, respOf-words, words-count}
-use Rattle.store.specs.Layout.{headerSize, slotSize, versionMost}
-use Rattle.store.specs.declared.Expiry.the-variants.{Never}
+use Rattle.store.specs.Layout.{headerSize, slotSize, keyMost, fieldMost, valueMost, versionMost, timeLimit}
+use Rattle.store.specs.declared.Expiry.the-variants.{Never, At}
 use Rattle.store.specs.Store.{Entry, entry, Slot, Store, withClock, decode, encode, wellFormed, slotCount}
 use Rattle.store.specs.Time.{nowAt, live, entryOf}
 use Rattle.store.specs.Valid.{Valid}
@@ -30,12 +33,15 @@ use Rattle.commands.specs.declared.Lifetime.the-variants.{Clear}
 use Rattle.commands.specs.declared.Condition.{Condition}
 use Rattle.commands.specs.declared.Condition.the-variants.{Always}
 use Rattle.commands.specs.Command.{Deed, Command, Pair, keyOf, fieldsOf}
-use Rattle.commands.specs.Command.Deed.{assign, increment}
+use Rattle.commands.specs.Command.Deed.{assign, increment, expire}
 use Rattle.commands.specs.Command.Command.{onField, setMany}
-use Rattle.commands.specs.Parse.{deedVersioning, parse}
+use Rattle.commands.specs.Options.{TimeUnit, instant}
+use Rattle.commands.specs.Parse.{row, commands, commandNamed, deedVersioning, parse}
+use Rattle.commands.specs.Parse.Count.{atLeast}
+use Rattle.commands.specs.Parse.Form.{expireForm}
 use Rattle.commands.specs.Parse.Parsed.{refused, accepted}
 use Rattle.commands.specs.Effect.{effect, changeAll}
-use Rattle.commands.specs.Execute.{sweep, swept, writes, room, added, lateChecks, run, exec, execBytes}
+use Rattle.commands.specs.Execute.{sweep, swept, writes, room, added, lateChecks, exec, execBytes}
 use Rattle.commands.specs.Claims.{earlyChecks, LowestOf, Proper, names, lastOf, Written, Numbered, idle, Behind, Step, execAll}
 use Rattle.commands.specs.Examples.{given, expected, markedExamples, workedCases, commandCases, changeRequestCases}
 use Rattle.commands.proofs.Examples as commandExamples
@@ -44,8 +50,10 @@ use Rattle.commands.proofs.Exactly.{early-exactly, early-lowest, late-exactly, 
 use Rattle.commands.proofs.Sweep.{room-sweep}
 use Rattle.commands.proofs.Others.{others-kept, others-from}
 use Rattle.commands.proofs.AllOrNone.{all-set}
-use Rattle.commands.proofs.Forward.{above-forward, above-writes-unless, above-stale-exactly, above-never-passes, greater-wins}
-use Rattle.commands.proofs.VersionCheck.{zero-never-stale, zero-sets-as-none, zero-adds-as-none, zero-overflows-exactly, match-stale-exactly, match-raises, match-starts, match-writes-unless}
+use Rattle.commands.proofs.GivenVersion.{sent-assign, sent-increment, sent-expire}
+use Rattle.commands.proofs.VersionOption.{given-writes-unless}
+use Rattle.commands.proofs.Forward.{above-forward, above-stale-exactly, above-never-passes, greater-wins}
+use Rattle.commands.proofs.VersionCheck.{match-stale-exactly, match-next, zero-never-stale, zero-overflows-exactly, zero-sets-live, zero-sets-none, zero-assigns-as-none, zero-increments-as-none}
 use Rattle.commands.proofs.Clock.{clock-is-now, clock-forward-all, dead-at-clock, dead-stays-dead}
 use Rattle.commands.proofs.Full.{full-exactly, full-accepted, done-exactly}
 use Rattle.commands.proofs.SomeReply.{exec-some, refused-said}
@@ -278,6 +286,16 @@ pub dead-is-missing : (clock : ℕ) (command : List ℕ) (s : Store) (c : Comman
     → exec clock command s ≡ exec clock command (swept (nowAt clock s) (keyOf c) (fieldsOf c) s)
 dead-is-missing = dead-as-missing
 
+-- ════ Demand 2: VER, ABS and GT
+
+-- The effect of a command with VER, ABS or GT writes its field, unless it is an EXHSET that NX or XX bars or an expiry setter of a missing field.
+pub option-writes-unless : (clock : ℕ) (command : List ℕ) (s : Store) (k f : Word) (d : Deed)
+    → parse (nowAt clock s) clock command ≡ accepted (onField k f d) → deedVersioning d ≢ Next
+    → let left = sweep (nowAt clock s) k (f ∷ []) (s .slots) in
+    any (writes k f) (effect (nowAt clock s) (onField k f d) left .changes) ≡ not (idle d (entryOf k f left))
+unfolding keyOf fieldsOf
+option-writes-unless clock command s k f d p given = given-writes-unless clock command s k f d (deedVersioning d) given p refl
+
 -- ════ Demand 2: a version that only moves forward (M-100)
 
 -- A command with GT v that is not refused and writes its field leaves it at version v; and where the field was live it was below v.
@@ -290,15 +308,7 @@ pub gt-only-forward : (clock : ℕ) (command : List ℕ) (s : Store) (k f : Word
 unfolding keyOf fieldsOf
 gt-only-forward clock command s k f d v valid p g = above-forward clock command s k f d v p g (valid .apart)
 
--- The effect of a command with GT writes its field, unless it is an EXHSET that NX or XX bars or an expiry setter of a missing field.
-pub gt-writes-unless : (clock : ℕ) (command : List ℕ) (s : Store) (k f : Word) (d : Deed) (v : ℕ)
-    → parse (nowAt clock s) clock command ≡ accepted (onField k f d) → deedVersioning d ≡ Above v
-    → let left = sweep (nowAt clock s) k (f ∷ []) (s .slots) in
-    any (writes k f) (effect (nowAt clock s) (onField k f d) left .changes) ≡ not (idle d (entryOf k f left))
-unfolding keyOf fieldsOf
-gt-writes-unless = above-writes-unless
-
--- A command with GT v is refused with 20 exactly if its field is live at v or above, and NX or XX does not bar it.
+-- A command with GT v is refused with 20 exactly if its field is live at v or above, and no NX bars it.
 pub gt-stale-exactly-if : (clock : ℕ) (command : List ℕ) (s : Store) (k f : Word) (d : Deed) (v : ℕ) → Valid s
     → parse (nowAt clock s) clock command ≡ accepted (onField k f d) → deedVersioning d ≡ Above v
     → (exec clock command s .refusal ≡ some 20)
@@ -323,21 +333,44 @@ later-count-wins first second s k f x y v w valid = greater-wins first second s 
 
 -- ════ Demand 2: VER 0 is not compared (M-101)
 
--- No command with VER 0 is refused with 20.
+-- VER v with no other option, as it is sent, is read as just that: by EXHSET, by EXHINCRBY, and by a name that the table has as an expiry setter.
+pub ver-as-sent : (now clock : ℕ) (k f : Word) (v : ℕ) → clock < timeLimit → length k ≤ keyMost → length f ≤ fieldMost → v ≤ versionMost
+    → let sent : Word → Word → List ℕ = λ name x. respOf (name ∷ k ∷ f ∷ x ∷ text "VER" ∷ integerText (pos v) ∷ []) in
+    ((x : Word) → length x ≤ valueMost → parse now clock (sent (text "EXHSET") x) ≡ accepted (onField k f (assign x Always (Match v) Clear)))
+    × ((z : ℤ) → within lowest64 highest64 z ≡ true
+    → parse now clock (sent (text "EXHINCRBY") (integerText z)) ≡ accepted (onField k f (increment z lowest64 highest64 (Match v) Clear)))
+    × ((name : String) (u : TimeUnit) (n : ℕ) → commandNamed commands (text name) ≡ some (row name (atLeast 4) (expireForm u))
+    → let t = integerText (pos n) in
+    n ≤ timeLimit → instant now u t ≤ timeLimit → parse now clock (sent (text name) t) ≡ accepted (onField k f (expire (instant now u t) (Match v))))
+ver-as-sent now clock k f v c lk lf lv =
+    (sent-assign now clock k f v c lk lf lv, sent-increment now clock k f v c lk lf lv, sent-expire now clock k f v c lk lf lv)
+
+-- No command with VER 0 is refused with 20, on any store, at any clock.
 pub ver-0-never-stale : (clock : ℕ) (command : List ℕ) (s : Store) (k f : Word) (d : Deed)
     → parse (nowAt clock s) clock command ≡ accepted (onField k f d) → deedVersioning d ≡ Match 0 → exec clock command s .refusal ≢ some 20
 ver-0-never-stale = zero-never-stale
 
--- An EXHSET or EXHINCRBY past checks 10 to 18 with VER 0 has the outcome of the same parsed command with no version option.
-pub ver-0-as-none : (clock : ℕ) (command : List ℕ) (s : Store) (k f : Word) (t : Lifetime)
-    → ((x : Word) (c : Condition) → parse (nowAt clock s) clock command ≡ accepted (onField k f (assign x c (Match 0) t))
-    → exec clock command s ≡ run (nowAt clock s) (onField k f (assign x c Next t)) s)
-    × ((a l g : ℤ) → parse (nowAt clock s) clock command ≡ accepted (onField k f (increment a l g (Match 0) t))
-    → exec clock command s ≡ run (nowAt clock s) (onField k f (increment a l g Next t)) s)
-ver-0-as-none clock command s k f t = (zero-sets-as-none clock command s k f t, zero-adds-as-none clock command s k f t)
+-- An EXHSET or EXHINCRBY past checks 10 to 18 with VER 0 has the outcome of a command that says the same with no version option.
+pub ver-0-as-none : (clock : ℕ) (command plain : List ℕ) (s : Store) (k f : Word)
+    → ((x : Word) (c : Condition) (t : Lifetime) → parse (nowAt clock s) clock command ≡ accepted (onField k f (assign x c (Match 0) t))
+    → parse (nowAt clock s) clock plain ≡ accepted (onField k f (assign x c Next t)) → exec clock command s ≡ exec clock plain s)
+    × ((a l g : ℤ) (t : Lifetime) → parse (nowAt clock s) clock command ≡ accepted (onField k f (increment a l g (Match 0) t))
+    → parse (nowAt clock s) clock plain ≡ accepted (onField k f (increment a l g Next t)) → exec clock command s ≡ exec clock plain s)
+ver-0-as-none clock command plain s k f = (zero-assigns-as-none clock command plain s k f, zero-increments-as-none clock command plain s k f)
 
--- A command with VER 0 is refused with 23 exactly if its field is live at the largest version, NX or XX does not bar it, and neither 21 nor 22
--- applies.
+-- An expiry setter with VER 0 of a live field below the largest version replies 1 and leaves the field with its value, its version plus 1 and the
+-- given expiry; of a missing or dead one it replies 0, and the field is missing then.
+pub ver-0-setter : (clock : ℕ) (command : List ℕ) (s : Store) (k f : Word) (t : ℕ) → Valid s
+    → parse (nowAt clock s) clock command ≡ accepted (onField k f (expire t (Match 0)))
+    → let o = exec clock command s in
+    ((x : Entry) → entryOf k f (s .slots) ≡ some x → live (nowAt clock s) x ≡ true → x .version < versionMost
+    → (o .refusal ≡ none) × (o .reply ≡ number 1) × (entryOf k f (o .store .slots) ≡ some (entry k f (x .value) (x .version + 1) (At t))))
+    × (((x : Entry) → entryOf k f (s .slots) ≡ some x → live (nowAt clock s) x ≡ false)
+    → (o .refusal ≡ none) × (o .reply ≡ number 0) × (entryOf k f (o .store .slots) ≡ none))
+ver-0-setter clock command s k f t valid p =
+    (zero-sets-live clock command s k f t p (valid .apart), zero-sets-none clock command s k f t p (valid .apart))
+
+-- A command with VER 0 is refused with 23 exactly if its field is live at the largest version, no NX bars it, and neither 21 nor 22 applies.
 pub ver-0-overflows-exactly-if : (clock : ℕ) (command : List ℕ) (s : Store) (k f : Word) (d : Deed) → Valid s
     → parse (nowAt clock s) clock command ≡ accepted (onField k f d) → deedVersioning d ≡ Match 0
     → let e = effect (nowAt clock s) (onField k f d) (sweep (nowAt clock s) k (f ∷ []) (s .slots)) in
@@ -352,8 +385,7 @@ pub ver-0-overflows-exactly-if : (clock : ℕ) (command : List ℕ) (s : Store) 
 unfolding keyOf fieldsOf
 ver-0-overflows-exactly-if clock command s k f d valid p g = zero-overflows-exactly clock command s k f d p g (valid .apart) (valid .fits)
 
--- A command with VER v is refused with 20 exactly if v is not 0, its field is live at a version that is neither 0 nor v, and NX or XX does not bar
--- it.
+-- A command with VER v is refused with 20 exactly if v is not 0, its field is live at a version that is neither 0 nor v, and no NX bars it.
 pub ver-stale-exactly-if : (clock : ℕ) (command : List ℕ) (s : Store) (k f : Word) (d : Deed) (v : ℕ) → Valid s
     → parse (nowAt clock s) clock command ≡ accepted (onField k f d) → deedVersioning d ≡ Match v
     → (exec clock command s .refusal ≡ some 20)
@@ -366,26 +398,16 @@ pub ver-stale-exactly-if : (clock : ℕ) (command : List ℕ) (s : Store) (k f :
     × (x .version ≢ v))
 ver-stale-exactly-if clock command s k f d v valid p g = match-stale-exactly clock command s k f d v p g (valid .apart)
 
--- A command with VER that is not refused and writes its field leaves a live one at its version plus 1 and a missing one at 1.
-pub ver-counts-on : (clock : ℕ) (command : List ℕ) (s : Store) (k f : Word) (d : Deed) (v : ℕ) → Valid s
+-- A command with VER v that is not refused and writes its field leaves a live one at its version plus 1, and a missing or dead one at 1.
+pub ver-next-version : (clock : ℕ) (command : List ℕ) (s : Store) (k f : Word) (d : Deed) (v : ℕ) → Valid s
     → parse (nowAt clock s) clock command ≡ accepted (onField k f d) → deedVersioning d ≡ Match v → exec clock command s .refusal ≡ none
     → let e = effect (nowAt clock s) (onField k f d) (sweep (nowAt clock s) k (f ∷ []) (s .slots)) in
     any (writes k f) (e .changes) ≡ true
-    → ((x : Entry) → entryOf k f (s .slots) ≡ some x → live (nowAt clock s) x ≡ true
-    → Numbered k f (x .version + 1) (exec clock command s .store .slots))
-    × (((x : Entry) → entryOf k f (s .slots) ≡ some x → live (nowAt clock s) x ≡ false)
-    → Numbered k f 1 (exec clock command s .store .slots))
+    → let after = exec clock command s .store .slots in
+    ((x : Entry) → entryOf k f (s .slots) ≡ some x → live (nowAt clock s) x ≡ true → Numbered k f (x .version + 1) after)
+    × (((x : Entry) → entryOf k f (s .slots) ≡ some x → live (nowAt clock s) x ≡ false) → Numbered k f 1 after)
 unfolding keyOf fieldsOf
-ver-counts-on clock command s k f d v valid p g r w =
-    (match-raises clock command s k f d v p g (valid .apart) r w, match-starts clock command s k f d v p g (valid .apart) r w)
-
--- The effect of a command with VER writes its field, unless it is an EXHSET that NX or XX bars or an expiry setter of a missing field.
-pub ver-writes-unless : (clock : ℕ) (command : List ℕ) (s : Store) (k f : Word) (d : Deed) (v : ℕ)
-    → parse (nowAt clock s) clock command ≡ accepted (onField k f d) → deedVersioning d ≡ Match v
-    → let left = sweep (nowAt clock s) k (f ∷ []) (s .slots) in
-    any (writes k f) (effect (nowAt clock s) (onField k f d) left .changes) ≡ not (idle d (entryOf k f left))
-unfolding keyOf fieldsOf
-ver-writes-unless = match-writes-unless
+ver-next-version clock command s k f d v valid p g = match-next clock command s k f d v p g (valid .apart)
 
 -- ════ Demand 2: time
 
