@@ -54,7 +54,7 @@ module _ (now : ℕ) (k f : Word) (ss : List Slot) (apart : Apart ss) where
       (entry-is (sweep now k (f ∷ []) ss) (t .slot) e (sweep-apart now k (f ∷ []) ss apart) (sweep-keeps-live now k (f ∷ []) ss (t .slot) e (t .here) l))
 
   -- what is found then was there, and live,
-  pub found-was : (e : Entry) → entryOf k f (sweep now k (f ∷ []) ss) ≡ some e → (entryOf k f ss ≡ some e) × (live now e ≡ true)
+  found-was : (e : Entry) → entryOf k f (sweep now k (f ∷ []) ss) ≡ some e → (entryOf k f ss ≡ some e) × (live now e ≡ true)
   unfolding any
   found-was e q =
       let t = entry-some k f (sweep now k (f ∷ []) ss) e q in (

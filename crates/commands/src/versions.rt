@@ -12,7 +12,8 @@ ghost use Rattle.store.specs.Layout.{versionMost};
 ghost use Rattle.commands.specs.Effect.{isStale, nextVersion, setterVersion, nextExpiry, barred};
 ghost use Rattle.commands.specs.Promises.{entryFor, versioned, expiring};
 
-// Whether VER names another version than the one that is held, or GT one that is not greater. A VER of 0 is compared with nothing, and no VER with a held 0.
+// Whether VER names another version than the one that is held, or GT one that is not greater. A VER of 0 is compared with nothing, and no VER
+// with a held 0.
 pub fn is_stale(versioning: Versioning, held: u64) -> bool
     ensures { λ r. ⌜ r ≡ isStale versioning (some (versioned held)) ⌝ }
 {
