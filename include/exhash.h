@@ -39,7 +39,7 @@ extern "C" {
 
 /*
  * The number of the last change request that has landed. Each landing raises it, so a caller can ask for what it needs,
- * as with #if EXH_VERSION >= 101. What they brought:
+ * as with #if EXH_VERSION >= 101. What each brought:
  *
  *     100   the option GT
  *     101   VER 0 is not compared, so it is never stale

@@ -1,17 +1,17 @@
--- VER: when it is stale, that VER 0 never is, and what a command with VER 0 comes to.
+-- VER: when it is stale, that VER 0 never is, and what a command with VER comes to.
 use mathlib.Core.Path.{_≡_, refl, sym, _∙_}
 use mathlib.Core.Logic.{_≢_, _↔_}
-use mathlib.Core.Bool.{true, false, not, _&&_}
+use mathlib.Core.Bool.{Bool, true, false, cond, not, _&&_}
 use mathlib.Core.List.{List, [], _∷_}
 use mathlib.Core.Option.{Option, none, some}
 use Prim.Native.Nat.{ℕ, _+_, _≤_, _<_}
 use lib.Dec.{ltb, eqb}
-use lib.IntN.{ℤ}
+use lib.IntN.{ℤ, negsuc}
 use native.Mathlib.Omega.{arith}
 use borrow.Author.Tests.{eqb-false, ne-eqb, not-true, ltb-true, lt-ltb, le-ltb}
 use Rattle.wire.specs.Lists.{any, orElse}
 use Rattle.wire.specs.Words.{Word}
-use Rattle.wire.specs.Replies.{number}
+use Rattle.wire.specs.Replies.{integer, number}
 use Rattle.wire.proofs.Lists.{impossible, both-ways, and-left, and-right, any-some}
 use Rattle.store.specs.Layout.{versionMost}
 use Rattle.store.specs.declared.Expiry.the-variants.{At}
@@ -27,13 +27,13 @@ use Rattle.commands.specs.Command.Deed.{assign, increment, expire}
 use Rattle.commands.specs.Command.Command.{onField}
 use Rattle.commands.specs.Parse.{deedVersioning, parse}
 use Rattle.commands.specs.Parse.Parsed.{accepted}
-use Rattle.commands.specs.Effect.{Effect, answer, writing, changeAll, nextVersion, isStale, setterVersion, written, setEffect, incrementEffect, expireEffect, deedEffect, effect}
+use Rattle.commands.specs.Effect.{Effect, answer, writing, changeAll, nextVersion, isStale, setterVersion, barred, written, setEffect, incrementEffect, expireEffect, deedEffect, effect}
 use Rattle.commands.specs.Execute.{sweep, passes, writes, adds, added, runOn, run, exec}
 use Rattle.commands.specs.Claims.{idle, Numbered}
 use Rattle.commands.proofs.Went.{effectOn, accepted-runs}
 use Rattle.commands.proofs.Full.{done-exactly}
 use Rattle.commands.proofs.Exactly.{done-gives}
-use Rattle.commands.proofs.VersionOption.{named-entry, live-found, dead-gone, live-exactly, wrote-one, and-none, not-and, stale-given, overflow-given, given-stale, given-passes, given-leaves, given-stale-exactly}
+use Rattle.commands.proofs.VersionOption.{named-entry, live-found, dead-gone, live-exactly, wrote-one, and-none, not-and, stale-given, not-stale, overflow-given, given-stale, given-passes, given-leaves, given-stale-exactly}
 
 match-given : (v : ℕ) → Match v ≢ Next
 match-given v e = impossible cc
@@ -137,51 +137,73 @@ module _ (clock : ℕ) (command : List ℕ) (s : Store) (k f : Word) (d : Deed)
       largest : (x : Entry) → x .version ≤ versionMost → versionMost < x .version + 1 → x .version ≡ versionMost
       largest x l m = omega arith
 
--- ---- VER 0 on an expiry setter
+-- ---- VER on an expiry setter
 
-module _ (clock : ℕ) (command : List ℕ) (s : Store) (k f : Word) (t : ℕ)
-    (a : parse (nowAt clock s) clock command ≡ accepted (onField k f (expire t (Match 0)))) (apart : Apart (s .slots)) where
+module _ (clock : ℕ) (command : List ℕ) (s : Store) (k f : Word) (t v : ℕ)
+    (a : parse (nowAt clock s) clock command ≡ accepted (onField k f (expire t (Match v)))) (apart : Apart (s .slots)) where
   abbrev setting : Command
-  setting = onField k f (expire t (Match 0))
+  setting = onField k f (expire t (Match v))
 
   abbrev remaining : List Slot
   remaining = sweep (nowAt clock s) k (f ∷ []) (s .slots)
 
-  -- A live field below the largest version keeps its value, and takes the expiry and its version plus 1.
-  pub zero-sets-live : (x : Entry) → entryOf k f (s .slots) ≡ some x → live (nowAt clock s) x ≡ true → x .version < versionMost
-      → (exec clock command s .refusal ≡ none)
-      × (exec clock command s .reply ≡ number 1)
-      × (entryOf k f (exec clock command s .store .slots) ≡ some (entry k f (x .value) (x .version + 1) (At t)))
-  unfolding effect deedEffect expireEffect keyOf fieldsOf orElse isStale setterVersion nextVersion added adds any passes
-  zero-sets-live x q l m =
-      let here = live-found (nowAt clock s) k f (s .slots) apart x q l in
-      let w = entry-some k f remaining x here in
-      let set : Entry = withVersion (x .version + 1) (withExpiry (At t) x) in
-      let sets : effectOn (nowAt clock s) setting s ≡ writing false set (number 1) = rw here refl in
-      let held = any-some (holds (x .key) (x .field)) remaining none (w .slot) (w .inside) (rw (w .here) (holds-own x)) in
-      let done = done-exactly clock command s setting a .1 (
-        record {
-          fresh = rw sets refl;
-          integral = rw sets refl;
-          bounded = rw sets refl;
-          numbered = rw sets (rw (le-ltb versionMost (x .version + 1) (omega (arith, m))) refl);
-        },
-        rw (sets, held) (omega arith),
-      ) in (
-        done,
-        done-gives clock command s setting a done .0 ∙ rw sets refl,
-        named-entry k f (exec clock command s .store .slots) set (record { key = w .named .key; field = w .named .field })
-            (wrote-one clock command s setting set apart a done (rw sets refl))
-            ∙ rw (w .named .key, w .named .field) refl,
-      )
+  module _ (x : Entry) (q : entryOf k f (s .slots) ≡ some x) (l : live (nowAt clock s) x ≡ true) (r : exec clock command s .refusal ≢ some 20) where
+    abbrev stamped : Entry
+    stamped = withVersion (x .version + 1) (withExpiry (At t) x)
+
+    here : entryOf k f remaining ≡ some x
+    here = live-found (nowAt clock s) k f (s .slots) apart x q l
+
+    sets : effectOn (nowAt clock s) setting s ≡ writing false stamped (number 1)
+    unfolding effect deedEffect expireEffect keyOf fieldsOf orElse setterVersion nextVersion
+    sets =
+        let stale : effectOn (nowAt clock s) setting s ≡ writing (isStale (Match v) (some x)) stamped (number 1) = rw here refl in
+        let fresh : isStale (Match v) (some x) ≡ false = rw stale at (not-stale clock command s setting a r) in
+        rw (stale, fresh) refl
+
+    -- A live field below the largest version keeps its value, and takes the expiry and its version plus 1;
+    pub set-live : x .version < versionMost
+        → (exec clock command s .refusal ≡ none)
+        × (exec clock command s .reply ≡ number 1)
+        × (entryOf k f (exec clock command s .store .slots) ≡ some (entry k f (x .value) (x .version + 1) (At t)))
+    unfolding keyOf fieldsOf added adds any passes
+    set-live m =
+        let w = entry-some k f remaining x here in
+        let held = any-some (holds (x .key) (x .field)) remaining none (w .slot) (w .inside) (rw (w .here) (holds-own x)) in
+        let done = done-exactly clock command s setting a .1 (
+          record {
+            fresh = rw sets refl;
+            integral = rw sets refl;
+            bounded = rw sets refl;
+            numbered = rw sets (rw (le-ltb versionMost (x .version + 1) (omega (arith, m))) refl);
+          },
+          rw (sets, held) (omega arith),
+        ) in (
+          done,
+          done-gives clock command s setting a done .0 ∙ rw sets refl,
+          named-entry k f (exec clock command s .store .slots) stamped (record { key = w .named .key; field = w .named .field })
+              (wrote-one clock command s setting stamped apart a done (rw sets refl))
+              ∙ rw (w .named .key, w .named .field) refl,
+        )
+
+    -- at the largest it is refused with 23.
+    pub set-largest : x .version ≡ versionMost → exec clock command s .refusal ≡ some 23
+    unfolding any passes
+    set-largest m =
+        overflow-given clock command s setting a .1 (
+          rw sets refl,
+          rw sets refl,
+          rw sets refl,
+          rw sets (rw (lt-ltb versionMost (x .version + 1) (omega (arith, m))) refl),
+        )
 
   -- A field that is not live is missing then, and stays so.
-  pub zero-sets-none : ((x : Entry) → entryOf k f (s .slots) ≡ some x → live (nowAt clock s) x ≡ false)
+  pub set-none : ((x : Entry) → entryOf k f (s .slots) ≡ some x → live (nowAt clock s) x ≡ false)
       → (exec clock command s .refusal ≡ none)
       × (exec clock command s .reply ≡ number 0)
       × (entryOf k f (exec clock command s .store .slots) ≡ none)
   unfolding effect deedEffect expireEffect keyOf fieldsOf orElse added any changeAll
-  zero-sets-none dead =
+  set-none dead =
       let gone = dead-gone (nowAt clock s) k f (s .slots) apart dead in
       let sets : effectOn (nowAt clock s) setting s ≡ answer (number 0) = rw gone refl in
       let done = done-exactly clock command s setting a .1 (
@@ -191,29 +213,50 @@ module _ (clock : ℕ) (command : List ℕ) (s : Store) (k f : Word) (t : ℕ)
       let gives = done-gives clock command s setting a done in
       (done, gives .0 ∙ rw sets refl, rw (gives .1, sets) gone)
 
--- ---- VER 0 and no option
+-- ---- VER and no option
 
-module _ (clock : ℕ) (command plain : List ℕ) (s : Store) (k f : Word) where
+module _ (clock : ℕ) (command plain : List ℕ) (s : Store) (k f : Word) (v : ℕ) where
+  abbrev slots : List Slot
+  slots = sweep (nowAt clock s) k (f ∷ []) (s .slots)
+
+  abbrev found : Option Entry
+  found = entryOf k f slots
+
   -- Two commands with the same effect have the same outcome.
-  same-outcome : (d e : Deed) → ((ss : List Slot) (found : Option Entry) → deedEffect (nowAt clock s) ss k f d found ≡ deedEffect (nowAt clock s) ss k f e found)
+  same-outcome : (d e : Deed) → deedEffect (nowAt clock s) slots k f d found ≡ deedEffect (nowAt clock s) slots k f e found
       → parse (nowAt clock s) clock command ≡ accepted (onField k f d) → parse (nowAt clock s) clock plain ≡ accepted (onField k f e)
       → exec clock command s ≡ exec clock plain s
   unfolding run runOn effect keyOf fieldsOf
   same-outcome d e same a b =
-      let left : List Slot = sweep (nowAt clock s) k (f ∷ []) (s .slots) in
-      accepted-runs clock command s (onField k f d) a
-      ∙ rw (same left (entryOf k f left)) (sym (accepted-runs clock plain s (onField k f e) b))
+      accepted-runs clock command s (onField k f d) a ∙ rw same (sym (accepted-runs clock plain s (onField k f e) b))
 
-  -- An EXHSET with VER 0 has the outcome of one without,
-  pub zero-assigns-as-none : (x : Word) (c : Condition) (t : Lifetime)
-      → parse (nowAt clock s) clock command ≡ accepted (onField k f (assign x c (Match 0) t))
-      → parse (nowAt clock s) clock plain ≡ accepted (onField k f (assign x c Next t)) → exec clock command s ≡ exec clock plain s
-  unfolding deedEffect setEffect written nextVersion isStale
-  zero-assigns-as-none x c t = same-outcome (assign x c (Match 0) t) (assign x c Next t) (λ ss found. rw (zero-fresh found) refl)
+  -- An EXHSET with VER that is not refused with 20 has the outcome of one without,
+  pub assigns-as-none : (x : Word) (c : Condition) (t : Lifetime)
+      → parse (nowAt clock s) clock command ≡ accepted (onField k f (assign x c (Match v) t))
+      → parse (nowAt clock s) clock plain ≡ accepted (onField k f (assign x c Next t)) → exec clock command s .refusal ≢ some 20
+      → exec clock command s ≡ exec clock plain s
+  unfolding effect deedEffect setEffect written nextVersion isStale keyOf fieldsOf
+  assigns-as-none x c t a b r =
+      same-outcome (assign x c (Match v) t) (assign x c Next t)
+      (go (barred c found) (not-stale clock command s (onField k f (assign x c (Match v) t)) a r)) a b
+    where
+      barring : Effect
+      barring = answer (integer (negsuc 0))
+
+      setting-with : Bool → Effect
+      setting-with stale = writing stale (written k f x Next t found) (number (orElse found 1 (λ e. 0)))
+
+      go : (p : Bool) → cond p barring (setting-with (isStale (Match v) found)) .stale ≡ false
+          → cond p barring (setting-with (isStale (Match v) found)) ≡ cond p barring (setting-with false)
+      go true h = refl
+      go false h = rw h refl
 
   -- and so has an EXHINCRBY.
-  pub zero-increments-as-none : (m l g : ℤ) (t : Lifetime)
-      → parse (nowAt clock s) clock command ≡ accepted (onField k f (increment m l g (Match 0) t))
-      → parse (nowAt clock s) clock plain ≡ accepted (onField k f (increment m l g Next t)) → exec clock command s ≡ exec clock plain s
-  unfolding deedEffect incrementEffect written nextVersion isStale
-  zero-increments-as-none m l g t = same-outcome (increment m l g (Match 0) t) (increment m l g Next t) (λ ss found. rw (zero-fresh found) refl)
+  pub increments-as-none : (m l g : ℤ) (t : Lifetime)
+      → parse (nowAt clock s) clock command ≡ accepted (onField k f (increment m l g (Match v) t))
+      → parse (nowAt clock s) clock plain ≡ accepted (onField k f (increment m l g Next t)) → exec clock command s .refusal ≢ some 20
+      → exec clock command s ≡ exec clock plain s
+  unfolding effect deedEffect incrementEffect written nextVersion isStale keyOf fieldsOf
+  increments-as-none m l g t a b r =
+      let fresh : isStale (Match v) found ≡ false = not-stale clock command s (onField k f (increment m l g (Match v) t)) a r in
+      same-outcome (increment m l g (Match v) t) (increment m l g Next t) (rw fresh refl) a b

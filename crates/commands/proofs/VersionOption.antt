@@ -125,6 +125,14 @@ module _ (clock : ℕ) (command : List ℕ) (s : Store) (c : Command) (a : parse
     λ t. accepted-refusal clock command s c a ∙ check-applies 20 _ t,
   )
 
+  -- so where it is not given the version is not stale,
+  pub not-stale : exec clock command s .refusal ≢ some 20 → says .stale ≡ false
+  not-stale r = go (says .stale) refl
+    where
+      go : (t : Bool) → says .stale ≡ t → t ≡ false
+      go true q = absurd (r (stale-given .1 q))
+      go false q = refl
+
   -- and 23 exactly if none of 20 to 22 applies and a version would pass its largest.
   pub overflow-given : (exec clock command s .refusal ≡ some 23)
       ↔ ((says .stale ≡ false) × (says .notInteger ≡ false) × (says .overflows ≡ false) × (any passes (says .changes) ≡ true))
@@ -258,7 +266,7 @@ module _ (clock : ℕ) (command : List ℕ) (s : Store) (k f : Word) (d : Deed) 
         sym st ∙ done-exactly clock command s (onField k f d) a .0 r .0 .fresh,
       )
 
-  -- It is refused with 20 exactly if its field is live and the option stale there, and it is not idle;
+  -- It is refused with 20 exactly if its field is live and the option stale there, and it is not idle.
   pub given-stale-exactly : Apart (s .slots)
       → (exec clock command s .refusal ≡ some 20)
       ↔ ((x : Entry) × (entryOf k f (s .slots) ≡ some x) × (live (nowAt clock s) x ≡ true) × (idle d (some x) ≡ false) × (isStale n (some x) ≡ true))

@@ -2,7 +2,7 @@
 -- of the other files. `exec` is one record on what a store holds, `execBytes` the same on its bytes, `meaning` demand 3's definition of a whole
 -- stream, `absorb` the bytes that one call takes, `feed` one feeding call. The definitions speak of lists of numbers: where a theorem asks for
 -- `Bytes` or `AllBytes`, the numbers are below 256, as the elements of the code's slices always are. A `Valid` store is one that well-formed bytes hold
--- (`store-bytes-only`). What a command on one field says of its version is `deedVersioning`: `Next` nothing, `Match v` VER v, `Exactly v` ABS v,
+-- (`store-bytes-only`, `store-read-back`). What a command on one field says of its version is `deedVersioning`: `Next` nothing, `Match v` VER v, `Exactly v` ABS v,
 -- `Above v` GT v.
 use mathlib.Core.Path.{_≡_, refl, sym, ap, _∙_}
 use mathlib.Core.Logic.{_≢_, _⊎_, _↔_}
@@ -53,7 +53,7 @@ use Rattle.commands.proofs.AllOrNone.{all-set}
 use Rattle.commands.proofs.GivenVersion.{sent-assign, sent-increment, sent-expire}
 use Rattle.commands.proofs.VersionOption.{given-writes-unless}
 use Rattle.commands.proofs.Forward.{above-forward, above-stale-exactly, above-never-passes, greater-wins}
-use Rattle.commands.proofs.VersionCheck.{match-stale-exactly, match-next, zero-never-stale, zero-overflows-exactly, zero-sets-live, zero-sets-none, zero-assigns-as-none, zero-increments-as-none}
+use Rattle.commands.proofs.VersionCheck.{match-stale-exactly, match-next, zero-never-stale, zero-overflows-exactly, assigns-as-none, increments-as-none, set-live, set-largest, set-none}
 use Rattle.commands.proofs.Clock.{clock-is-now, clock-forward-all, dead-at-clock, dead-stays-dead}
 use Rattle.commands.proofs.Full.{full-exactly, full-accepted, done-exactly}
 use Rattle.commands.proofs.SomeReply.{exec-some, refused-said}
@@ -333,7 +333,8 @@ later-count-wins first second s k f x y v w valid = greater-wins first second s 
 
 -- ════ Demand 2: VER 0 is not compared (M-101)
 
--- VER v with no other option, as it is sent, is read as just that: by EXHSET, by EXHINCRBY, and by a name that the table has as an expiry setter.
+-- VER v with no other option, as it is sent, with nothing too long, too late or out of range, is read as just that: by EXHSET, by EXHINCRBY, and by a
+-- name that the table has as an expiry setter.
 pub ver-as-sent : (now clock : ℕ) (k f : Word) (v : ℕ) → clock < timeLimit → length k ≤ keyMost → length f ≤ fieldMost → v ≤ versionMost
     → let sent : Word → Word → List ℕ = λ name x. respOf (name ∷ k ∷ f ∷ x ∷ text "VER" ∷ integerText (pos v) ∷ []) in
     ((x : Word) → length x ≤ valueMost → parse now clock (sent (text "EXHSET") x) ≡ accepted (onField k f (assign x Always (Match v) Clear)))
@@ -350,25 +351,47 @@ pub ver-0-never-stale : (clock : ℕ) (command : List ℕ) (s : Store) (k f : Wo
     → parse (nowAt clock s) clock command ≡ accepted (onField k f d) → deedVersioning d ≡ Match 0 → exec clock command s .refusal ≢ some 20
 ver-0-never-stale = zero-never-stale
 
--- An EXHSET or EXHINCRBY past checks 10 to 18 with VER 0 has the outcome of a command that says the same with no version option.
+-- An EXHSET or EXHINCRBY past checks 10 to 18 with VER v that is not refused with 20 has the outcome of a command that says the same with no version
+-- option.
+pub ver-as-none : (clock : ℕ) (command plain : List ℕ) (s : Store) (k f : Word) (v : ℕ)
+    → ((x : Word) (c : Condition) (t : Lifetime) → parse (nowAt clock s) clock command ≡ accepted (onField k f (assign x c (Match v) t))
+    → parse (nowAt clock s) clock plain ≡ accepted (onField k f (assign x c Next t)) → exec clock command s .refusal ≢ some 20
+    → exec clock command s ≡ exec clock plain s)
+    × ((a l g : ℤ) (t : Lifetime) → parse (nowAt clock s) clock command ≡ accepted (onField k f (increment a l g (Match v) t))
+    → parse (nowAt clock s) clock plain ≡ accepted (onField k f (increment a l g Next t)) → exec clock command s .refusal ≢ some 20
+    → exec clock command s ≡ exec clock plain s)
+ver-as-none clock command plain s k f v = (assigns-as-none clock command plain s k f v, increments-as-none clock command plain s k f v)
+
+-- So one with VER 0 always has.
 pub ver-0-as-none : (clock : ℕ) (command plain : List ℕ) (s : Store) (k f : Word)
     → ((x : Word) (c : Condition) (t : Lifetime) → parse (nowAt clock s) clock command ≡ accepted (onField k f (assign x c (Match 0) t))
     → parse (nowAt clock s) clock plain ≡ accepted (onField k f (assign x c Next t)) → exec clock command s ≡ exec clock plain s)
     × ((a l g : ℤ) (t : Lifetime) → parse (nowAt clock s) clock command ≡ accepted (onField k f (increment a l g (Match 0) t))
     → parse (nowAt clock s) clock plain ≡ accepted (onField k f (increment a l g Next t)) → exec clock command s ≡ exec clock plain s)
-ver-0-as-none clock command plain s k f = (zero-assigns-as-none clock command plain s k f, zero-increments-as-none clock command plain s k f)
+unfolding deedVersioning
+ver-0-as-none clock command plain s k f =
+    let both = ver-as-none clock command plain s k f 0 in (
+      λ x c t p q. both .0 x c t p q (ver-0-never-stale clock command s k f (assign x c (Match 0) t) p refl),
+      λ a l g t p q. both .1 a l g t p q (ver-0-never-stale clock command s k f (increment a l g (Match 0) t) p refl),
+    )
 
--- An expiry setter with VER 0 of a live field below the largest version replies 1 and leaves the field with its value, its version plus 1 and the
--- given expiry; of a missing or dead one it replies 0, and the field is missing then.
-pub ver-0-setter : (clock : ℕ) (command : List ℕ) (s : Store) (k f : Word) (t : ℕ) → Valid s
-    → parse (nowAt clock s) clock command ≡ accepted (onField k f (expire t (Match 0)))
+-- An expiry setter with VER v that is not refused with 20, of a live field below the largest version, replies 1 and leaves the field with its value,
+-- its version plus 1 and the given expiry; at the largest version it is refused with 23. Of a missing or dead field any setter with VER replies 0, and
+-- the field is missing then.
+pub ver-setter : (clock : ℕ) (command : List ℕ) (s : Store) (k f : Word) (t v : ℕ) → Valid s
+    → parse (nowAt clock s) clock command ≡ accepted (onField k f (expire t (Match v)))
     → let o = exec clock command s in
-    ((x : Entry) → entryOf k f (s .slots) ≡ some x → live (nowAt clock s) x ≡ true → x .version < versionMost
+    ((x : Entry) → entryOf k f (s .slots) ≡ some x → live (nowAt clock s) x ≡ true → o .refusal ≢ some 20
+    → (x .version < versionMost
     → (o .refusal ≡ none) × (o .reply ≡ number 1) × (entryOf k f (o .store .slots) ≡ some (entry k f (x .value) (x .version + 1) (At t))))
+    × (x .version ≡ versionMost → o .refusal ≡ some 23))
     × (((x : Entry) → entryOf k f (s .slots) ≡ some x → live (nowAt clock s) x ≡ false)
     → (o .refusal ≡ none) × (o .reply ≡ number 0) × (entryOf k f (o .store .slots) ≡ none))
-ver-0-setter clock command s k f t valid p =
-    (zero-sets-live clock command s k f t p (valid .apart), zero-sets-none clock command s k f t p (valid .apart))
+ver-setter clock command s k f t v valid p = (
+  λ x q l r.
+      (set-live clock command s k f t v p (valid .apart) x q l r, set-largest clock command s k f t v p (valid .apart) x q l r),
+  set-none clock command s k f t v p (valid .apart),
+)
 
 -- A command with VER 0 is refused with 23 exactly if its field is live at the largest version, no NX bars it, and neither 21 nor 22 applies.
 pub ver-0-overflows-exactly-if : (clock : ℕ) (command : List ℕ) (s : Store) (k f : Word) (d : Deed) → Valid s

@@ -23,7 +23,7 @@ const REFUSED_20: &str = "refused as 20";
 const REFUSED_23: &str = "refused as 23";
 
 /// All that the two come to where they decide. A live field is here one with a version other than 0:
-/// at 0 any VER and any GT is accepted, so nothing is told there.
+/// at 0 every VER and every GT but 0 is accepted, so no comparison is told there.
 pub const OUTCOMES: [Outcome; 11] = [
     (GT, TAKEN_LIVE),
     (GT, TAKEN_MISSING),

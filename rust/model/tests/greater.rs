@@ -2,7 +2,7 @@
 
 mod common;
 
-use common::{COMMANDS, Handset, live_at, without_field};
+use common::{COMMANDS, Handset, is_setter, live_at, without_field};
 use model::layout::{LARGEST_VERSION, TIME_LIMIT};
 
 #[test]
@@ -46,8 +46,12 @@ fn it_must_be_greater_and_becomes_the_version() {
 
 #[test]
 fn a_missing_field_takes_it_and_a_setter_still_replies_0() {
-    for (at, command) in COMMANDS.iter().enumerate() {
-        let (reply, version) = if at < 2 { (":1", ":5") } else { (":0", ":-1") };
+    for command in COMMANDS {
+        let (reply, version) = if is_setter(command) {
+            (":0", ":-1")
+        } else {
+            (":1", ":5")
+        };
         for mut handset in without_field() {
             assert_eq!(handset.reply(1, &format!("{command} GT 5")), reply);
             assert_eq!(handset.reply(1, "EXHVER m a"), version, "{command}");

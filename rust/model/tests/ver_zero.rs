@@ -2,7 +2,7 @@
 
 mod common;
 
-use common::{COMMANDS, Handset, live_at, without_field};
+use common::{COMMANDS, Handset, is_setter, live_at, without_field};
 use model::layout::{LARGEST_VERSION, TIME_LIMIT};
 
 const NOW: u64 = 5;
@@ -49,11 +49,11 @@ fn the_row_of_the_request() {
 
 #[test]
 fn a_missing_field_gets_1_and_a_setter_still_replies_0() {
-    for (at, command) in COMMANDS.iter().enumerate() {
-        let (reply, version, held) = if at < 2 {
-            (":1", ":1", ":1")
-        } else {
+    for command in COMMANDS {
+        let (reply, version, held) = if is_setter(command) {
             (":0", ":-1", ":0")
+        } else {
+            (":1", ":1", ":1")
         };
         for mut handset in without_field() {
             assert_eq!(handset.reply(1, &format!("{command} VER 0")), reply);
@@ -88,7 +88,7 @@ fn any_other_ver_is_compared_as_before() {
 }
 
 #[test]
-fn what_it_goes_over_is_stale_afterwards() {
+fn the_version_before_it_is_stale_afterwards() {
     let mut handset = live_at(3);
     for (command, number, version) in [
         ("EXHPEXPIRE m a 9 VER 0", 0, ":4"),
@@ -127,7 +127,7 @@ const INCR_BY_OPTIONS: [&str; 8] = [
 ];
 
 /// Missing, dead, live at every version, with an expiry and without.
-fn handsets() -> Vec<Handset> {
+fn in_every_state() -> Vec<Handset> {
     let mut handsets = Vec::from(without_field());
     for held in HELD {
         let live = live_at(held);
@@ -143,7 +143,7 @@ fn exhset_and_exhincrby_do_what_they_do_without_it() {
     let set = SET_OPTIONS.map(|options| ("EXHSET m a 2", options));
     let incr_by = INCR_BY_OPTIONS.map(|options| ("EXHINCRBY m a 2", options));
     for (command, options) in set.into_iter().chain(incr_by) {
-        for handset in handsets() {
+        for handset in in_every_state() {
             let plain = outcome(&handset, &format!("{command}{options}"));
             let first = outcome(&handset, &format!("{command} VER 0{options}"));
             let last = outcome(&handset, &format!("{command}{options} ver 0"));
@@ -155,7 +155,7 @@ fn exhset_and_exhincrby_do_what_they_do_without_it() {
 #[test]
 fn where_ver_0_stands_among_the_refusals() {
     let too_late = format!("EXHEXPIREAT m a {} VER 0", TIME_LIMIT / 1000 + 1);
-    let too_long = format!("EXHSET m a 1 VER 0 EX {TIME_LIMIT}");
+    let too_far = format!("EXHSET m a 1 VER 0 EX {TIME_LIMIT}");
     let mut text = Handset::new(1);
     text.reply(0, &format!("EXHSET m a x ABS {LARGEST_VERSION}"));
     for (command, at_3, at_largest, on_text_at_largest) in [
@@ -171,7 +171,7 @@ fn where_ver_0_stands_among_the_refusals() {
         ("EXHINCRBY m a x VER 0", 16, 16, 16),
         ("EXHEXPIRE m a x VER 0", 16, 16, 16),
         (&too_late, 18, 18, 18),
-        (&too_long, 18, 18, 18),
+        (&too_far, 18, 18, 18),
         ("EXHSET m a 1 VER 0 NX", 0, 0, 0),
         ("EXHSET m b 1 VER 0 XX", 0, 0, 0),
         ("EXHEXPIRE m b 9 VER 0", 0, 0, 0),
@@ -184,7 +184,7 @@ fn where_ver_0_stands_among_the_refusals() {
         ("EXHSET m b 1 VER 0", 24, 24, 24),
         // Here VER is a field, for which there is no slot.
         ("EXHMSET m a 1 VER 0", 24, 23, 23),
-        // Compared, so before all of these.
+        // Compared, so before 21 to 24.
         ("EXHINCRBY m a 1 VER 1 MAX 1", 20, 20, 20),
     ] {
         let handsets = [&live_at(3), &live_at(LARGEST_VERSION), &text];

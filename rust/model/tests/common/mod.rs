@@ -14,6 +14,12 @@ pub const COMMANDS: [&str; 6] = [
     "EXHPEXPIREAT m a 9",
 ];
 
+/// Whether one of [`COMMANDS`] sets an expiry and makes no field.
+#[allow(dead_code)]
+pub fn is_setter(command: &str) -> bool {
+    command.contains("EXPIRE")
+}
+
 /// A fresh store of some slots.
 #[derive(Clone)]
 pub struct Handset {
@@ -60,7 +66,7 @@ pub fn live_at(version: u32) -> Handset {
     handset
 }
 
-/// Handsets of one slot in which a is missing from clock 1 on: empty, and with a dead at version 9.
+/// Handsets of one slot in which field a is missing from clock 1 on: one empty, one where it is dead, at version 9.
 #[allow(dead_code)]
 pub fn without_field() -> [Handset; 2] {
     let mut dead = live_at(9);
