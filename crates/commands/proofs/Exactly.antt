@@ -14,14 +14,16 @@ use Rattle.wire.proofs.Lists.{and-left, and-right, impossible}
 use Rattle.store.specs.Layout.{timeLimit}
 use Rattle.store.specs.Store.{Store}
 use Rattle.store.specs.Time.{nowAt}
-use Rattle.commands.specs.Refusal.{Check, _when_, lowest, earlyMost}
+use Rattle.commands.specs.Refusal.{earlyMost}
+use Rattle.wire.specs.Checks.{Check, _when_, firstApplying}
 use Rattle.commands.specs.Command.{Command, keyOf, fieldsOf}
 use Rattle.commands.specs.Parse.{Parsed, CommandRow, commands, commandNamed, laterChecks, checks, checksOf, parse}
 use Rattle.commands.specs.Parse.Parsed.{refused, accepted}
 use Rattle.commands.specs.Effect.{changeAll}
 use Rattle.commands.specs.Execute.{swept, lateChecks, Outcome, runOn, run, perform, exec}
 use Rattle.commands.specs.Claims.{Applies, earlyChecks, LowestOf}
-use Rattle.commands.proofs.ParseChecks.{lowest-some, lowest-none, Reads, reads}
+use Rattle.commands.proofs.ParseChecks.{Reads, reads}
+use Rattle.wire.proofs.Checks.{first-some, first-none}
 use Rattle.commands.proofs.ParseChecks.Reads.{damaged, clockOut, unknown, checked, passed}
 use Rattle.commands.proofs.Sweep.{sweep-again}
 use Rattle.commands.proofs.Went.{Went, went, sweptBy, effectOn, storeOf, accepted-refusal}
@@ -36,12 +38,12 @@ ascending [] = true
 ascending (c ∷ cs) = all (λ d. ltb (c .number) (d .number)) cs && ascending cs
 
 -- what is given applies
-lowest-applies : (cs : List Check) (n : ℕ) → lowest cs ≡ some n → Applies n cs
-unfolding Applies lowest
+lowest-applies : (cs : List Check) (n : ℕ) → firstApplying cs ≡ some n → Applies n cs
+unfolding Applies firstApplying
 lowest-applies [] n h = impossible cc
-lowest-applies (c ∷ cs) n h = go (lowest-some c cs n h) (lowest-applies cs n)
+lowest-applies (c ∷ cs) n h = go (first-some c cs n h) (lowest-applies cs n)
   where
-    go : ((c .applies ≡ true) × (c .number ≡ n)) ⊎ ((c .applies ≡ false) × (lowest cs ≡ some n)) → (lowest cs ≡ some n → Applies n cs)
+    go : ((c .applies ≡ true) × (c .number ≡ n)) ⊎ ((c .applies ≡ false) × (firstApplying cs ≡ some n)) → (firstApplying cs ≡ some n → Applies n cs)
         → ((c .number ≡ n) × (c .applies ≡ true)) ⊎ Applies n cs
     go (inl q) ih = inl (q .1, q .0)
     go (inr q) ih = inr (ih (q .1))
@@ -54,16 +56,16 @@ applies-number p (c ∷ cs) m h (inl q) = rw (q .0) at (and-left (p (c .number))
 applies-number p (c ∷ cs) m h (inr a) = applies-number p cs m (and-right (p (c .number)) (all (λ d. p (d .number)) cs) h) a
 
 -- where checks ascend, none that applies has a lower number
-lowest-below : (cs : List Check) (n m : ℕ) → ascending cs ≡ true → lowest cs ≡ some n → Applies m cs → n ≤ m
-unfolding Applies lowest ascending
+lowest-below : (cs : List Check) (n m : ℕ) → ascending cs ≡ true → firstApplying cs ≡ some n → Applies m cs → n ≤ m
+unfolding Applies firstApplying ascending
 lowest-below [] n m a h b = absurd b
-lowest-below (c ∷ cs) n m a h b = go (lowest-some c cs n h) b (lowest-below cs n m (and-right above (ascending cs) a))
+lowest-below (c ∷ cs) n m a h b = go (first-some c cs n h) b (lowest-below cs n m (and-right above (ascending cs) a))
   where
     above : Bool
     above = all (λ d. ltb (c .number) (d .number)) cs
 
-    go : ((c .applies ≡ true) × (c .number ≡ n)) ⊎ ((c .applies ≡ false) × (lowest cs ≡ some n)) → ((c .number ≡ m) × (c .applies ≡ true)) ⊎ Applies m cs
-        → (lowest cs ≡ some n → Applies m cs → n ≤ m) → n ≤ m
+    go : ((c .applies ≡ true) × (c .number ≡ n)) ⊎ ((c .applies ≡ false) × (firstApplying cs ≡ some n)) → ((c .number ≡ m) × (c .applies ≡ true)) ⊎ Applies m cs
+        → (firstApplying cs ≡ some n → Applies m cs → n ≤ m) → n ≤ m
     go (inl p) (inl q) ih = omega (arith, p .1, q .0)
     go (inl p) (inr q) ih =
         let l : c .number < m = ltb-true (c .number) m (applies-number (ltb (c .number)) cs m (and-left above (ascending cs) a) q) in
@@ -72,20 +74,20 @@ lowest-below (c ∷ cs) n m a h b = go (lowest-some c cs n h) b (lowest-below cs
     go (inr p) (inr q) ih = ih (p .1) q
 
 -- where one applies, one is given
-applies-given : (cs : List Check) (m : ℕ) → Applies m cs → lowest cs ≡ none → ⊥
-unfolding Applies lowest
+applies-given : (cs : List Check) (m : ℕ) → Applies m cs → firstApplying cs ≡ none → ⊥
+unfolding Applies firstApplying
 applies-given [] m a h = a
-applies-given (c ∷ cs) m (inl q) h = let z : true ≡ false = sym (q .1) ∙ lowest-none c cs h .0 in impossible cc
-applies-given (c ∷ cs) m (inr a) h = applies-given cs m a (lowest-none c cs h .1)
+applies-given (c ∷ cs) m (inl q) h = let z : true ≡ false = sym (q .1) ∙ first-none c cs h .0 in impossible cc
+applies-given (c ∷ cs) m (inr a) h = applies-given cs m a (first-none c cs h .1)
 
 -- Of ascending checks the lowest that applies is given.
-pub lowest-exactly : (cs : List Check) (n : ℕ) → ascending cs ≡ true → (lowest cs ≡ some n) ↔ LowestOf cs n
+pub lowest-exactly : (cs : List Check) (n : ℕ) → ascending cs ≡ true → (firstApplying cs ≡ some n) ↔ LowestOf cs n
 lowest-exactly cs n a = (λ h. record { applies = lowest-applies cs n h; least = λ m. lowest-below cs n m a h }, back)
   where
-    back : LowestOf cs n → lowest cs ≡ some n
-    back l = go (lowest cs) refl
+    back : LowestOf cs n → firstApplying cs ≡ some n
+    back l = go (firstApplying cs) refl
       where
-        go : (o : Option ℕ) → lowest cs ≡ o → o ≡ some n
+        go : (o : Option ℕ) → firstApplying cs ≡ o → o ≡ some n
         go none e = absurd (applies-given cs n (l .applies) e)
         go (some k) e =
             let low : k ≤ n = lowest-below cs k n a e (l .applies) in
@@ -115,8 +117,8 @@ numberOf (refused n) = some n
 numberOf (accepted c) = none
 
 -- Parsing refuses with the first of the checks 10 to 18 that applies.
-parse-lowest : {now clock : ℕ} {s : List ℕ} {p : Parsed} → Reads now clock s p → lowest (earlyChecks now clock s) ≡ numberOf p
-unfolding earlyChecks lowest orElse isSome numberOf
+parse-lowest : {now clock : ℕ} {s : List ℕ} {p : Parsed} → Reads now clock s p → firstApplying (earlyChecks now clock s) ≡ numberOf p
+unfolding earlyChecks firstApplying orElse isSome numberOf
 parse-lowest (damaged w) = rw w refl
 parse-lowest {now} {clock} (clockOut ws w k) = rw w (rw (le-leb timeLimit clock k) refl)
 parse-lowest {now} {clock} (unknown ws w k m) = rw w (rw (lt-leb timeLimit clock k) (rw m refl))
@@ -148,20 +150,20 @@ early-lowest clock command s n l = (λ e. both .0 (there (early .0 e)), λ m. ea
     cs : List Check
     cs = earlyChecks (nowAt clock s) clock command
 
-    both : (lowest cs ≡ some n) ↔ LowestOf cs n
+    both : (firstApplying cs ≡ some n) ↔ LowestOf cs n
     both = lowest-exactly cs n (early-ascending (nowAt clock s) clock command)
 
-    given : lowest cs ≡ numberOf (parse (nowAt clock s) clock command)
+    given : firstApplying cs ≡ numberOf (parse (nowAt clock s) clock command)
     given = parse-lowest (reads (nowAt clock s) clock command)
 
-    there : parse (nowAt clock s) clock command ≡ refused n → lowest cs ≡ some n
+    there : parse (nowAt clock s) clock command ≡ refused n → firstApplying cs ≡ some n
     there e = given ∙ ap numberOf e
 
     refusing : (p : Parsed) → numberOf p ≡ some n → p ≡ refused n
     refusing (refused k) e = cc
     refusing (accepted c) e = impossible cc
 
-    back : lowest cs ≡ some n → parse (nowAt clock s) clock command ≡ refused n
+    back : firstApplying cs ≡ some n → parse (nowAt clock s) clock command ≡ refused n
     back e = refusing (parse (nowAt clock s) clock command) (sym given ∙ e)
 
 -- 20 to 24 are given exactly as their checks say: the lowest that applies.

@@ -31,7 +31,7 @@ use Rattle.commands.specs.Effect.Change.{remove}
 use Rattle.commands.specs.Execute.{swept}
 use Rattle.commands.specs.Promises.{answerMost, answerAbout, answersOf, fieldsMost, listedOf, widthOf, Removes, Deletes}
 use Rattle.commands.proofs.Fit.{effect-short, elementsMost}
-use Rattle.commands.proofs.Elements.{Next}
+use Rattle.wire.proofs.Elements.{Next}
 use Rattle.commands.proofs.ListedSlots.{shown-count}
 use Rattle.commands.proofs.FieldSweeps.{named, keep-unnamed, dead-more, dead-none, count-more}
 

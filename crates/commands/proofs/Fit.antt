@@ -1,7 +1,7 @@
 -- Every reply fits in 56,000 bytes.
 use mathlib.Core.Path.{_≡_, refl}
 use mathlib.Core.Bool.{Bool, true, false, cond}
-use mathlib.Core.List.{List, [], _∷_, _++_, map, flatMap, flatten, append-assoc}
+use mathlib.Core.List.{List, [], _∷_, _++_, map, flatMap, flatten}
 use mathlib.Core.Option.{none, some}
 use Prim.Native.Nat.{_+_, ℕ, zero, suc, _*_, _≤_}
 use lib.ListN.{length, getD, length-append, length-map}
@@ -12,7 +12,7 @@ use Rattle.wire.specs.Words.{Word}
 use Rattle.wire.specs.Replies.{header, line, number, bulk, array}
 use Rattle.wire.proofs.ByteLaws.{bytes-append}
 use Rattle.wire.proofs.Lists.{length-keep}
-use Rattle.wire.proofs.ReplyLaws.{bytes-header, length-header}
+use Rattle.wire.proofs.ReplyLaws.{bytes-header, length-header, flatten-append}
 use Rattle.store.specs.Layout.{slotsMost}
 use Rattle.store.specs.Store.{Entry, Slot, Store, holds}
 use Rattle.store.specs.Time.{nowAt, entryOf, ofKey, liveOfKey}
@@ -74,11 +74,6 @@ listed-slot : (l : Listing) (s : Slot) → FitsSlot s → Listed 2 110 (listedSl
 unfolding listedSlot orElse flatten
 listed-slot l none h = record { count = omega arith; sum = loosen 110 (omega arith) empty-short }
 listed-slot l (some e) h = listed-entry l e h
-
-pub flatten-append : (xs ys : List (List ℕ)) → flatten (xs ++ ys) ≡ flatten xs ++ flatten ys
-unfolding flatten
-flatten-append [] ys = refl
-flatten-append (x ∷ xs) ys = rw (flatten-append xs ys, append-assoc)
 
 -- the elements that slots give: at most two a slot, of at most 110 bytes together
 listed-slots : (l : Listing) (p : Slot → Bool) (ss : List Slot) → AllFit ss

@@ -1,7 +1,6 @@
 -- The store is full exactly where the fields that a command would add are more than the slots that are empty or dead.
 use mathlib.Core.Path.{_≡_, _∙_}
-use mathlib.Core.Logic.{_↔_, _⊎_, inl, inr}
-use mathlib.Core.Bool.{true, false}
+use mathlib.Core.Logic.{_↔_}
 use mathlib.Core.List.{List, [], _∷_}
 use mathlib.Core.Option.{none, some}
 use Prim.Native.Nat.{ℕ, _≤_, _<_}
@@ -10,14 +9,14 @@ use native.Mathlib.Omega.{arith}
 use borrow.Author.Tests.{ltb-true, ltb-false, lt-ltb, le-ltb}
 use Rattle.store.specs.Store.{Slot, Store}
 use Rattle.store.specs.Time.{nowAt}
-use Rattle.commands.specs.Refusal.{Check, _when_, lowest}
+use Rattle.wire.specs.Checks.{_when_, firstApplying}
 use Rattle.commands.specs.Command.{Command}
 use Rattle.commands.specs.Parse.{parse}
 use Rattle.commands.specs.Parse.Parsed.{accepted}
 use Rattle.commands.specs.Effect.{Effect}
 use Rattle.commands.specs.Execute.{lateChecks, added, room, exec}
 use Rattle.commands.specs.Claims.{Proper}
-use Rattle.commands.proofs.ParseChecks.{check-applies, check-passed, lowest-some, lowest-none}
+use Rattle.wire.proofs.Checks.{check-applies, check-passed, first-none, check-other, check-only}
 use Rattle.commands.proofs.Went.{sweptBy, effectOn, lateRefusal, accepted-refusal}
 use Rattle.commands.proofs.Refused.{late-refusal}
 
@@ -28,35 +27,19 @@ roomIn now c s = room now (sweptBy now c s)
 abbrev pub addedBy : ℕ → Command → Store → ℕ
 addedBy now c s = added (effectOn now c s .changes) (sweptBy now c s)
 
--- The first check is passed where another number is given; the only one applies where one is.
-pub check-other : {m : ℕ} (c : Check) (cs : List Check) → (c .number ≡ m → ⊥) → lowest (c ∷ cs) ≡ some m → (c .applies ≡ false) × (lowest cs ≡ some m)
-check-other {m} c cs d h = go (lowest-some c cs m h)
-  where
-    go : ((c .applies ≡ true) × (c .number ≡ m)) ⊎ ((c .applies ≡ false) × (lowest cs ≡ some m)) → (c .applies ≡ false) × (lowest cs ≡ some m)
-    go (inl q) = absurd (d (q .1))
-    go (inr q) = q
-
-check-only : {m : ℕ} (c : Check) → lowest (c ∷ []) ≡ some m → c .applies ≡ true
-unfolding lowest
-check-only {m} c h = go (lowest-some c [] m h)
-  where
-    go : ((c .applies ≡ true) × (c .number ≡ m)) ⊎ ((c .applies ≡ false) × (lowest [] ≡ some m)) → c .applies ≡ true
-    go (inl q) = q .0
-    go (inr q) = let e = q .1 in cc
-
 -- where none of 20 to 23 applies, 24 is left
 proper-last : (now : ℕ) (e : Effect) (ss : List Slot) → Proper e
-    → lowest (lateChecks now e ss) ≡ lowest (24 when ltb (room now ss) (added (e .changes) ss) ∷ [])
+    → firstApplying (lateChecks now e ss) ≡ firstApplying (24 when ltb (room now ss) (added (e .changes) ss) ∷ [])
 unfolding lateChecks
 proper-last now e ss p =
     check-passed 20 _ (p .fresh) ∙ check-passed 21 _ (p .integral) ∙ check-passed 22 _ (p .bounded) ∙ check-passed 23 _ (p .numbered)
 
 full-late : (now : ℕ) (e : Effect) (ss : List Slot)
-    → (lowest (lateChecks now e ss) ≡ some 24) ↔ (Proper e × (room now ss < added (e .changes) ss))
+    → (firstApplying (lateChecks now e ss) ≡ some 24) ↔ (Proper e × (room now ss < added (e .changes) ss))
 unfolding lateChecks
 full-late now e ss = (there, back)
   where
-    there : lowest (lateChecks now e ss) ≡ some 24 → Proper e × (room now ss < added (e .changes) ss)
+    there : firstApplying (lateChecks now e ss) ≡ some 24 → Proper e × (room now ss < added (e .changes) ss)
     there h =
         let a = check-other _ _ (omega arith) h in
         let b = check-other _ _ (omega arith) (a .1) in
@@ -66,25 +49,25 @@ full-late now e ss = (there, back)
           ltb-true (room now ss) (added (e .changes) ss) (check-only _ (d .1)),
         )
 
-    back : Proper e × (room now ss < added (e .changes) ss) → lowest (lateChecks now e ss) ≡ some 24
+    back : Proper e × (room now ss < added (e .changes) ss) → firstApplying (lateChecks now e ss) ≡ some 24
     back f = proper-last now e ss (f .0) ∙ check-applies 24 [] (lt-ltb (room now ss) (added (e .changes) ss) (f .1))
 
-clear-proper : (now : ℕ) (e : Effect) (ss : List Slot) → lowest (lateChecks now e ss) ≡ none → Proper e × (added (e .changes) ss ≤ room now ss)
+clear-proper : (now : ℕ) (e : Effect) (ss : List Slot) → firstApplying (lateChecks now e ss) ≡ none → Proper e × (added (e .changes) ss ≤ room now ss)
 unfolding lateChecks
 clear-proper now e ss h =
-    let a = lowest-none _ _ h in
-    let b = lowest-none _ _ (a .1) in
-    let c = lowest-none _ _ (b .1) in
-    let d = lowest-none _ _ (c .1) in
-    let f = lowest-none _ _ (d .1) in
+    let a = first-none _ _ h in
+    let b = first-none _ _ (a .1) in
+    let c = first-none _ _ (b .1) in
+    let d = first-none _ _ (c .1) in
+    let f = first-none _ _ (d .1) in
     (record { fresh = a .0; integral = b .0; bounded = c .0; numbered = d .0 }, ltb-false (room now ss) (added (e .changes) ss) (f .0))
 
 clear-late : (now : ℕ) (e : Effect) (ss : List Slot)
-    → (lowest (lateChecks now e ss) ≡ none) ↔ (Proper e × (added (e .changes) ss ≤ room now ss))
-unfolding lowest
+    → (firstApplying (lateChecks now e ss) ≡ none) ↔ (Proper e × (added (e .changes) ss ≤ room now ss))
+unfolding firstApplying
 clear-late now e ss = (clear-proper now e ss, back)
   where
-    back : Proper e × (added (e .changes) ss ≤ room now ss) → lowest (lateChecks now e ss) ≡ none
+    back : Proper e × (added (e .changes) ss ≤ room now ss) → firstApplying (lateChecks now e ss) ≡ none
     back f = proper-last now e ss (f .0) ∙ check-passed 24 [] (le-ltb (room now ss) (added (e .changes) ss) (f .1))
 
 -- An accepted command is refused with 24 exactly if none of 20 to 23 applies and it would add more fields than there is room for.

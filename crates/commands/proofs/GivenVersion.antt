@@ -24,7 +24,7 @@ use Rattle.commands.specs.declared.Versioning.the-variants.{Next, Match,
 use Rattle.commands.specs.declared.Lifetime.the-variants.{Clear}
 use Rattle.commands.specs.declared.Condition.{Condition}
 use Rattle.commands.specs.declared.Condition.the-variants.{Always}
-use Rattle.commands.specs.Refusal.{lowest}
+use Rattle.wire.specs.Checks.{firstApplying}
 use Rattle.commands.specs.Command.{Deed, keyOf, fieldsOf, deedValues, valuesOf}
 use Rattle.commands.specs.Command.Deed.{assign, increment, expire}
 use Rattle.commands.specs.Command.Command.{onField, countHeld, countLive}
@@ -158,7 +158,7 @@ module _ (k f x : Word) (c : Condition) (n : Versioning) where
       let form : Form = a .row .form in
       let again : saidBy later form (a .words) ≡ onField k f (assign x c n Clear) =
       build-anytime now later form (a .words) (Option·getD (scannedOf form (a .words)) []) (a .built) in
-      let clear : lowest (checks form (a .row .count) (a .words) (scannedOf form (a .words)) (onField k f (assign x c n Clear))) ≡ none =
+      let clear : firstApplying (checks form (a .row .count) (a .words) (scannedOf form (a .words)) (onField k f (assign x c n Clear))) ≡ none =
       rw (a .built) at (a .clear) in
       rw (a .split) (rw (lt-leb timeLimit clock (a .early)) (rw (a .named) (rw again (rw clear refl))))
 
@@ -166,7 +166,7 @@ module _ (k f x : Word) (c : Condition) (n : Versioning) where
 
 -- to compute what words say, with the numbers among them left as texts
 parsing : Unit {0}
-unfolding parse parseWords orElse commandNamed commands spells upper same map text wordAt checks laterChecks scan optionNamed options operandRange optionWords allowed group build tooLong keyOf fieldsOf valuesOf deedValues countFits conflicting readableOperand readable readIn numberIn naturalIn versioning condition lifetime givenOf versioningOf boundIn isZero deedVersioning beyond deedLifetime onDeed lowest any all isSome numberRange
+unfolding parse parseWords orElse commandNamed commands spells upper same map text wordAt checks laterChecks scan optionNamed options operandRange optionWords allowed group build tooLong keyOf fieldsOf valuesOf deedValues countFits conflicting readableOperand readable readIn numberIn naturalIn versioning condition lifetime givenOf versioningOf boundIn isZero deedVersioning beyond deedLifetime onDeed firstApplying any all isSome numberRange
 parsing = tt
 
 natural-read : (most n : ℕ) → n ≤ most → readInteger (pos 0) (pos most) (integerText (pos n)) ≡ some (pos n)

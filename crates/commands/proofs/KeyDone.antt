@@ -21,7 +21,7 @@ use Rattle.commands.specs.declared.Listing.{Listing}
 use Rattle.commands.specs.declared.KeyDeed.{KeyDeed}
 use Rattle.commands.specs.Command.{Command, keyOf, fieldsOf}
 use Rattle.commands.specs.Command.Command.{getMany, delete, countHeld, countLive, list}
-use Rattle.commands.specs.Refusal.{lowest}
+use Rattle.wire.specs.Checks.{firstApplying}
 use Rattle.commands.specs.Effect.{answer, effect}
 use Rattle.commands.specs.Effect.Change.{remove}
 use Rattle.commands.specs.Execute.{swept, passes, adds, added, room, lateChecks, settle, runOn}
@@ -58,7 +58,7 @@ removes-add k (f ∷ fs) ss = removes-add k fs ss
 
 pub does-delete : (now : ℕ) (k : Word) (fs : List Word) (s : Store) {b after d x : List ℕ} {n r : ℕ} → Holds b (swept now k fs s)
     → Deletes k fs (decode b) after n → Laid (number n) d x r → Does (runOn now (delete k fs) s) after d x r
-unfolding effect settle orElse lateChecks lowest keyOf fieldsOf
+unfolding effect settle orElse lateChecks firstApplying keyOf fieldsOf
 does-delete now k fs s {b} h w l =
     swept-does now (delete k fs) s h
     (rw (removes-pass k fs, removes-add k fs (decode b .slots), le-ltb (room now (decode b .slots)) 0 (omega arith))

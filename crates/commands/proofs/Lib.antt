@@ -28,7 +28,7 @@ pub mod VersionCheck
 -- ---- tables and lines: the code's rows are the definitions' own
 pub mod TableRows
 pub mod RefusalLines
--- ---- reading a command: lists of checks, the options one after the other, the families
+-- ---- reading a command: its checks, the options one after the other, the families
 pub mod ParseChecks
 pub mod Sound
 pub mod OptionScanning
@@ -46,7 +46,6 @@ pub mod FieldDeeds
 pub mod OneField
 pub mod Answers
 -- ---- doing a command on the fields of a key
-pub mod Elements
 pub mod ListedSlots
 pub mod FieldSweeps
 pub mod FieldLoops

@@ -35,8 +35,8 @@ use Rattle.commands.specs.Effect.{change, listed, listedSlot}
 use Rattle.commands.specs.Effect.Change.{remove}
 use Rattle.commands.specs.Promises.{widthOf, Removes}
 use Rattle.commands.proofs.Acts.{holds-slots, holds-self}
-use Rattle.commands.proofs.Fit.{flatten-append}
-use Rattle.commands.proofs.Elements.{Next}
+use Rattle.wire.proofs.ReplyLaws.{flatten-append}
+use Rattle.wire.proofs.Elements.{Next}
 
 -- ---- one slot after the other
 

@@ -21,7 +21,8 @@ use Rattle.commands.specs.Command.{Pair, keyOf, fieldsOf}
 use Rattle.commands.specs.Command.Command.{setMany}
 use Rattle.commands.specs.Parse.{pairsOf}
 use Rattle.commands.specs.Effect.{Change, writesOf, effect}
-use Rattle.commands.specs.Refusal.{errorLine, lowest}
+use Rattle.commands.specs.Refusal.{errorLine}
+use Rattle.wire.specs.Checks.{firstApplying}
 use Rattle.commands.specs.Execute.{swept, passes, room, added, lateChecks, settle, runOn}
 use Rattle.commands.specs.Promises.{Does, WithinLimits, fieldsIn, versionIn, overflowing, missing, surveyOf, Placing, withAll}
 use Rattle.commands.proofs.Acts.{holds-self}
@@ -63,7 +64,7 @@ module _ (now : ℕ) (k : Word) (ws : List Word) (s : Store) {b : List ℕ} (h :
 
     -- 23
     pub many-over : v ≡ surveys.Overflow → {d x : List ℕ} {r : ℕ} → Laid (errorLine 23) d x r → Does (runOn now (setMany k pairs) s) b d x r
-    unfolding settle orElse lateChecks lowest effect surveyOf
+    unfolding settle orElse lateChecks firstApplying effect surveyOf
     many-over q l =
         settles (rw (passing-is ∙ go (overflowing (versionIn k slots) (fieldsIn ws)) (sym q ∙ survey)) (record { laid = l; holds = holds-self (h .well) }))
       where
@@ -89,11 +90,11 @@ module _ (now : ℕ) (k : Word) (ws : List Word) (s : Store) {b : List ℕ} (h :
       module _ {full : Bool} (e : full ≡ ltb (room now slots) n) where
         -- 24
         pub many-full : full ≡ true → {d x : List ℕ} {r : ℕ} → Laid (errorLine 24) d x r → Does (runOn now (setMany k pairs) s) b d x r
-        unfolding settle orElse lateChecks lowest effect
+        unfolding settle orElse lateChecks firstApplying effect
         many-full g l = settles (rw (told .0, told .1, ← e, g) (record { laid = l; holds = holds-self (h .well) }))
 
         -- +OK
         pub many-done : full ≡ false → {after : List ℕ} → Holds after (withAll now k pairs (decode b)) → {d x : List ℕ} {r : ℕ} → Laid (line "+OK") d x r
             → Does (runOn now (setMany k pairs) s) after d x r
-        unfolding settle orElse lateChecks lowest effect withAll
+        unfolding settle orElse lateChecks firstApplying effect withAll
         many-done g w l = settles (rw (told .0, told .1, ← e, g) (record { laid = l; holds = w }))

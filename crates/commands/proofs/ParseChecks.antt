@@ -1,8 +1,7 @@
--- Laws of lists of checks, and the ways in which a command's bytes are read.
+-- What a command's checks say, and the ways in which its bytes are read.
 use mathlib.Core.Path.{_≡_, refl}
-use mathlib.Core.Logic.{_⊎_, inl, inr}
 use mathlib.Core.Bool.{Bool, true, false, cond, not, _&&_}
-use mathlib.Core.List.{List, [], _∷_}
+use mathlib.Core.List.{List, []}
 use mathlib.Core.Option.{Option, none, some, Option·getD}
 use Prim.Native.Nat.{ℕ, _≤_, _<_}
 use lib.Dec.{leb}
@@ -10,75 +9,25 @@ use lib.ListN.{length}
 use native.Mathlib.Omega.{arith}
 use borrow.Author.Tests.{leb-true, leb-false}
 use Rattle.wire.specs.Lists.{all, any, orElse}
-use Rattle.wire.proofs.Lists.{and-left, and-right, impossible}
+use Rattle.wire.proofs.Lists.{impossible}
 use Rattle.wire.specs.Words.{Word, wordsOf, wordAt}
 use Rattle.store.specs.Layout.{timeLimit}
-use Rattle.commands.specs.Refusal.{table, earlyLeast, earlyMost, Check, _when_, lowest}
+use Rattle.commands.specs.Refusal.{table, earlyLeast, earlyMost}
+use Rattle.wire.specs.Checks.{firstApplying}
+use Rattle.wire.proofs.Checks.{first-none, first-number, first-between}
 use Rattle.commands.specs.Command.{Command}
 use Rattle.commands.specs.Options.{Given, conflicting, readable, readableOperand}
 use Rattle.commands.specs.Parse.{Form, Count, CommandRow, Parsed, commands, commandNamed, countFits, numberRange, tooLong, isZero, deedVersioning, beyond, deedLifetime, onDeed, laterChecks, checks, scannedOf, saidBy, checksOf, parseWords, parse}
 use Rattle.commands.specs.Parse.Parsed.{refused, accepted}
 use Rattle.commands.specs.ParsePromises.{isRefusal}
 
--- ---- lists of checks
-
--- A check that applies gives its number; one that is passed leaves it to the rest.
-pub check-applies : (n : ℕ) (cs : List Check) {t : Bool} → t ≡ true → lowest (n when t ∷ cs) ≡ some n
-unfolding lowest
-check-applies n cs h = rw h
-
-pub check-passed : (n : ℕ) (cs : List Check) {t : Bool} → t ≡ false → lowest (n when t ∷ cs) ≡ lowest cs
-unfolding lowest
-check-passed n cs h = rw h
-
-pub checks-end : lowest [] ≡ none
-unfolding lowest
-checks-end = refl
-
--- A number that is given is the first check's, which applies, or comes from the rest, where the first is passed.
-pub lowest-some : (c : Check) (cs : List Check) (n : ℕ) → lowest (c ∷ cs) ≡ some n
-    → ((c .applies ≡ true) × (c .number ≡ n)) ⊎ ((c .applies ≡ false) × (lowest cs ≡ some n))
-unfolding lowest
-lowest-some c cs n = go (c .applies)
-  where
-    go : (t : Bool) → cond t (some (c .number)) (lowest cs) ≡ some n → ((t ≡ true) × (c .number ≡ n)) ⊎ ((t ≡ false) × (lowest cs ≡ some n))
-    go true h = inl (refl, cc)
-    go false h = inr (refl, h)
-
--- Where none is given, the first is passed, and none of the rest is given.
-pub lowest-none : (c : Check) (cs : List Check) → lowest (c ∷ cs) ≡ none → (c .applies ≡ false) × (lowest cs ≡ none)
-unfolding lowest
-lowest-none c cs = go (c .applies)
-  where
-    go : (t : Bool) → cond t (some (c .number)) (lowest cs) ≡ none → (t ≡ false) × (lowest cs ≡ none)
-    go true h = impossible cc
-    go false h = (refl, h)
-
--- What holds of the number of every check holds of the number that is given.
-pub lowest-number : (p : ℕ → Bool) (cs : List Check) (n : ℕ) → all (λ c. p (c .number)) cs ≡ true → lowest cs ≡ some n → p n ≡ true
-unfolding all lowest
-lowest-number p [] n h e = impossible cc
-lowest-number p (c ∷ cs) n h e =
-    let this : Bool = p (c .number) in
-    let rest : Bool = all (λ d. p (d .number)) cs in
-    go (lowest-some c cs n e) (and-left this rest h) (lowest-number p cs n (and-right this rest h))
-  where
-    go : ((c .applies ≡ true) × (c .number ≡ n)) ⊎ ((c .applies ≡ false) × (lowest cs ≡ some n)) → p (c .number) ≡ true → (lowest cs ≡ some n → p n ≡ true) → p n ≡ true
-    go (inl q) a b = rw (q .1) at a
-    go (inr q) a b = b (q .1)
-
--- Checks whose numbers lie between two give a number between them.
-pub lowest-between : (lo hi : ℕ) (cs : List Check) (n : ℕ) → all (λ c. leb lo (c .number) && leb (c .number) hi) cs ≡ true → lowest cs ≡ some n
-    → (lo ≤ n) × (n ≤ hi)
-lowest-between lo hi cs n h e =
-    let b : (leb lo n && leb n hi) ≡ true = lowest-number (λ i. leb lo i && leb i hi) cs n h e in
-    (leb-true lo n (and-left (leb lo n) (leb n hi) b), leb-true n hi (and-right (leb lo n) (leb n hi) b))
+-- ---- the checks of a command
 
 -- A command that these checks refuse is refused with one of 13 to 18.
 pub checks-number : (form : Form) (count : Count) (ws : List Word) (scanned : Option (List Given)) (c : Command) (n : ℕ)
-    → lowest (checks form count ws scanned c) ≡ some n → (13 ≤ n) × (n ≤ earlyMost)
+    → firstApplying (checks form count ws scanned c) ≡ some n → (13 ≤ n) × (n ≤ earlyMost)
 unfolding checks laterChecks all
-checks-number form count ws scanned c n h = lowest-between 13 earlyMost (checks form count ws scanned c) n refl h
+checks-number form count ws scanned c n h = first-between 13 earlyMost (checks form count ws scanned c) n refl h
 
 -- what is known where none of 13 to 18 applies
 pub record Clear (form : Form) (count : Count) (ws : List Word) (scanned : Option (List Given)) (c : Command) : Type 0 where
@@ -91,15 +40,15 @@ pub record Clear (form : Form) (count : Count) (ws : List Word) (scanned : Optio
 
 -- Where none of 13 to 18 is given, none applies.
 pub checks-clear : (form : Form) (count : Count) (ws : List Word) (scanned : Option (List Given)) (c : Command)
-    → lowest (checks form count ws scanned c) ≡ none → Clear form count ws scanned c
+    → firstApplying (checks form count ws scanned c) ≡ none → Clear form count ws scanned c
 unfolding checks laterChecks
 checks-clear form count ws scanned c h =
-    let a = lowest-none _ _ h in
-    let b = lowest-none _ _ (a .1) in
-    let d = lowest-none _ _ (b .1) in
-    let e = lowest-none _ _ (d .1) in
-    let f = lowest-none _ _ (e .1) in
-    let g = lowest-none _ _ (f .1) in
+    let a = first-none _ _ h in
+    let b = first-none _ _ (a .1) in
+    let d = first-none _ _ (b .1) in
+    let e = first-none _ _ (d .1) in
+    let f = first-none _ _ (e .1) in
+    let g = first-none _ _ (f .1) in
     record { counted = a .0; short = b .0; clean = d .0; readable = e .0; versioned = f .0; timed = g .0 }
 
 -- ---- the ways in which a command is read
@@ -111,17 +60,17 @@ pub data Reads (now clock : ℕ) (s : List ℕ) : Parsed → Type 0 where
   unknown : (ws : List Word) → wordsOf s ≡ some ws → clock < timeLimit → commandNamed commands (wordAt 0 ws) ≡ none → Reads now clock s (refused 12)
   checked :
       (ws : List Word) (r : CommandRow) (n : ℕ) → wordsOf s ≡ some ws → clock < timeLimit → commandNamed commands (wordAt 0 ws) ≡ some r
-      → lowest (checksOf now r ws) ≡ some n → Reads now clock s (refused n)
+      → firstApplying (checksOf now r ws) ≡ some n → Reads now clock s (refused n)
   passed :
       (ws : List Word) (r : CommandRow) → wordsOf s ≡ some ws → clock < timeLimit → commandNamed commands (wordAt 0 ws) ≡ some r
-      → lowest (checksOf now r ws) ≡ none → Reads now clock s (accepted (saidBy now (r .form) ws))
+      → firstApplying (checksOf now r ws) ≡ none → Reads now clock s (accepted (saidBy now (r .form) ws))
 
 reads-row : (now clock : ℕ) (s : List ℕ) (ws : List Word) (r : CommandRow) → wordsOf s ≡ some ws → clock < timeLimit
     → commandNamed commands (wordAt 0 ws) ≡ some r → Reads now clock s (parseWords now r ws)
 unfolding parseWords orElse
-reads-row now clock s ws r w k m = go (lowest (checksOf now r ws)) refl
+reads-row now clock s ws r w k m = go (firstApplying (checksOf now r ws)) refl
   where
-    go : (o : Option ℕ) → lowest (checksOf now r ws) ≡ o → Reads now clock s (orElse o (accepted (saidBy now (r .form) ws)) refused)
+    go : (o : Option ℕ) → firstApplying (checksOf now r ws) ≡ o → Reads now clock s (orElse o (accepted (saidBy now (r .form) ws)) refused)
     go none e = passed ws r w k m e
     go (some n) e = checked ws r n w k m e
 
@@ -173,7 +122,7 @@ reads-known n (clockOut ws w k) e = let m : n ≡ 11 = cc in rw m
 reads-known n (unknown ws w k m) e = let m : n ≡ 12 = cc in rw m
 reads-known {now} n (checked ws r k w c m l) e =
     let m : k ≡ n = cc in
-    rw m at (lowest-number isRefusal (checksOf now r ws) k refl l)
+    rw m at (first-number isRefusal (checksOf now r ws) k refl l)
 reads-known n (passed ws r w k m l) e = impossible cc
 
 -- The number has a line.
@@ -187,7 +136,7 @@ pub record Accepted (now clock : ℕ) (s : List ℕ) (c : Command) : Type 0 wher
   pub split : wordsOf s ≡ some words
   pub early : clock < timeLimit
   pub named : commandNamed commands (wordAt 0 words) ≡ some row
-  pub clear : lowest (checksOf now row words) ≡ none
+  pub clear : firstApplying (checksOf now row words) ≡ none
   pub built : saidBy now (row .form) words ≡ c
 
 -- An accepted command has passed them.

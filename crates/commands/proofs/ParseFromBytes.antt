@@ -16,7 +16,7 @@ use Rattle.wire.proofs.WordPlaces.{length-words}
 use Rattle.store.specs.Layout.{timeLimit}
 use Rattle.commands.specs.declared.Parsed.{Parsed}
 use Rattle.commands.specs.declared.Parsed.the-variants as parses
-use Rattle.commands.specs.Refusal.{lowest}
+use Rattle.wire.specs.Checks.{firstApplying}
 use Rattle.commands.specs.Command.{Command}
 use Rattle.commands.specs.Options.{Given}
 use Rattle.commands.specs.Parse as P
@@ -24,7 +24,7 @@ use Rattle.commands.specs.Parse.{commands, commandNamed, countFits, buil
 use Rattle.commands.specs.Parse.Parsed.{refused}
 use Rattle.commands.specs.TablePromises.{commandTable, commandOf}
 use Rattle.commands.specs.ParsePromises.{Divided, parseRest, meant}
-use Rattle.commands.proofs.ParseChecks.{check-applies, check-passed}
+use Rattle.wire.proofs.Checks.{check-applies, check-passed}
 use Rattle.commands.proofs.TableRows.{command-row}
 use Rattle.commands.proofs.Parsing.{givenIn}
 
@@ -35,7 +35,7 @@ module _ (time i : ℕ) (ws : List Word) where
   said = saidBy time (commandOf i .form) ws
 
   abbrev refusal : Option ℕ
-  refusal = lowest (checks (commandOf i .form) (commandOf i .count) ws (scannedOf (commandOf i .form) ws) said)
+  refusal = firstApplying (checks (commandOf i .form) (commandOf i .count) ws (scannedOf (commandOf i .form) ws) said)
 
   words-refused : (n : ℕ) → refusal ≡ some n → parseWords time (commandOf i) ws ≡ refused n
   unfolding parseWords orElse
@@ -53,7 +53,7 @@ module _ (time i : ℕ) (ws : List Word) where
     words-rest : tooLong said ≡ false → parseWords time (commandOf i) ws ≡ parseRest time (commandOf i .form) ws
     unfolding parseWords parseRest checks
     words-rest b =
-        let passed : refusal ≡ lowest (laterChecks (commandOf i .form) ws (scannedOf (commandOf i .form) ws) said) = check-passed _ _ (ap not a) ∙ check-passed _ _ b in
+        let passed : refusal ≡ firstApplying (laterChecks (commandOf i .form) ws (scannedOf (commandOf i .form) ws) said) = check-passed _ _ (ap not a) ∙ check-passed _ _ b in
         rw passed
 
 -- ---- the bytes of a command

@@ -29,14 +29,14 @@ use Rattle.commands.specs.declared.operands.Terms.{Terms}
 use Rattle.commands.specs.declared.operands.Terms.the-variants as terms
 use Rattle.commands.specs.declared.options.ScannedOptions.{ScannedOptions}
 use Rattle.commands.specs.declared.Parsed.the-variants as parses
-use Rattle.commands.specs.Refusal.{lowest}
+use Rattle.wire.specs.Checks.{firstApplying}
 use Rattle.commands.specs.Options.{Given, _with_, signed64, expiryGroup, conditionGroup, versionGroup, groupCount, operandRange, scan, conflicting, givenOf, readIn, readable, numberIn, readableOperand, conditionOf, lifetime, versioning, condition, boundIn}
 use Rattle.commands.specs.Options.OptionKind.{bound}
 use Rattle.commands.specs.Parse.{Form, allowed, optionWords, numberRange, isZero, deedVersioning, beyond, deedLifetime, onDeed, laterChecks, scannedOf, saidBy}
 use Rattle.commands.specs.Parse.Parsed.{refused, accepted}
 use Rattle.commands.specs.TablePromises.{kindIn}
 use Rattle.commands.specs.ParsePromises.{notGiven, numbered, optionAt, givenAt, Scanned, lifetimeBy, versionBy, readOf, timedFor, versionedFor, termChecks, termsFor, conditionFor, boundFor, boundGiven, parseRest, meant}
-use Rattle.commands.proofs.ParseChecks.{check-applies, check-passed, checks-end}
+use Rattle.wire.proofs.Checks.{check-applies, check-passed, checks-end}
 use Rattle.commands.proofs.OptionScanning.{option-some, option-none}
 use Rattle.commands.proofs.OptionsOneEach.{scan-allowed, all-groups}
 
@@ -62,7 +62,7 @@ tooLate time f ws = onDeed (λ d. beyond (deedLifetime d)) (saidBy time f ws)
 -- each number is reached by passing the checks before it
 module _ (time : ℕ) (f : Form) (ws : List Word) where
   abbrev refusal : Option ℕ
-  refusal = lowest (laterChecks f ws (scannedOf f ws) (saidBy time f ws))
+  refusal = firstApplying (laterChecks f ws (scannedOf f ws) (saidBy time f ws))
 
   rest-refused : (n : ℕ) → refusal ≡ some n → meant ws (parses.Refused n) ≡ parseRest time f ws
   unfolding meant parseRest orElse
@@ -168,11 +168,11 @@ module _ (x : Option Given) {v : Versioned} (e : v ≡ versionedFor x) where
 
 -- what the code answers of both, x of the expiry and y of the version
 module _ (time : ℕ) (x y : Option Given) where
-  terms-given : (n : ℕ) → lowest (termChecks time x y) ≡ some n → terms.Refused n ≡ termsFor time x y
+  terms-given : (n : ℕ) → firstApplying (termChecks time x y) ≡ some n → terms.Refused n ≡ termsFor time x y
   unfolding termsFor orElse
   terms-given n e = rw e
 
-  terms-passed : lowest (termChecks time x y) ≡ none → terms.Value (versionBy y) (lifetimeBy time x) ≡ termsFor time x y
+  terms-passed : firstApplying (termChecks time x y) ≡ none → terms.Value (versionBy y) (lifetimeBy time x) ≡ termsFor time x y
   unfolding termsFor orElse
   terms-passed e = rw e
 
@@ -304,7 +304,7 @@ module _ {f : Form} {ws : List Word} {r : ScannedOptions} (y : Ready f ws r) whe
       (left : allRead f ws ≡ readOf (found expiryGroup) && readOf (found versionGroup))
       (zero : zeroVersion time f ws ≡ isZero (versioning (givenIn f ws))) (late : tooLate time f ws ≡ beyond (lifetime time (givenIn f ws))) where
     abbrev outcome : Option ℕ
-    outcome = lowest (termChecks time (found expiryGroup) (found versionGroup))
+    outcome = firstApplying (termChecks time (found expiryGroup) (found versionGroup))
 
     -- the checks from 16 on are those of the terms
     rest-terms : parseRest time f ws ≡ orElse outcome (accepted (saidBy time f ws)) refused

@@ -15,28 +15,30 @@ use Rattle.wire.specs.Replies.{line}
 use Rattle.wire.proofs.Lists.{impossible}
 use Rattle.store.specs.Store.{Entry, Slot, Store}
 use Rattle.store.specs.Time.{nowAt, live}
-use Rattle.commands.specs.Refusal.{RefusalRow, table, earlyLeast, earlyMost, lateLeast, lateMost, lineIn, errorLine, lowest}
+use Rattle.commands.specs.Refusal.{RefusalRow, table, earlyLeast, earlyMost, lateLeast, lateMost, lineIn, errorLine}
+use Rattle.wire.specs.Checks.{firstApplying}
 use Rattle.commands.specs.Command.{Command, keyOf, fieldsOf}
 use Rattle.commands.specs.Parse.{Parsed, parse, scannedOf, saidBy}
 use Rattle.commands.specs.Parse.Parsed.{refused, accepted}
 use Rattle.commands.specs.Effect.{Effect}
 use Rattle.commands.specs.Execute.{lateChecks, Outcome, perform, exec}
 use Rattle.commands.specs.ParsePromises.{isRefusal}
-use Rattle.commands.proofs.ParseChecks.{lowest-number, lowest-between, checks-number, Reads, reads, parse-refused, parse-known}
+use Rattle.commands.proofs.ParseChecks.{checks-number, Reads, reads, parse-refused, parse-known}
+use Rattle.wire.proofs.Checks.{first-number, first-between}
 use Rattle.commands.proofs.ParseChecks.Reads.{damaged, clockOut, unknown, checked, passed}
 use Rattle.commands.proofs.Sweep.{sweep-keeps-live}
 use Rattle.commands.proofs.Went.{Went, went, storeOf, sweptBy, effectOn, lateRefusal}
 use Rattle.commands.proofs.Went.Went.{early, late, done}
 
 -- 20 to 24 have lines.
-pub late-known : (time : ℕ) (E : Effect) (ss : List Slot) (n : ℕ) → lowest (lateChecks time E ss) ≡ some n → isRefusal n ≡ true
+pub late-known : (time : ℕ) (E : Effect) (ss : List Slot) (n : ℕ) → firstApplying (lateChecks time E ss) ≡ some n → isRefusal n ≡ true
 unfolding lateChecks isRefusal any table all
-late-known time E ss n h = lowest-number isRefusal (lateChecks time E ss) n refl h
+late-known time E ss n h = first-number isRefusal (lateChecks time E ss) n refl h
 
 -- A command that is refused after it was accepted is refused with one of 20 to 24.
 pub late-number : (now : ℕ) (c : Command) (s : Store) (n : ℕ) → lateRefusal now c s ≡ some n → (lateLeast ≤ n) × (n ≤ lateMost)
 unfolding lateChecks all
-late-number now c s n h = lowest-between lateLeast lateMost (lateChecks now (effectOn now c s) (sweptBy now c s)) n refl h
+late-number now c s n h = first-between lateLeast lateMost (lateChecks now (effectOn now c s) (sweptBy now c s)) n refl h
 
 -- The number of a refusal is one of 10 to 18 or one of 20 to 24.
 pub refusal-number : (clock : ℕ) (command : List ℕ) (s : Store) (n : ℕ) → exec clock command s .refusal ≡ some n

@@ -26,13 +26,13 @@ use Rattle.commands.specs.declared.field.WriteOutcome.{WriteOutcome}
 use Rattle.commands.specs.declared.field.WriteOutcome.the-variants as writes
 use Rattle.commands.specs.declared.field.Settled.{Settled}
 use Rattle.commands.specs.declared.field.Settled.the-variants as settleds
-use Rattle.commands.specs.Refusal.{_when_, lowest}
+use Rattle.wire.specs.Checks.{_when_, firstApplying}
 use Rattle.commands.specs.Effect.{Effect, answer, writing, change, changeAll}
 use Rattle.commands.specs.Effect.Change.{write}
 use Rattle.commands.specs.Execute.{Outcome, refusedWith, doneWith, settle, passes, adds, added, room, lateChecks}
 use Rattle.commands.specs.ParsePromises.{isRefusal}
 use Rattle.commands.specs.Promises.{Does, Wrote, Settles, Changes, settledReply, tellable, writeSettled, lookFor, versioned, outcomeFor}
-use Rattle.commands.proofs.ParseChecks.{check-applies, check-passed}
+use Rattle.wire.proofs.Checks.{check-applies, check-passed}
 use Rattle.commands.proofs.Refused.{late-known}
 use Rattle.commands.proofs.Room.{keep-set-less, slot-none}
 use Rattle.commands.proofs.Acts.{holds-self}
@@ -58,7 +58,7 @@ changes-as time h w = rw h w
 -- ---- refused, or nothing to change
 
 module _ (time : ℕ) (E : Effect) {b : List ℕ} (w : wellFormed b ≡ true) where
-  changes-refused : (n : ℕ) → lowest (lateChecks time E (decode b .slots)) ≡ some n → Changes time E b b (settleds.Refused n)
+  changes-refused : (n : ℕ) → firstApplying (lateChecks time E (decode b .slots)) ≡ some n → Changes time E b b (settleds.Refused n)
   unfolding settle orElse settledReply
   changes-refused n h about = rw h (refused-settles (holds-self w) n (late-known time E (decode b .slots) n h) about refl)
 
@@ -79,8 +79,8 @@ module _ (time : ℕ) (E : Effect) {b : List ℕ} (w : wellFormed b ≡ true) wh
     changes-overflow g h =
         changes-refused 22 (check-passed 20 _ f ∙ check-passed 21 _ g ∙ check-applies 22 _ h)
 
-answer-clear : (time : ℕ) (y : List ℕ) (ss : List Slot) → lowest (lateChecks time (answer y) ss) ≡ none
-unfolding lateChecks lowest any added
+answer-clear : (time : ℕ) (y : List ℕ) (ss : List Slot) → firstApplying (lateChecks time (answer y) ss) ≡ none
+unfolding lateChecks firstApplying any added
 answer-clear time y ss = rw (le-ltb (room time ss) 0 (omega arith)) refl
 
 -- A reply and no change.
@@ -113,10 +113,10 @@ slot-room time k f ss i h n =
 
 module _ (time : ℕ) (e : Entry) (y : List ℕ) (ss : List Slot) where
   lateOf : Option ℕ
-  lateOf = lowest (lateChecks time (writing false e y) ss)
+  lateOf = firstApplying (lateChecks time (writing false e y) ss)
 
   -- only 23 and 24 can refuse it
-  late-write : lateOf ≡ lowest (23 when any passes (write e ∷ []) ∷ 24 when ltb (room time ss) (added (write e ∷ []) ss) ∷ [])
+  late-write : lateOf ≡ firstApplying (23 when any passes (write e ∷ []) ∷ 24 when ltb (room time ss) (added (write e ∷ []) ss) ∷ [])
   unfolding lateOf lateChecks
   late-write = check-passed 20 _ refl ∙ check-passed 21 _ refl ∙ check-passed 22 _ refl
 
@@ -125,7 +125,7 @@ module _ (time : ℕ) (e : Entry) (y : List ℕ) (ss : List Slot) where
   passing h = late-write ∙ check-applies 23 _ (rw (lt-ltb versionMost (e .version) h))
 
   module _ (l : e .version ≤ versionMost) where
-    late-last : lateOf ≡ lowest (24 when ltb (room time ss) (added (write e ∷ []) ss) ∷ [])
+    late-last : lateOf ≡ firstApplying (24 when ltb (room time ss) (added (write e ∷ []) ss) ∷ [])
     unfolding any passes
     late-last = late-write ∙ check-passed 23 _ (rw (le-ltb versionMost (e .version) l))
 
@@ -134,7 +134,7 @@ module _ (time : ℕ) (e : Entry) (y : List ℕ) (ss : List Slot) where
     full h = let n = slot-none time (e .key) (e .field) ss h in late-last ∙ check-applies 24 [] (rw (n .0, n .1))
 
     clear : (i : ℕ) → slotFor time (e .key) (e .field) ss ≡ some i → lateOf ≡ none
-    unfolding lowest any added adds
+    unfolding firstApplying any added adds
     clear i h = late-last ∙ check-passed 24 [] (go (any (holds (e .key) (e .field)) ss) refl)
       where
         go : (t : Bool) → any (holds (e .key) (e .field)) ss ≡ t → ltb (room time ss) (cond (not (t || false)) 1 0) ≡ false
@@ -174,12 +174,12 @@ pub wrote-settles : (time : ℕ) (e : Entry) (z : Signed) {b after : List ℕ} {
     → Changes time (writing false e (integer (integerOf z))) b after r
 unfolding settle orElse outcomeFor lateChecks writeSettled settledReply
 wrote-settles time e z {b} {after} {w} {r} k h q about =
-    go (lowest (lateChecks time (writing false e []) (decode b .slots))) refl (h .answer) (h .holds)
+    go (firstApplying (lateChecks time (writing false e []) (decode b .slots))) refl (h .answer) (h .holds)
   where
     done : List ℕ → Outcome
     done y = doneWith y (withSlots (changeAll time (write e ∷ []) (decode b .slots)) (decode b))
 
-    go : (o : Option ℕ) → lowest (lateChecks time (writing false e []) (decode b .slots)) ≡ o
+    go : (o : Option ℕ) → firstApplying (lateChecks time (writing false e []) (decode b .slots)) ≡ o
         → w ≡ outcomeFor (orElse o (done []) (λ m. refusedWith m (decode b)) .refusal)
         → Holds after (orElse o (done []) (λ m. refusedWith m (decode b)) .store)
         → Settles about (orElse o (done (integer (integerOf z))) (λ m. refusedWith m (decode b))) b after r

@@ -34,8 +34,8 @@ use Rattle.commands.specs.Claims.{Applies, idle, Numbered}
 use Rattle.commands.proofs.Went.{sweptBy, effectOn, accepted-refusal}
 use Rattle.commands.proofs.Sweep.{sweep-apart, sweep-from, sweep-keeps-live, found-alive}
 use Rattle.commands.proofs.Room.{slot-none}
-use Rattle.commands.proofs.ParseChecks.{check-applies, check-passed}
-use Rattle.commands.proofs.Full.{check-other, done-exactly}
+use Rattle.wire.proofs.Checks.{check-applies, check-passed, check-other}
+use Rattle.commands.proofs.Full.{done-exactly}
 use Rattle.commands.proofs.Exactly.{late-exactly, done-gives}
 use Rattle.commands.proofs.VersionPlans.{missing-fresh}
 

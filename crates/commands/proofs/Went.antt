@@ -6,7 +6,7 @@ use Prim.Native.Nat.{ℕ}
 use Rattle.wire.specs.Lists.{orElse}
 use Rattle.store.specs.Store.{Slot, Store}
 use Rattle.store.specs.Time.{nowAt}
-use Rattle.commands.specs.Refusal.{lowest}
+use Rattle.wire.specs.Checks.{firstApplying}
 use Rattle.commands.specs.Command.{Command, keyOf, fieldsOf}
 use Rattle.commands.specs.Parse.{Parsed, parse}
 use Rattle.commands.specs.Parse.Parsed.{refused, accepted}
@@ -22,7 +22,7 @@ effectOn now c s = effect now c (sweptBy now c s)
 
 -- the refusal of an accepted command, 20 to 24
 abbrev pub lateRefusal : ℕ → Command → Store → Option ℕ
-lateRefusal now c s = lowest (lateChecks now (effectOn now c s) (sweptBy now c s))
+lateRefusal now c s = firstApplying (lateChecks now (effectOn now c s) (sweptBy now c s))
 
 abbrev pub storeOf : ℕ → List Slot → Store
 storeOf now ss = record { clock = now; slots = ss }

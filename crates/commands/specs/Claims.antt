@@ -13,7 +13,7 @@ use Rattle.store.specs.Layout.{timeLimit}
 use Rattle.store.specs.declared.Expiry.the-variants.{Never}
 use Rattle.store.specs.Store.{Entry, Slot, Store}
 use Rattle.store.specs.Time.{live, entryOf}
-use Rattle.commands.specs.Refusal.{Check, _when_}
+use Rattle.wire.specs.Checks.{Check, _when_}
 use Rattle.commands.specs.Command.{Deed, Pair, Command, keyOf, fieldsOf}
 use Rattle.commands.specs.Command.Deed.{assign, increment, expire, persist, renumber, ask}
 use Rattle.commands.specs.Parse.{CommandRow, commands, commandNamed, checksOf}

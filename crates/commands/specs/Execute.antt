@@ -11,7 +11,8 @@ use Rattle.wire.specs.Words.{Word}
 use Rattle.store.specs.Layout.{versionMost}
 use Rattle.store.specs.Store.{Entry, Slot, Store, withClock, withSlots, decode, encode, holds}
 use Rattle.store.specs.Time.{nowAt, live, roomSlot, without}
-use Rattle.commands.specs.Refusal.{Check, _when_, lowest, errorLine}
+use Rattle.commands.specs.Refusal.{errorLine}
+use Rattle.wire.specs.Checks.{Check, _when_, firstApplying}
 use Rattle.commands.specs.Command.{Command, keyOf, fieldsOf}
 use Rattle.commands.specs.Parse.{Parsed, parse}
 use Rattle.commands.specs.Parse.Parsed.{refused, accepted}
@@ -81,7 +82,7 @@ doneWith reply s = record { refusal = none; reply = reply; store = s }
 -- an effect on a store whose clock is set and whose named dead entries are gone: "20 to 24 set the clock and remove named dead entries only."
 unfoldable pub settle : ℕ → Effect → Store → Outcome
 settle now e s =
-    orElse (lowest (lateChecks now e (s .slots)))
+    orElse (firstApplying (lateChecks now e (s .slots)))
     (doneWith (e .reply) (withSlots (changeAll now (e .changes) (s .slots)) s))
     λ n. refusedWith n s
 

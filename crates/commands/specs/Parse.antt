@@ -19,7 +19,7 @@ use Rattle.commands.specs.declared.Question.{Question}
 use Rattle.commands.specs.declared.Question.the-variants.{Value, Length, Exists, Versioned, Version, Seconds, Milliseconds}
 use Rattle.commands.specs.declared.Listing.{Listing}
 use Rattle.commands.specs.declared.Listing.the-variants.{Fields, Values, Both}
-use Rattle.commands.specs.Refusal.{Check, _when_, lowest}
+use Rattle.wire.specs.Checks.{Check, _when_, firstApplying}
 use Rattle.commands.specs.Command.{Deed, Pair, Command, keyOf, fieldsOf, valuesOf}
 use Rattle.commands.specs.Command.Deed.{assign, increment, expire, persist, renumber, ask}
 use Rattle.commands.specs.Command.Command.{onField, setMany, getMany, delete, countHeld, countLive, list}
@@ -251,7 +251,7 @@ pub data Parsed : Type 0 where
   accepted : Command → Parsed
 
 unfoldable pub parseWords : ℕ → CommandRow → List Word → Parsed
-parseWords now r ws = orElse (lowest (checksOf now r ws)) (accepted (saidBy now (r .form) ws)) refused
+parseWords now r ws = orElse (firstApplying (checksOf now r ws)) (accepted (saidBy now (r .form) ws)) refused
 
 -- 10: "not RESP as above"; 11: "record clock 4,102,444,800,000 or more"; 12: "unknown name"
 unfoldable pub parse : ℕ → ℕ → List ℕ → Parsed

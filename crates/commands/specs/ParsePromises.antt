@@ -37,7 +37,8 @@ use Rattle.commands.specs.declared.operands.Added.the-variants as addeds
 use Rattle.commands.specs.declared.options.OptionFound.{OptionFound}
 use Rattle.commands.specs.declared.options.OptionFound.the-variants as founds
 use Rattle.commands.specs.declared.options.ScannedOptions.{ScannedOptions}
-use Rattle.commands.specs.Refusal.{table, Check, _when_, lowest}
+use Rattle.commands.specs.Refusal.{table}
+use Rattle.wire.specs.Checks.{Check, _when_, firstApplying}
 use Rattle.commands.specs.Command.{Deed, Command}
 use Rattle.commands.specs.Command.Deed.{assign, increment, expire, persist, renumber, ask}
 use Rattle.commands.specs.Command.Command.{onField, setMany, getMany, delete, countHeld, countLive, list}
@@ -129,7 +130,7 @@ termChecks time x y =
     ∷ []
 
 unfoldable pub termsFor : ℕ → Option Given → Option Given → Terms
-termsFor time x y = orElse (lowest (termChecks time x y)) (terms.Value (versionBy y) (lifetimeBy time x)) terms.Refused
+termsFor time x y = orElse (firstApplying (termChecks time x y)) (terms.Value (versionBy y) (lifetimeBy time x)) terms.Refused
 
 -- what NX or XX says
 unfoldable pub conditionFor : ℕ → Condition
@@ -209,4 +210,4 @@ unfoldable pub parseRest : ℕ → Form → List Word → P.Parsed
 parseRest time form ws =
     let scanned : Option (List Given) = scan (allowed form) none (optionWords form ws) in
     let c : Command = build time form ws (Option·getD scanned []) in
-    orElse (lowest (laterChecks form ws scanned c)) (P.Parsed.accepted c) P.Parsed.refused
+    orElse (firstApplying (laterChecks form ws scanned c)) (P.Parsed.accepted c) P.Parsed.refused

@@ -1,7 +1,6 @@
--- "Answers that say no": each refusal's line, and "The lowest number that applies is given."
-use mathlib.Core.Bool.{Bool, cond}
+-- "Answers that say no": each refusal's line.
+use mathlib.Core.Bool.{cond}
 use mathlib.Core.List.{List, [], _∷_}
-use mathlib.Core.Option.{Option, none, some}
 use Prim.Native.Nat.{ℕ}
 use Prim.Native.String.{String}
 use lib.Dec.{eqb}
@@ -60,17 +59,3 @@ lineIn (r ∷ rs) n =
 -- the whole reply of a refused command
 unfoldable pub errorLine : ℕ → List ℕ
 errorLine n = lineIn table n
-
--- a check: the number of the refusal, and whether it applies
-pub record Check : Type 0 where
-  pub number : ℕ
-  pub applies : Bool
-
-infix 70 _when_
-abbrev pub _when_ : ℕ → Bool → Check
-n when t = record { number = n; applies = t }
-
--- of checks in ascending order, the first that applies
-unfoldable pub lowest : List Check → Option ℕ
-lowest [] = none
-lowest (c ∷ cs) = cond (c .applies) (some (c .number)) (lowest cs)

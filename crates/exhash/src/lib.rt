@@ -1,10 +1,14 @@
 // The C interface: thin exported functions, no logic. None has a `requires`: each answers and never traps, whatever bytes it gets.
+use compare::Compared;
+use compare::Place;
 use feeder::Fed;
 use feeder::Feeder;
 use feeder::feed::feed_lent;
 ghost use mathlib.Core.Path.{_≡_};
 ghost use mathlib.Core.Bool.{cond};
 ghost use Rattle.store.specs.Store.{wellFormed};
+ghost use Rattle.compare.specs.Newer.{placeOf};
+ghost use Rattle.compare.specs.Calls.{compare, newer};
 ghost use Rattle.feeder.specs.State.{fresh};
 ghost use Rattle.feeder.specs.Feed.{feed};
 
@@ -49,4 +53,30 @@ pub extern "C" fn exh_store_check(store: &[u8]) -> u32
         return 0;
     }
     2
+}
+
+// What two stores differ in at an instant, as a listing in a lent output.
+#[no_mangle]
+pub extern "C" fn exh_compare(first: &[u8], second: &[u8], instant: u64, out: &mut [u8]) -> Compared
+    ensures { λ r.
+        ⌜ record { compared = r; output = now (out .exit) }
+        ≡ compare (now (first .entry)) (now (second .entry)) instant (now (out .entry)) ⌝ }
+{
+    compare::listing::compare(first, second, instant, out)
+}
+
+// Where the newer value of a key and a field stands.
+#[no_mangle]
+pub extern "C" fn exh_newer(
+    first: &[u8],
+    second: &[u8],
+    key: &[u8],
+    field: &[u8],
+    instant: u64,
+) -> Place
+    ensures { λ r.
+        let which = newer (now (first .entry)) (now (second .entry)) (now (key .entry)) (now (field .entry)) instant in
+        ⌜ r ≡ placeOf (now (first .entry)) (now (second .entry)) which ⌝ }
+{
+    compare::newer::newer_place(first, second, key, field, instant)
 }

@@ -17,7 +17,8 @@ use Rattle.wire.specs.Bytes.{Bytes}
 use Rattle.wire.proofs.ByteLaws.{bytes-append, bytes-take, bytes-drop, bytes-part, bytes-tail}
 use Rattle.wire.proofs.ReplyLaying.{take-laid}
 use Rattle.store.specs.Store.{wellFormed}
-use Rattle.commands.specs.Refusal.{lowest, bufferLeast}
+use Rattle.commands.specs.Refusal.{bufferLeast}
+use Rattle.wire.specs.Checks.{firstApplying}
 use Rattle.commands.specs.Execute.{execBytes}
 use Rattle.commands.proofs.Keeps.{execBytes-well}
 use Rattle.feeder.specs.Record.{Record, Head, headOf, recordOf, commandAt}
@@ -157,7 +158,7 @@ module _ (b : List ℕ) (well : wellFormed b ≡ true) where
 
     -- 1 and 2 are not answered
     answered : answerTo (doneFor b t) c ≡ cond (ltb (length (c .buffer)) bufferLeast) refusal answer
-    unfolding answerTo feed checks lowest orElse doneFor next
+    unfolding answerTo feed checks firstApplying orElse doneFor next
     answered =
         rw (left, store-well, waiting-back (t .divided .rest)) (go (ltb (length (c .buffer)) bufferLeast))
       where

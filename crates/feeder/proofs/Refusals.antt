@@ -19,9 +19,10 @@ use Rattle.store.specs.Store.{Entry, Slot, Store, encodeSlot, decode, encode, w
 use Rattle.store.specs.Time.{nowAt, live}
 use Rattle.store.proofs.Encode.{decode-valid, encode-decode, length-decode}
 use Rattle.store.proofs.Places.{encode-at}
-use Rattle.commands.specs.Refusal.{errorLine, lowest, bufferLeast, earlyMost}
+use Rattle.commands.specs.Refusal.{errorLine, bufferLeast, earlyMost}
+use Rattle.wire.specs.Checks.{firstApplying}
 use Rattle.commands.specs.Execute.{exec, execBytes}
-use Rattle.commands.proofs.ParseChecks.{lowest-none}
+use Rattle.wire.proofs.Checks.{first-none}
 use Rattle.commands.proofs.Refused.{refused-reply, early-refusal, refused-keeps-live}
 use Rattle.commands.proofs.Keeps.{refused-valid}
 use Rattle.commands.proofs.SomeReply.{exec-some}
@@ -45,7 +46,7 @@ answerBy f piece b buffer m = orElse m (answering (absorb (waitingIn f) piece) b
 
 pub refused-call : (f : Feeder) (piece b buffer : List ℕ) → feed f piece b buffer .fed .refusal ≢ 0 → Untouched f b buffer (feed f piece b buffer)
 unfolding feed orElse answering
-refused-call f piece b buffer = go (lowest (checks f b buffer))
+refused-call f piece b buffer = go (firstApplying (checks f b buffer))
   where
     go : (m : Option ℕ) → answerBy f piece b buffer m .fed .refusal ≢ 0 → Untouched f b buffer (answerBy f piece b buffer m)
     go none h = absurd (h refl)
@@ -63,7 +64,7 @@ Exactly f b buffer n =
 
 module _ (f : Feeder) (piece b buffer : List ℕ) where
   pub refused-exactly : Exactly f b buffer (feed f piece b buffer .fed .refusal)
-  unfolding feed checks lowest orElse answering refusing
+  unfolding feed checks firstApplying orElse answering refusing
   refused-exactly = go (isLeft f) (wellFormed b) (ltb (length buffer) bufferLeast) refl refl refl
     where
       go : (left well small : Bool) → isLeft f ≡ left → wellFormed b ≡ well → ltb (length buffer) bufferLeast ≡ small
@@ -90,7 +91,7 @@ module _ (f : Feeder) (piece b buffer : List ℕ) where
 
   -- a call that is not refused absorbs, and does the record that it completes
   pub accepted-call : feed f piece b buffer .fed .refusal ≡ 0 → feed f piece b buffer ≡ answering (absorb (waitingIn f) piece) b buffer
-  unfolding feed checks lowest orElse
+  unfolding feed checks firstApplying orElse
   accepted-call h = let fine = refused-exactly .3 .0 h in rw (fine .0, fine .1, le-ltb (length buffer) bufferLeast (fine .2))
 
   -- ---- what is replied
@@ -124,19 +125,19 @@ doing-short none b well = omega arith
 doing-short (some r) b well = reply-short (r .clock) (r .command) b well
 
 -- a call of which no check applies has a well-formed store and a large buffer
-none-refused : (f : Feeder) (b buffer : List ℕ) → lowest (checks f b buffer) ≡ none → (wellFormed b ≡ true) × (bufferLeast ≤ length buffer)
+none-refused : (f : Feeder) (b buffer : List ℕ) → firstApplying (checks f b buffer) ≡ none → (wellFormed b ≡ true) × (bufferLeast ≤ length buffer)
 unfolding checks
 none-refused f b buffer e =
-    let left = lowest-none _ _ e in
-    let well = lowest-none _ _ (left .1) in
-    let large = lowest-none _ _ (well .1) in
+    let left = first-none _ _ e in
+    let well = first-none _ _ (left .1) in
+    let large = first-none _ _ (well .1) in
     (not-false (wellFormed b) (well .0), ltb-false (length buffer) bufferLeast (large .0))
 
 pub buffer-length : (f : Feeder) (piece b buffer : List ℕ) → length (feed f piece b buffer .buffer) ≡ length buffer
 unfolding feed orElse answering refusing
-buffer-length f piece b buffer = go (lowest (checks f b buffer)) refl
+buffer-length f piece b buffer = go (firstApplying (checks f b buffer)) refl
   where
-    go : (m : Option ℕ) → lowest (checks f b buffer) ≡ m → length (answerBy f piece b buffer m .buffer) ≡ length buffer
+    go : (m : Option ℕ) → firstApplying (checks f b buffer) ≡ m → length (answerBy f piece b buffer m .buffer) ≡ length buffer
     go (some n) e = refl
     go none e =
         let m : Option Record = absorb (waitingIn f) piece .completed in
@@ -147,7 +148,7 @@ buffer-length f piece b buffer = go (lowest (checks f b buffer)) refl
 pub buffer-beyond : (f : Feeder) (piece b buffer : List ℕ)
     → let a = feed f piece b buffer in drop (a .fed .replied) (a .buffer) ≡ drop (a .fed .replied) buffer
 unfolding feed orElse answering refusing
-buffer-beyond f piece b buffer = go (lowest (checks f b buffer))
+buffer-beyond f piece b buffer = go (firstApplying (checks f b buffer))
   where
     go : (m : Option ℕ)
         → drop (answerBy f piece b buffer m .fed .replied) (answerBy f piece b buffer m .buffer) ≡ drop (answerBy f piece b buffer m .fed .replied) buffer
@@ -158,7 +159,7 @@ buffer-beyond f piece b buffer = go (lowest (checks f b buffer))
 pub no-record-keeps : (f : Feeder) (piece b buffer : List ℕ) → absorb (waitingIn f) piece .completed ≡ none
     → (feed f piece b buffer .store ≡ b) × (feed f piece b buffer .buffer ≡ buffer)
 unfolding feed orElse answering refusing
-no-record-keeps f piece b buffer e = go (lowest (checks f b buffer))
+no-record-keeps f piece b buffer e = go (firstApplying (checks f b buffer))
   where
     go : (m : Option ℕ) → (answerBy f piece b buffer m .store ≡ b) × (answerBy f piece b buffer m .buffer ≡ buffer)
     go none = unfold doing laidOver in rw e (refl, refl)
@@ -167,9 +168,9 @@ no-record-keeps f piece b buffer e = go (lowest (checks f b buffer))
 -- a reply lies in its buffer
 pub reply-inside : (f : Feeder) (piece b buffer : List ℕ) → feed f piece b buffer .fed .replied ≤ length buffer
 unfolding feed orElse answering refusing
-reply-inside f piece b buffer = go (lowest (checks f b buffer)) refl
+reply-inside f piece b buffer = go (firstApplying (checks f b buffer)) refl
   where
-    go : (m : Option ℕ) → lowest (checks f b buffer) ≡ m → answerBy f piece b buffer m .fed .replied ≤ length buffer
+    go : (m : Option ℕ) → firstApplying (checks f b buffer) ≡ m → answerBy f piece b buffer m .fed .replied ≤ length buffer
     go (some n) e = omega arith
     go none e =
         let fine = none-refused f b buffer e in

@@ -8,7 +8,8 @@ use lib.ListN.{length}
 use Rattle.wire.specs.Lists.{orElse}
 use Rattle.wire.specs.Replies.{laidOver}
 use Rattle.store.specs.Store.{wellFormed}
-use Rattle.commands.specs.Refusal.{bufferLeast, Check, _when_, lowest}
+use Rattle.commands.specs.Refusal.{bufferLeast}
+use Rattle.wire.specs.Checks.{Check, _when_, firstApplying}
 use Rattle.commands.specs.Execute.{Done, execBytes}
 use Rattle.feeder.specs.declared.Feeder.{Feeder}
 use Rattle.feeder.specs.declared.Fed.{Fed}
@@ -62,4 +63,4 @@ answering a b buffer =
 -- "A call takes the state, a piece, the store and a reply buffer." "The lowest number that applies is given."
 unfoldable pub feed : Feeder → List ℕ → List ℕ → List ℕ → Answer
 feed f piece b buffer =
-    orElse (lowest (checks f b buffer)) (answering (absorb (waitingIn f) piece) b buffer) (λ n. refusing n f b buffer)
+    orElse (firstApplying (checks f b buffer)) (answering (absorb (waitingIn f) piece) b buffer) (λ n. refusing n f b buffer)

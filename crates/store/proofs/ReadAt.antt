@@ -5,18 +5,21 @@ use mathlib.Core.List.{List, []}
 use mathlib.Core.Option.{none}
 use Prim.Native.Nat.{ℕ, _+_, _-_, _*_, _/_, _≤_, _<_}
 use native.Mathlib.Omega.{arith}
-use lib.ListN.{length, getD}
+use lib.ListN.{length, drop, getD}
+use lib.Seq.{drop-drop, take-take}
 use Rattle.wire.specs.Lists.{orElse}
+use Rattle.wire.specs.Bytes.{part}
 use Rattle.wire.proofs.Lists.{all-at, both-ways}
 use Rattle.wire.proofs.ByteLaws.{bytes-part}
-use Rattle.store.specs.Layout.{headerSize, slotSize, stateAt, emptyState}
+use Rattle.store.specs.Layout.{headerSize, slotSize, slotsMost, stateAt, valueLengthAt, valueAt, emptyState}
 use Rattle.store.specs.Store.{decodeSlot, decodeEntry, slotCount, slotBytes, slotWell, decode, wellFormed}
 use Rattle.store.specs.Time.{emptySlot}
-use Rattle.store.specs.Promises.{SlotBytes, HeldBytes, Held, entryAt, slotAt}
+use Rattle.store.specs.Promises.{SlotBytes, HeldBytes, Held, entryAt, valueStart, slotAt}
 use Rattle.store.proofs.Pieces.{length-part}
-use Rattle.store.proofs.Encode.{well-formed, length-decode, length-slotsIn}
+use Rattle.store.proofs.Encode.{well-formed, length-decode, length-slotsIn, decode-valid}
 use Rattle.store.proofs.Places.{slot-part, decode-at}
-use Rattle.store.proofs.SlotParts.{state-empty, state-held}
+use Rattle.store.proofs.SlotParts.{state-empty, state-held, value-inside}
+use Rattle.store.proofs.SlotChecks.{drop-take}
 
 -- a store has as many slots as its length says, after its header
 pub count-slots : (b : List ℕ) → (length b - headerSize) / slotSize ≡ length (decode b .slots)
@@ -69,3 +72,29 @@ module _ {b t : List ℕ} {i : ℕ} (h : Held b i) (e : t ≡ slotAt b i) where
   pub entry-means : decodeEntry t ≡ entryAt (decode b .slots) i
   unfolding entryAt orElse
   entry-means = rw (← slot-means b i (h .inside) e, state-held t not-empty)
+
+-- a slot's number is small
+pub held-few : {b : List ℕ} {i : ℕ} → Held b i → i < slotsMost
+held-few {b} h = omega (arith, h .inside, length-decode b, decode-valid b (h .well) .most)
+
+-- a part of a part
+part-part : (at n a m : ℕ) (s : List ℕ) → a + m ≤ n → part a m (part at n s) ≡ part (at + a) m s
+unfolding part
+part-part at n a m s h = rw (drop-take a n (drop at s), drop-drop a at s) (take-take m (n - a) (drop (at + a) s) (omega arith))
+
+-- its value stands at its place in the store's bytes
+pub value-part : {b : List ℕ} {i : ℕ} → Held b i → part (valueStart i) (length (entryAt (decode b .slots) i .value)) b ≡ entryAt (decode b .slots) i .value
+unfolding decodeEntry valueStart
+value-part {b} {i} h = rw (← entry-means {t = slotAt b i} h refl, size) (sym (part-part (headerSize + slotSize * i) slotSize valueAt n b (omega (arith, room, slot .slot .size))))
+  where
+    slot : HeldBytes (slotAt b i)
+    slot = held-bytes h refl
+
+    n : ℕ
+    n = getD (slotAt b i) valueLengthAt 0
+
+    room : valueAt + n ≤ length (slotAt b i)
+    room = value-inside (slotAt b i) slot
+
+    size : length (part valueAt n (slotAt b i)) ≡ n
+    size = length-part valueAt n (slotAt b i) room

@@ -3,6 +3,7 @@ use crate::Expiry;
 use crate::layout::CLOCK_SIZE;
 use crate::layout::HEADER_SIZE;
 use crate::layout::SLOT_SIZE;
+use crate::layout::VALUE_AT;
 use crate::slot;
 use wire::bytes::read_le;
 ghost use mathlib.Core.Path.{_≡_};
@@ -12,7 +13,7 @@ ghost use lib.ListN.{length, getD};
 ghost use Prim.Native.Nat.{_<_};
 ghost use Rattle.store.specs.Store.{decode, wellFormed, slotCount};
 ghost use Rattle.store.specs.Time.{nowAt, emptySlot, liveSlot};
-ghost use Rattle.store.specs.Promises.{Held, entryAt};
+ghost use Rattle.store.specs.Promises.{Held, entryAt, valueStart};
 
 // How many slots a store has.
 pub fn slots(store: &[u8]) -> usize
@@ -90,4 +91,12 @@ pub fn value(store: &[u8], i: usize) -> &[u8]
     ensures { λ r. ⌜ now r ≡ entryAt (decode (now (store .entry)) .slots) i .value ⌝ }
 {
     slot::value(slot::bytes(store, i))
+}
+
+// Where a slot's value begins in the store's bytes.
+pub fn value_start(store: &[u8], i: usize) -> usize
+    requires { ⌜ Held (now store) i ⌝ }
+    ensures { λ r. ⌜ r ≡ valueStart i ⌝ }
+{
+    HEADER_SIZE + SLOT_SIZE * i + VALUE_AT
 }

@@ -5,6 +5,7 @@ pub mod Computing
 -- ---- lists, tests and answers that may be missing
 pub mod Lists
 pub mod Options
+pub mod Checks
 pub mod ByteLoops
 -- ---- bytes, digits and integers: numbers low byte first, decimal text read and written, sign and magnitude
 pub mod ByteLaws
@@ -18,5 +19,6 @@ pub mod WordPlaces
 -- ---- replies: their bytes, and laying them in a buffer
 pub mod ReplyLaws
 pub mod ReplyLaying
+pub mod Elements
 -- ---- tables of names
 pub mod NameRows

@@ -1,6 +1,6 @@
 -- The forms of a reply: how long each is, and that each is bytes.
 use mathlib.Core.Path.{_≡_, refl}
-use mathlib.Core.List.{List, [], _∷_, _++_, flatten}
+use mathlib.Core.List.{List, [], _∷_, _++_, flatten, append-assoc}
 use mathlib.Core.Bool.{true}
 use Prim.Native.Nat.{ℕ, suc, _+_, _*_, _^_, _≤_, _<_}
 use native.Mathlib.Nat.{mul-suc}
@@ -42,6 +42,12 @@ length-bulk d w one small = simp length-append (omega (arith, length-naturalText
 pub length-header : (d n : ℕ) → 1 ≤ d → n < 10 ^ d → length (header n) ≤ d + 3
 unfolding header text
 length-header d n one small = simp length-append (omega (arith, length-naturalText d n one small))
+
+-- Lists one after the other, and lists after them.
+pub flatten-append : (xs ys : List (List ℕ)) → flatten (xs ++ ys) ≡ flatten xs ++ flatten ys
+unfolding flatten
+flatten-append [] ys = refl
+flatten-append (x ∷ xs) ys = rw (flatten-append xs ys, append-assoc)
 
 -- Lists of at most m elements each, one after the other, have at most m elements for each list.
 pub length-flatten : (m : ℕ) (xs : List (List ℕ)) → ((i : ℕ) → length (getD xs i []) ≤ m) → length (flatten xs) ≤ m * length xs

@@ -1,5 +1,6 @@
 -- What bytes spell: numbers, plain integers, the words of a command, the forms of a reply.
 pub mod Lists
+pub mod Checks
 pub mod Bytes
 pub mod Integers
 pub mod Words

@@ -4,7 +4,7 @@ use denote.Ref.{now}
 use Rattle.wire.proofs.ReplyLaying.{laid-tail, laid-within}
 use Rattle.commands.specs.Promises.{answerMost}
 use Rattle.commands.proofs.Answers.{laid-reply}
-use Rattle.commands.proofs.Elements.{tail-spare}
+use Rattle.wire.proofs.Elements.{tail-spare}
 use Rattle.commands.proofs.FieldLoops.{header-room, header-inside, answers-begin, answers-spare, answers-room}
 use Rattle.commands.proofs.KeyDone.{does-many}
 use borrow.Author.Needs.{needs}

@@ -7,7 +7,7 @@ use lib.ListN.{length}
 use Rattle.wire.specs.Promises.{wordsIn}
 use Rattle.wire.proofs.ReplyLaying.{laid-none}
 use Rattle.commands.specs.Promises.{answerMost, answerAbout, answersOf}
-use Rattle.commands.proofs.Elements.{Going, going-begins, going-on, going-within, going-ends, going-length, going-start, going-spare}
+use Rattle.wire.proofs.Elements.{Going, going-begins, going-on, going-within, going-ends, going-length, going-start, going-spare}
 use Rattle.commands.proofs.FieldLoops.{wordsFrom, answersFrom, answers-next, answers-over}
 use borrow.Author.Needs.{needs}
 use Rattle.commands.proofs.key.put_answers.Statement.{statement}

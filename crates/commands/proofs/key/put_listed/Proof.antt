@@ -7,7 +7,7 @@ use lib.ListN.{length}
 use Rattle.wire.proofs.ReplyLaying.{laid-none}
 use Rattle.store.specs.Store.{decode}
 use Rattle.commands.specs.Promises.{listedOf}
-use Rattle.commands.proofs.Elements.{Going, going-begins, going-on, going-within, going-ends, going-length, going-start, going-room}
+use Rattle.wire.proofs.Elements.{Going, going-begins, going-on, going-within, going-ends, going-length, going-start, going-room}
 use Rattle.commands.proofs.ListedSlots.{shownFrom, live-next, live-held, live-few, live-later, shown-next, shown-end, shown-over}
 use borrow.Author.Needs.{needs}
 use Rattle.commands.proofs.key.put_listed.Statement.{statement}

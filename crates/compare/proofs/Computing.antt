@@ -1,0 +1,10 @@
+-- To compute with the definitions of compare: whoever unfolds `computing` unfolds them all, and those of the crates below.
+use Rattle.store.specs.Promises.{entryAt, valueStart}
+use Rattle.store.proofs.Computing as store
+use Rattle.compare.specs.Listing.{liveOf, liveSlotOf, sameExpiry, agree, firstMark, secondMark, lineOf, linesFrom, lines, spaced, lineText, listingOf, listing}
+use Rattle.compare.specs.Newer.{newerOf, newerSlot, placeOf, partAt}
+use Rattle.compare.specs.Calls.{checks, listingChecks, compare, newer}
+
+unfoldable pub computing : Unit {0}
+unfolding store.computing entryAt valueStart liveOf liveSlotOf sameExpiry agree firstMark secondMark lineOf linesFrom lines spaced lineText listingOf listing newerOf newerSlot placeOf partAt checks listingChecks compare newer
+computing = tt

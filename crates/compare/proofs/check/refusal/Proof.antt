@@ -1,0 +1,38 @@
+use mathlib.Core.Path.{sym, _∙_}
+use borrow.Author.Tests.{not-true, not-false}
+use denote.Ref.{now}
+use Rattle.compare.proofs.CallChecks.{damaged-first, damaged-second, out-of-range, in-range}
+use borrow.Author.Needs.{needs}
+use Rattle.compare.proofs.check.refusal.Statement.{statement}
+use Rattle.compare.proofs.check.refusal.Tie as tie
+
+returns : tie.Need-returns
+returns c = damaged-first (now (c .before .before .before .before .args .first)) (now (c .before .before .before .before .args .second)) (c .before .before .before .before .args .instant) (sym (c .before .well-formed .ensures) ∙ not-true _ (c .if1 .taken))
+
+returns-2 : tie.Need-returns-2
+returns-2 c = damaged-second (now (c .before .before .before .before .before .before .args .first)) (now (c .before .before .before .before .before .before .args .second)) (c .before .before .before .before .before .before .args .instant) (sym (c .before .before .before .well-formed .ensures) ∙ not-false _ (c .before .before .if1 .left)) (sym (c .before .well-formed2 .ensures) ∙ not-true _ (c .if2 .taken))
+
+out-of-range-requires : tie.Need-out-of-range-requires
+out-of-range-requires c κs = (sym (c .before .before .before .well-formed .ensures) ∙ not-false _ (c .before .before .if1 .left), sym (c .before .well-formed2 .ensures) ∙ not-false _ (c .if2 .left))
+
+returns-3 : tie.Need-returns-3
+returns-3 c =
+    out-of-range (now (c .before .before .before .before .before .before .before .before .args .first)) (now (c .before .before .before .before .before .before .before .before .args .second)) (c .before .before .before .before .before .before .before .before .args .instant) (sym (c .before .before .before .before .before .well-formed .ensures) ∙ not-false _ (c .before .before .before .before .if1 .left)) (sym (c .before .before .before .well-formed2 .ensures) ∙ not-false _ (c .before .before .if2 .left))
+    (sym (c .before .out-of-range .ensures) ∙ c .if3 .taken)
+
+returns-4 : tie.Need-returns-4
+returns-4 c =
+    in-range (now (c .before .before .before .before .before .before .before .before .args .first)) (now (c .before .before .before .before .before .before .before .before .args .second)) (c .before .before .before .before .before .before .before .before .args .instant) (sym (c .before .before .before .before .before .well-formed .ensures) ∙ not-false _ (c .before .before .before .before .if1 .left)) (sym (c .before .before .before .well-formed2 .ensures) ∙ not-false _ (c .before .before .if2 .left))
+    (sym (c .before .out-of-range .ensures) ∙ c .if3 .left)
+
+pub refusal-spec : {M : Type 1} → statement M
+refusal-spec =
+    tie.close
+    (tie.spec
+    (λ c κs. search needs)
+    returns
+    (λ c κs. search needs)
+    returns-2
+    out-of-range-requires
+    returns-3
+    returns-4)

@@ -1,0 +1,50 @@
+use mathlib.Core.Path.{sym, _∙_}
+use denote.Ref.{now}
+use Rattle.wire.specs.Bytes.{part}
+use Rattle.compare.specs.Newer.{placeOf, partAt}
+use Rattle.compare.proofs.NewerPlaces.{first-held, second-held, first-shown, second-shown}
+use borrow.Author.Needs.{needs}
+use Rattle.compare.proofs.newer.newer.Statement.{statement}
+use Rattle.compare.proofs.newer.newer.Tie as tie
+
+value-requires : tie.Need-value-requires
+value-requires c κs = first-held (now (c .before .before .before .before .before .before .before .before .args .first)) (now (c .before .before .before .before .before .before .before .before .args .second)) (now (c .before .before .before .before .before .before .before .before .args .key)) (now (c .before .before .before .before .before .before .before .before .args .field)) (c .before .before .before .before .before .before .before .before .args .instant) _ (sym (c .before .before .before .newer-in .ensures) ∙ c .before .found .given .1)
+
+value-requires-2 : tie.Need-value-requires-2
+value-requires-2 c κs = second-held (now (c .before .before .before .before .before .before .before .before .args .first)) (now (c .before .before .before .before .before .before .before .before .args .second)) (now (c .before .before .before .before .before .before .before .before .args .key)) (now (c .before .before .before .before .before .before .before .before .args .field)) (c .before .before .before .before .before .before .before .before .args .instant) _ (sym (c .before .before .before .newer-in .ensures) ∙ c .before .found2 .given .1)
+
+returns : tie.Need-returns
+returns c = first-shown (now (c .before .before .before .before .before .before .before .before .before .args .first)) (now (c .before .before .before .before .before .before .before .before .before .args .second)) (now (c .before .before .before .before .before .before .before .before .before .args .key)) (now (c .before .before .before .before .before .before .before .before .before .args .field)) (c .before .before .before .before .before .before .before .before .before .args .instant) _ (sym (c .before .before .before .before .newer-in .ensures) ∙ c .before .before .found .given .1) (c .value .ensures)
+
+returns-2 : tie.Need-returns-2
+returns-2 c = second-shown (now (c .before .before .before .before .before .before .before .before .before .args .first)) (now (c .before .before .before .before .before .before .before .before .before .args .second)) (now (c .before .before .before .before .before .before .before .before .before .args .key)) (now (c .before .before .before .before .before .before .before .before .before .args .field)) (c .before .before .before .before .before .before .before .before .before .args .instant) _ (sym (c .before .before .before .before .newer-in .ensures) ∙ c .before .before .found2 .given .1) (c .value2 .ensures)
+
+returns-3 : tie.Need-returns-3
+unfolding partAt placeOf part
+returns-3 c = rw (sym (c .before .before .before .newer-in .ensures) ∙ c .before .enum-told .given .1)
+
+returns-4 : tie.Need-returns-4
+unfolding partAt placeOf part
+returns-4 c = rw (sym (c .before .before .before .newer-in .ensures) ∙ c .before .enum-told2 .given .1)
+
+pub newer-spec : {M : Type 1} → statement M
+newer-spec =
+    tie.close
+    (tie.spec
+    (λ c κs. search needs)
+    (λ c. search needs)
+    value-requires
+    (λ c. search needs)
+    value-requires-2
+    (λ c. search needs)
+    (λ c. search needs)
+    (λ c. search needs)
+    (λ c. search needs)
+    (λ c. search needs)
+    (λ c. search needs)
+    (λ c. search needs)
+    (λ c. search needs)
+    returns
+    returns-2
+    returns-3
+    returns-4)
