@@ -10,6 +10,8 @@ const SIZES: Sizes = Sizes {
     streams: 1_000,
     stores: 1_000,
     states: 1_000,
+    comparisons: 2_000,
+    newer_values: 1_000,
 };
 
 #[test]
@@ -26,25 +28,48 @@ fn the_library_agrees_with_the_model() {
         streams,
         stores,
         states,
+        comparisons,
+        newer_values,
     } = SIZES;
-    let sizes = [commands, sessions, large_sessions, streams, stores, states];
+    let sizes = [
+        commands,
+        sessions,
+        large_sessions,
+        streams,
+        stores,
+        states,
+        comparisons,
+        newer_values,
+    ];
     assert_eq!(cases, sizes);
     let (_, of_commands) = &tallies[0];
     assert_eq!(of_commands.records, commands);
-    let [.., (_, of_stores), (_, of_states)] = &tallies[..] else {
-        panic!("six kinds");
+    let [
+        ..,
+        (_, of_stores),
+        (_, of_states),
+        (_, compared),
+        (_, newer),
+    ] = &tallies[..]
+    else {
+        panic!("eight kinds");
     };
     assert_eq!(
         (of_stores.checks, of_stores.calls),
         (3 * stores, 3 * stores)
     );
     assert_eq!(of_states.calls, 2 * states);
-    let answers = |number: usize| tallies.iter().map(move |(_, tally)| tally.answers[number]);
-    assert!((0..4).all(|number| answers(number).sum::<u64>() > 0));
-    assert_eq!(errors(&tallies).len(), Refusal::ALL.len());
-    let outcomes = outcomes_met(&tallies);
-    assert!(
-        outcomes.iter().all(|(_, count)| *count > 20),
-        "{outcomes:?}"
+    assert_eq!(
+        (compared.calls, newer.calls),
+        (2 * comparisons, 6 * newer_values)
     );
+    for number in [0, 1, 2, 3, 11] {
+        let answers = tallies.iter().map(|(_, tally)| tally.answered(number));
+        assert!(answers.sum::<u64>() > 0, "{number}");
+    }
+    assert_eq!(errors(&tallies).len(), Refusal::ALL.len());
+    for ((what, came_to), count) in outcomes_met(&tallies) {
+        let least = if let "GT" | "VER 0" = what { 20 } else { 0 };
+        assert!(count > least, "{count} {what} {came_to}");
+    }
 }

@@ -16,7 +16,7 @@ impl Generator {
     /// Two well-formed stores. Entries of one are alike, changed or missing in the other, and some are
     /// only there; their slots are others. Now and then both are full.
     pub fn stores(&mut self) -> Stores {
-        if self.random.once_in(256) {
+        if self.random.once_in(128) {
             return self.full_stores();
         }
         let store = self.store();
@@ -160,7 +160,7 @@ fn held(store: &[u8]) -> impl Iterator<Item = &[u8]> {
 
 /// Gives a held slot another value, version or expiry; the new one may by chance be the old.
 fn change(slot: &mut [u8], clock: u64, random: &mut Random) {
-    match random.below(5) {
+    match random.below(7) {
         0 => {
             let value = random.pick(&VALUES);
             slot[VALUE_LENGTH] = value.len() as u8;
@@ -169,8 +169,8 @@ fn change(slot: &mut [u8], clock: u64, random: &mut Random) {
         }
         // One zero byte more: the places alike, the lengths not.
         1 => slot[VALUE_LENGTH] = (slot[VALUE_LENGTH] + 1).min(LONGEST_VALUE as u8),
-        2 => slot[VERSION].copy_from_slice(&random.pick(&VERSIONS).to_le_bytes()),
-        3 => {
+        2 | 3 => slot[VERSION].copy_from_slice(&random.pick(&VERSIONS).to_le_bytes()),
+        4 | 5 => {
             slot[STATE] = EXPIRING;
             slot[EXPIRY].copy_from_slice(&expiry(random, clock).to_le_bytes());
         }
