@@ -65,6 +65,45 @@ fn keys_and_fields_are_read_from_the_store_that_a_line_is_about() {
     assert_eq!(differences.collect::<Vec<_>>(), expected);
 }
 
+/// The listing of two stores that are not refused.
+fn listing(first: &[u8], second: &[u8], instant: u64) -> String {
+    let mut out = vec![FILL; COMPARE_SIZE];
+    let differences = compare(first, second, instant, &mut out).unwrap();
+    String::from_utf8(differences.text().to_vec()).unwrap()
+}
+
+#[test]
+fn another_value_version_or_expiry_is_a_difference() {
+    let sets = ["1", "2", "1 ABS 2", "1 PXAT 50", "1 PXAT 51", ""];
+    let stores = sets.map(|set| store(0, &[&format!("EXHSET m a {set}")]));
+    for (at, first) in stores.iter().enumerate() {
+        for (other, second) in stores.iter().enumerate() {
+            let expected = if at == other { "" } else { "~ 1 1 0\n" };
+            assert_eq!(listing(first, second, 0), expected, "{at} and {other}");
+        }
+    }
+}
+
+#[test]
+fn a_dead_entry_is_not_there() {
+    let lasting = store(0, &["EXHSET m a 1"]);
+    let expiring = store(0, &["EXHSET m a 2 PXAT 50 ABS 9"]);
+    for (first, second, before, after) in [
+        (&lasting, &expiring, "~ 1 1 0\n", "< 1 1 0\n"),
+        (&expiring, &lasting, "~ 1 1 0\n", "> 1 1 0\n"),
+        (&expiring, &store(0, &[]), "< 1 1 0\n", ""),
+        (&store(0, &[]), &expiring, "> 1 1 0\n", ""),
+        (&expiring, &expiring, "", ""),
+    ] {
+        assert_eq!(listing(first, second, 49), before);
+        assert_eq!(listing(first, second, 50), after);
+    }
+    let value = |instant| newer(&lasting, &expiring, b"m", b"a", instant).unwrap();
+    assert_eq!(value(49), Some((Which::Second, &b"2"[..])));
+    assert_eq!(value(50), Some((Which::First, &b"1"[..])));
+    assert_eq!(newer(&expiring, &expiring, b"m", b"a", 50), Ok(None));
+}
+
 /// The entries found outlive the question, as parts of the stores.
 fn entries<'a>(first: &'a [u8], second: &'a [u8], out: &'a mut [u8]) -> Vec<&'a [u8]> {
     let differences = compare(first, second, 0, out).unwrap();
