@@ -25,9 +25,9 @@
  * Pointers: none may be null, even with length 0. piece, store and reply must not overlap. During a call nobody else may
  * write piece, nor read or write store and reply, an interrupt or a DMA channel included. Between calls nobody else may
  * write the store: what the calls come to is said of the store as the last one left it. Each length is the number of
- * bytes that may be read, and for store and reply written. exh_compare and exh_newer read two stores, which nobody may
- * write meanwhile and which may be the same bytes; exh_compare's output must overlap neither, and during the call nobody
- * else may read or write it.
+ * bytes that may be read, and for store and reply written. exh_compare and exh_newer only read their two stores, which
+ * may be the same bytes and which nobody may write meanwhile; exh_compare's output must overlap neither store, and
+ * during the call nobody else may read or write it.
  */
 #ifndef EXHASH_H
 #define EXHASH_H
@@ -125,7 +125,7 @@ uint32_t exh_store_check(const uint8_t *store, size_t store_len);
 /* What exh_compare answers. */
 typedef struct {
     uint32_t refusal; /* 0, 2, 3 or 11 */
-    size_t written;   /* bytes of listing at the output's start; 0 if the stores do not differ */
+    size_t written;   /* bytes of listing at the output's start; 0 if the stores do not differ, or on a refusal */
 } exh_compared;
 
 /*
@@ -134,12 +134,12 @@ typedef struct {
  * slots, in their order, then those of entries only in the second, in its slot order.
  *
  *     < 3 5 17    only in the first store
- *     ~ 3 5 17    in both, with another value, version or expiry; none is another expiry than any
+ *     ~ 3 5 17    in both, with another value, version or expiry; an expiry and none differ
  *     > 3 5 17    only in the second store
  *
- * The numbers are the key's length, the field's length and the slot, from 0 on, in the store that the line is about; for
- * ~ that is the first. Key and field stand in that slot: the key from 16, the field from 32 bytes after its start, which
- * is EXH_STORE_SIZE(slot). Each line ends with one newline, and there is one space between its parts.
+ * The numbers are the key's length, the field's length and the slot, in decimal and slots from 0, in the store that the
+ * line is about: for ~ that is the first. One space stands between the parts, one newline after each line. The slot's
+ * bytes start at EXH_STORE_SIZE(slot) of the store; its key starts 16 bytes after that, its field 32.
  *
  * Neither store changes, and the output's bytes after the listing are as they were. The refusals are looked for in the
  * order 2, 11, 3; on any, no byte of the output changes.
