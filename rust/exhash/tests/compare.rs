@@ -147,9 +147,39 @@ fn which_store_has_the_newer_value() {
     ] {
         assert_eq!(newer(left, right, b"m", field, 0), Ok(expected));
     }
-    assert_eq!(newer(&one, &two, &[b'm'; 17], b"a", 0), Ok(None));
-    assert_eq!(newer(&one, &two, b"m", &[b'a'; 33], 0), Ok(None));
     assert_eq!(newer(&one, &two, &[], &[], 0), Ok(None));
+}
+
+#[test]
+fn the_higher_version_is_newer_and_the_first_on_a_tie() {
+    let versions = [1, 2, 255, 256, 65_535, 65_536, 1 << 31, u32::MAX];
+    let stores =
+        versions.map(|version| store(0, &[&format!("EXHSET m a {version} ABS {version}")]));
+    for (at, first) in stores.iter().enumerate() {
+        for (other, second) in stores.iter().enumerate() {
+            let which = if other > at {
+                Which::Second
+            } else {
+                Which::First
+            };
+            let value = versions[at.max(other)].to_string();
+            let expected = Some((which, value.as_bytes()));
+            assert_eq!(newer(first, second, b"m", b"a", 0), Ok(expected));
+        }
+    }
+}
+
+#[test]
+fn a_word_that_is_too_long_matches_nothing() {
+    let (key, field) = ([b'k'; 17], [b'f'; 33]);
+    let longest = format!("EXHSET {} {} 1", "k".repeat(16), "f".repeat(32));
+    let store = store(0, &[&longest]);
+    let value =
+        |key: &[u8], field: &[u8]| newer(&store, &store, key, field, 0).map(|v| v.is_some());
+    assert_eq!(value(&key[..16], &field[..32]), Ok(true));
+    assert_eq!(value(&key, &field[..32]), Ok(false));
+    assert_eq!(value(&key[..16], &field), Ok(false));
+    assert_eq!(value(&key[..15], &field[..32]), Ok(false));
 }
 
 #[test]

@@ -7,7 +7,7 @@ use crate::layout::{
 };
 use crate::random::Random;
 use crate::store::{clock_of, expiry, low_first, name_of, store_clock, write_entry};
-use crate::text::{FIELDS, KEYS, LONG_FIELDS, LONG_KEYS, VALUES, VERSIONS};
+use crate::text::{FIELDS, KEYS, LONG_FIELDS, LONG_KEYS, TELLING_VERSIONS, VALUES, VERSIONS};
 
 /// Two stores, the first and the second.
 pub type Stores = [Vec<u8>; 2];
@@ -169,7 +169,8 @@ fn change(slot: &mut [u8], clock: u64, random: &mut Random) {
         }
         // One zero byte more: the places alike, the lengths not.
         1 => slot[VALUE_LENGTH] = (slot[VALUE_LENGTH] + 1).min(LONGEST_VALUE as u8),
-        2 | 3 => slot[VERSION].copy_from_slice(&random.pick(&VERSIONS).to_le_bytes()),
+        2 => slot[VERSION].copy_from_slice(&random.pick(&VERSIONS).to_le_bytes()),
+        3 => slot[VERSION].copy_from_slice(&random.pick(&TELLING_VERSIONS).to_le_bytes()),
         4 | 5 => {
             slot[STATE] = EXPIRING;
             slot[EXPIRY].copy_from_slice(&expiry(random, clock).to_le_bytes());

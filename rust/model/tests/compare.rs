@@ -132,7 +132,7 @@ fn the_higher_version_is_newer_and_the_first_on_a_tie() {
         let set = format!("EXHSET m a {value}");
         store(0, &[&set, &format!("EXHSETVER m a {version}")])
     };
-    let versions = [0, 1, 2, 255, 256, u32::MAX - 1, u32::MAX];
+    let versions = [0, 1, 255, 256, 65_535, 65_536, 1 << 31, u32::MAX];
     for (first, second) in versions.iter().flat_map(|v| versions.map(|w| (*v, w))) {
         let stores = [at("1", first), at("22", second)];
         let expected = if second > first {
