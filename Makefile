@@ -22,11 +22,13 @@ test:
 bench: c-example
 	@target/bench-check
 
-# The C example prints what examples/c/session.expected says, the header's numbers are the library's, and it is good C++ too.
+# Each C example prints what its .expected in examples/c says, the header's numbers are the library's, and it is good C++ too.
 c-example: $(LIBRARY)
 	@mkdir -p target
 	@$(C) examples/c/session.c $(LIBRARY) -o target/session
 	@target/session >target/session.out && diff examples/c/session.expected target/session.out
+	@$(C) examples/c/side_by_side.c $(LIBRARY) -o target/side_by_side
+	@target/side_by_side >target/side_by_side.out && diff examples/c/side_by_side.expected target/side_by_side.out
 	@$(C) tests/c/refusals.c $(LIBRARY) -o target/refusals
 	@target/refusals
 	@$(C) bench/check.c $(LIBRARY) -o target/bench-check

@@ -25,7 +25,9 @@
  * Pointers: none may be null, even with length 0. piece, store and reply must not overlap. During a call nobody else may
  * write piece, nor read or write store and reply, an interrupt or a DMA channel included. Between calls nobody else may
  * write the store: what the calls come to is said of the store as the last one left it. Each length is the number of
- * bytes that may be read, and for store and reply written.
+ * bytes that may be read, and for store and reply written. exh_compare and exh_newer only read their two stores, which
+ * may be the same bytes and which nobody may write meanwhile; exh_compare's output must overlap neither store, and
+ * during the call nobody else may read or write it.
  */
 #ifndef EXHASH_H
 #define EXHASH_H
@@ -43,8 +45,9 @@ extern "C" {
  *
  *     100   the option GT
  *     101   VER 0 is not compared, so it is never stale
+ *     102   two stores side by side: exh_compare, exh_newer
  */
-#define EXH_VERSION 101
+#define EXH_VERSION 102
 
 /* The bytes of a store of n slots, n from 1 to EXH_SLOTS_MOST. A slot holds one field. */
 #define EXH_STORE_SIZE(n) (16 + 128 * (size_t)(n))
@@ -52,6 +55,9 @@ extern "C" {
 
 /* The least size of a reply buffer: it holds the longest reply. A larger one is fine. */
 #define EXH_REPLY_SIZE 56000
+
+/* The least size of exh_compare's output: it holds the longest listing. A larger one is fine. */
+#define EXH_COMPARE_SIZE 16000
 
 /*
  * A record is the mark 45 57 (hexadecimal), the clock in ms (8 bytes, low first), the command's length (2 bytes, low
@@ -62,12 +68,13 @@ extern "C" {
 /* One call uses no more bytes of its piece than this. */
 #define EXH_USED_MOST 65536
 
-/* Answers of a call. Where several refusals apply, the lowest number is given. */
+/* Answers of a call. Where several refusals apply, the lowest number is given; but exh_compare gives 11 before 3. */
 enum {
     EXH_OK = 0,
-    EXH_BAD_STATE = 1,  /* a feeder state that no feeding leaves */
-    EXH_BAD_STORE = 2,  /* not the bytes of a well-formed store, or not 16+128n of them */
-    EXH_SHORT_REPLY = 3 /* a reply buffer under EXH_REPLY_SIZE bytes */
+    EXH_BAD_STATE = 1,   /* a feeder state that no feeding leaves */
+    EXH_BAD_STORE = 2,   /* not the bytes of a well-formed store, or not 16+128n of them */
+    EXH_SHORT_REPLY = 3, /* a reply buffer under EXH_REPLY_SIZE bytes, or an output under EXH_COMPARE_SIZE */
+    EXH_BAD_INSTANT = 11 /* an instant earlier than a store's clock, or 4,102,444,800,000 or more */
 };
 
 /*
@@ -114,6 +121,49 @@ exh_fed exh_feed(exh_feeder feeder, const uint8_t *piece, size_t piece_len, uint
  * store was read back from flash. An empty store is EXH_STORE_SIZE(n) zero bytes; that is how one is made.
  */
 uint32_t exh_store_check(const uint8_t *store, size_t store_len);
+
+/* What exh_compare answers. */
+typedef struct {
+    uint32_t refusal; /* 0, 2, 3 or 11 */
+    size_t written;   /* bytes of listing at the output's start; 0 if the stores do not differ, or on a refusal */
+} exh_compared;
+
+/*
+ * Lists how two stores differ at an instant in ms, the same for both. Entries live at that instant are compared, by key
+ * and field; one that is dead then counts as not there. Each difference is a line: first those of the first store's
+ * slots, in their order, then those of entries only in the second, in its slot order.
+ *
+ *     < 3 5 17    only in the first store
+ *     ~ 3 5 17    in both, with another value, version or expiry; an expiry and none differ
+ *     > 3 5 17    only in the second store
+ *
+ * The numbers are the key's length, the field's length and the slot, in decimal and slots from 0, in the store that the
+ * line is about: for ~ that is the first. One space stands between the parts, one newline after each line. The slot's
+ * bytes start at EXH_STORE_SIZE(slot) of the store; its key starts 16 bytes after that, its field 32.
+ *
+ * Neither store changes, and the output's bytes after the listing are as they were. The refusals are looked for in the
+ * order 2, 11, 3; on any, no byte of the output changes.
+ */
+exh_compared exh_compare(const uint8_t *first, size_t first_len, const uint8_t *second, size_t second_len,
+                         uint64_t instant, uint8_t *out, size_t out_len);
+
+/* What exh_newer answers. */
+typedef struct {
+    uint32_t refusal; /* 0, 2 or 11 */
+    uint32_t which;   /* 0 neither, 1 the first store, 2 the second */
+    size_t start;     /* where the value starts in that store; 0 if which is 0 */
+    size_t size;      /* the value's bytes, 0 for an empty value too */
+} exh_newer_place;
+
+/*
+ * Finds the newer value of one field at an instant in ms: that of the store where it is live with the higher version,
+ * the first store's if the versions are equal. If it is live in one only, that one's; if in neither, or on a refusal,
+ * which, start and size are 0. A key over 16 bytes or a field over 32 is in no store. Neither store changes. The
+ * refusals are looked for in the order 2, 11.
+ */
+exh_newer_place exh_newer(const uint8_t *first, size_t first_len, const uint8_t *second, size_t second_len,
+                          const uint8_t *key, size_t key_len, const uint8_t *field, size_t field_len,
+                          uint64_t instant);
 
 #ifdef __cplusplus
 }

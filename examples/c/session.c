@@ -1,13 +1,9 @@
 /* Feeds a short session, cut in pieces of 7 bytes, to a store of 4 slots and prints each command with its reply. */
 #include "exhash.h"
 
-#include <stdio.h>
-#include <string.h>
+#include "record.h"
 
 enum { SLOTS = 4, CRUMB = 7, STREAM = 2048 };
-
-/* The places of a record: mark, clock, length, command. */
-enum { CLOCK = 2, LENGTH = 10, COMMAND = 12 };
 
 static const struct {
     uint64_t clock;
@@ -26,27 +22,6 @@ static const struct {
 enum { RECORDS = sizeof session / sizeof *session };
 
 static uint8_t stream[STREAM] = "noise", store[EXH_STORE_SIZE(SLOTS)], reply[EXH_REPLY_SIZE];
-
-/* Writes a record whose command is words split by single spaces, and answers its length. */
-static size_t put_record(uint8_t *record, uint64_t clock, const char *command)
-{
-    char *const body = (char *)record + COMMAND, *end = body;
-    int words = 1;
-    for (const char *c = command; *c; c++)
-        words += *c == ' ';
-    end += sprintf(end, "*%d\r\n", words);
-    for (const char *word = command; words > 0; words--) {
-        int length = (int)strcspn(word, " ");
-        end += sprintf(end, "$%d\r\n%.*s\r\n", length, length, word);
-        word += length + 1;
-    }
-    memcpy(record, "\x45\x57", CLOCK);
-    for (int i = 0; i < 8; i++)
-        record[CLOCK + i] = (uint8_t)(clock >> (8 * i));
-    record[LENGTH] = (uint8_t)((end - body) % 256);
-    record[LENGTH + 1] = (uint8_t)((end - body) / 256);
-    return (size_t)(end - (char *)record);
-}
 
 /* One line: the command and its reply, a space for each line end inside. */
 static void print_reply(const char *command, size_t reply_len)

@@ -7,7 +7,8 @@ use generate::layout::{
 };
 
 const CLOCK: u64 = 1_700_000_000_000;
-const MOB: &str = "mob";
+/// The key of all fields.
+pub const MOB: &str = "mob";
 
 /// A store and pieces, how many records they complete, none of them refused, and by how many to
 /// divide the time.
@@ -50,7 +51,7 @@ impl Order {
         numbers
     }
 
-    fn label(self) -> &'static str {
+    pub fn label(self) -> &'static str {
         match self {
             Order::Ascending => "",
             Order::Shuffled => ", names shuffled",
@@ -174,7 +175,7 @@ pub fn single_bytes(slots: usize) -> Load {
     }
 }
 
-fn tag(number: usize) -> String {
+pub fn tag(number: usize) -> String {
     format!("tag{number:04}")
 }
 
@@ -184,12 +185,12 @@ fn alike(number: usize) -> String {
 }
 
 /// A store whose first slots hold a tag.
-fn store(slots: usize, held: usize, order: Order) -> Vec<u8> {
+pub fn store(slots: usize, held: usize, order: Order) -> Vec<u8> {
     store_of(slots, order.numbers(held).into_iter().map(tag))
 }
 
 /// A store whose first slots hold fields with value 1 and version 1.
-fn store_of(slots: usize, fields: impl Iterator<Item = String>) -> Vec<u8> {
+pub fn store_of(slots: usize, fields: impl Iterator<Item = String>) -> Vec<u8> {
     let mut store = vec![0; store_size(slots)];
     for (slot, field) in store[HEADER..].chunks_mut(SLOT).zip(fields) {
         slot[STATE] = HELD;

@@ -3,6 +3,7 @@
 #![forbid(unsafe_code)]
 
 mod load;
+mod side_by_side;
 
 use generate::layout::{LEAST_REPLY_BUFFER, MOST_SLOTS, MOST_USED};
 use load::{Load, Order};
@@ -103,16 +104,28 @@ fn assert_alike(load: &Load, lent: &mut Lent) {
     );
 }
 
-/// Medians of rounds made in turns, once one and once the other first.
 fn times(load: &Load, lent: &mut Lent) -> Times {
     assert_alike(load, lent);
+    in_turns(
+        lent,
+        |lent| round::<exhash::Feeder>(load, lent),
+        |lent| round::<model::Feeder>(load, lent),
+    )
+}
+
+/// Medians of rounds made in turns, once one and once the other first. Each answers its nanoseconds.
+fn in_turns<L>(
+    lent: &mut L,
+    library: impl Fn(&mut L) -> f64,
+    model: impl Fn(&mut L) -> f64,
+) -> Times {
     let pairs = (0..ROUNDS).map(|at| {
         if at % 2 == 0 {
-            let library = round::<exhash::Feeder>(load, lent);
-            (library, round::<model::Feeder>(load, lent))
+            let library = library(lent);
+            (library, model(lent))
         } else {
-            let model = round::<model::Feeder>(load, lent);
-            (round::<exhash::Feeder>(load, lent), model)
+            let model = model(lent);
+            (library(lent), model)
         }
     });
     let pairs: Vec<(f64, f64)> = pairs.collect();
@@ -235,6 +248,7 @@ fn main() {
     for load in others {
         print_row(&load.name, &times(&load, &mut lent));
     }
+    side_by_side::print_rows();
     print_single_byte(&mut lent);
     println!("\nMedians of {ROUNDS} rounds, in turns; the buffers are not cleared before a call.");
 }

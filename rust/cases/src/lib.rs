@@ -51,6 +51,32 @@ pub struct Store {
     pub well_formed: bool,
 }
 
+/// Two stores side by side at an instant.
+#[derive(Clone, Debug)]
+pub struct Compare {
+    pub first: Vec<u8>,
+    pub second: Vec<u8>,
+    pub instant: u64,
+    /// The refusal's number, or 0.
+    pub number: u32,
+    pub listing: Vec<u8>,
+}
+
+/// The newer value of one field of two stores.
+#[derive(Clone, Debug)]
+pub struct Newer {
+    pub first: Vec<u8>,
+    pub second: Vec<u8>,
+    pub instant: u64,
+    pub key: Vec<u8>,
+    pub field: Vec<u8>,
+    /// The refusal's number, or 0.
+    pub number: u32,
+    /// 0 neither, 1 the first store, 2 the second.
+    pub which: u32,
+    pub value: Vec<u8>,
+}
+
 /// A row of one table of tests/cases.
 pub trait Case {
     const TABLE: &'static str;
@@ -100,6 +126,37 @@ impl Case for Store {
                 "0" => false,
                 other => panic!("well formed: {other:?}"),
             },
+        }
+    }
+}
+
+impl Case for Compare {
+    const TABLE: &'static str = "compare.tsv";
+
+    fn read(row: Row) -> Compare {
+        Compare {
+            first: row.bytes("first"),
+            second: row.bytes("second"),
+            instant: row.number("instant"),
+            number: row.number("number"),
+            listing: row.bytes("listing"),
+        }
+    }
+}
+
+impl Case for Newer {
+    const TABLE: &'static str = "newer.tsv";
+
+    fn read(row: Row) -> Newer {
+        Newer {
+            first: row.bytes("first"),
+            second: row.bytes("second"),
+            instant: row.number("instant"),
+            key: row.bytes("key"),
+            field: row.bytes("field"),
+            number: row.number("number"),
+            which: row.number("which"),
+            value: row.bytes("value"),
         }
     }
 }

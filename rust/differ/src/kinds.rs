@@ -11,7 +11,7 @@ pub type Kind = fn(&mut Generator, &mut Pair) -> Result<(), String>;
 
 const SESSION_COMMANDS: usize = 50;
 const LARGE_SESSION_COMMANDS: usize = 20;
-const FILL: u8 = 0xA5;
+pub const FILL: u8 = 0xA5;
 const FRESH: State = State {
     waiting: [0; MOST_WAITING],
     count: 0,
@@ -42,7 +42,7 @@ fn record(generator: &mut Generator, pair: &mut Pair) -> Result<(), String> {
         return Err(format!("not done: {call:?}\npiece {}", hex(&record)));
     }
     if let Some(outcome) = outcomes::outcome(&record, pair.store_before(), pair.reply(call)) {
-        *pair.tally.outcomes.entry(outcome).or_default() += 1;
+        pair.tally.add_outcome(outcome);
     }
     Ok(())
 }

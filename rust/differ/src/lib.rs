@@ -6,11 +6,14 @@
 mod kinds;
 mod outcomes;
 mod pair;
+mod side_by_side;
+mod side_outcomes;
 
 use generate::{Generator, Random};
 use kinds::Kind;
 use outcomes::OUTCOMES;
 use pair::Pair;
+use side_outcomes::SIDE_OUTCOMES;
 use std::fmt;
 
 pub use outcomes::Outcome;
@@ -25,6 +28,8 @@ pub struct Sizes {
     pub streams: u64,
     pub stores: u64,
     pub states: u64,
+    pub comparisons: u64,
+    pub newer_values: u64,
 }
 
 /// The case in which the two differ.
@@ -50,13 +55,19 @@ impl fmt::Display for Failure {
 
 /// All cases of a seed; what was compared, by kind, or the first case that differs.
 pub fn compare(seed: u64, sizes: &Sizes) -> Result<Vec<(&'static str, Tally)>, Failure> {
-    let kinds: [(&str, Kind, u64); 6] = [
+    let kinds: [(&str, Kind, u64); 8] = [
         ("commands", kinds::command, sizes.commands),
         ("sessions", kinds::session, sizes.sessions),
         ("large sessions", kinds::large_session, sizes.large_sessions),
         ("streams", kinds::stream, sizes.streams),
         ("stores", kinds::stores, sizes.stores),
         ("states", kinds::states, sizes.states),
+        ("comparisons", side_by_side::comparison, sizes.comparisons),
+        (
+            "newer values",
+            side_by_side::newer_value,
+            sizes.newer_values,
+        ),
     ];
     let tally = |(name, kind, count)| Ok((name, compare_kind(seed, name, kind, count)?));
     kinds.into_iter().map(tally).collect()
@@ -88,12 +99,14 @@ pub fn errors<'t>(tallies: &'t [(&str, Tally)]) -> Vec<(&'t str, u64)> {
     all.into_iter().collect()
 }
 
-/// How often GT and VER 0 came to each of their outcomes in all kinds together.
-pub fn outcomes_met(tallies: &[(&str, Tally)]) -> [(Outcome, u64); OUTCOMES.len()] {
-    OUTCOMES.map(|outcome| {
+/// How often GT and VER 0, and then two stores, came to each of their outcomes in all kinds together.
+pub fn outcomes_met(tallies: &[(&str, Tally)]) -> Vec<(Outcome, u64)> {
+    let outcomes = OUTCOMES.into_iter().chain(SIDE_OUTCOMES);
+    let met = outcomes.map(|outcome| {
         let counts = tallies
             .iter()
             .filter_map(|(_, tally)| tally.outcomes.get(&outcome));
         (outcome, counts.sum())
-    })
+    });
+    met.collect()
 }

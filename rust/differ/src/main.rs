@@ -11,6 +11,8 @@ const SIZES: Sizes = Sizes {
     streams: 20_000,
     stores: 20_000,
     states: 20_000,
+    comparisons: 20_000,
+    newer_values: 20_000,
 };
 
 fn main() -> ExitCode {
@@ -45,7 +47,7 @@ fn main() -> ExitCode {
 
 fn print_tallies(tallies: &[(&str, Tally)]) {
     println!(
-        "                 cases  checks    calls refused 1 refused 2 refused 3  records   MB alike"
+        "                 cases  checks    calls refused 1 refused 2 refused 3 refused 11  records   MB alike"
     );
     for (kind, tally) in tallies {
         let Tally {
@@ -53,13 +55,13 @@ fn print_tallies(tallies: &[(&str, Tally)]) {
             checks,
             calls,
             records,
-            answers: [_, state, store, reply],
             bytes,
             ..
         } = tally;
+        let [state, store, short, instant] = [1, 2, 3, 11].map(|number| tally.answered(number));
         let megabytes = bytes / 1_000_000;
         println!(
-            "{kind:14} {cases:7} {checks:7} {calls:8} {state:9} {store:9} {reply:9} {records:8} {megabytes:10}"
+            "{kind:14} {cases:7} {checks:7} {calls:8} {state:9} {store:9} {short:9} {instant:10} {records:8} {megabytes:10}"
         );
     }
 }

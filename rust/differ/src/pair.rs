@@ -33,15 +33,33 @@ pub struct Call {
 pub struct Tally {
     pub cases: u64,
     pub calls: u64,
-    /// Calls by what they answered: 0 to 3.
-    pub answers: [u64; 4],
+    /// Calls by what they answered: 0 or the refusal.
+    pub answers: BTreeMap<u32, u64>,
     pub records: u64,
     pub checks: u64,
     pub bytes: u64,
     /// Error lines by their text.
     pub errors: BTreeMap<String, u64>,
-    /// What GT and VER 0 came to in records that were fed one by one.
+    /// What GT and VER 0 came to in records that were fed one by one, and what two stores came to.
     pub outcomes: BTreeMap<Outcome, u64>,
+}
+
+impl Tally {
+    /// One call more, with what it answered and how many bytes were compared.
+    pub fn add_call(&mut self, refusal: u32, bytes: usize) {
+        self.calls += 1;
+        *self.answers.entry(refusal).or_default() += 1;
+        self.bytes += bytes as u64;
+    }
+
+    pub fn add_outcome(&mut self, outcome: Outcome) {
+        *self.outcomes.entry(outcome).or_default() += 1;
+    }
+
+    /// How many calls answered a number.
+    pub fn answered(&self, number: u32) -> u64 {
+        self.answers.get(&number).copied().unwrap_or(0)
+    }
 }
 
 /// Both implementations, each with its own memory.
@@ -176,9 +194,7 @@ impl Pair {
 
     fn count(&mut self, call: Call) {
         let tally = &mut self.tally;
-        tally.calls += 1;
-        tally.answers[call.refusal as usize] += 1;
-        tally.bytes += self.library.size() as u64;
+        tally.add_call(call.refusal, self.library.size());
         if call.reply_len == 0 {
             return;
         }
@@ -219,7 +235,7 @@ impl Pair {
 }
 
 /// The first and the last byte that differ, and the bytes from one to the other.
-fn difference(text: &mut String, what: &str, ours: &[u8], models: &[u8]) -> fmt::Result {
+pub fn difference(text: &mut String, what: &str, ours: &[u8], models: &[u8]) -> fmt::Result {
     let differs = |(ours, models): (&u8, &u8)| ours != models;
     let mut bytes = ours.iter().zip(models);
     let Some(first) = bytes.clone().position(differs) else {

@@ -1,6 +1,8 @@
 //! The paper's numbers are written down three times: by the wrapper, by the model and for the tools.
 
-use exhash::{REPLY_SIZE, SLOTS_MOST, USED_MOST, WAITING_MOST};
+use exhash::{
+    COMPARE_SIZE, FIELD_START, KEY_START, REPLY_SIZE, SLOTS_MOST, USED_MOST, WAITING_MOST,
+};
 use generate::layout as tools;
 use model::layout as model;
 
@@ -15,6 +17,13 @@ fn sizes_and_limits_agree() {
             model::LEAST_REPLY_BUFFER,
             tools::LEAST_REPLY_BUFFER,
         ),
+        (
+            COMPARE_SIZE,
+            model::LEAST_LISTING_BUFFER,
+            tools::LEAST_LISTING_BUFFER,
+        ),
+        (KEY_START, model::KEY.start, tools::KEY.start),
+        (FIELD_START, model::FIELD.start, tools::FIELD.start),
     ] {
         assert_eq!((wrapper, model), (tools, tools));
     }

@@ -18,9 +18,11 @@
 
 #![deny(unsafe_code)]
 
+mod compare;
 #[allow(unsafe_code)]
 pub mod interface;
 
+pub use compare::{Difference, Differences, Mark, Which, compare, newer};
 pub use interface::State;
 use std::error::Error;
 use std::fmt;
@@ -29,6 +31,8 @@ use std::fmt;
 pub const WAITING_MOST: usize = 1035;
 /// The least size of a reply buffer.
 pub const REPLY_SIZE: usize = 56_000;
+/// The least size of the output of [`compare`].
+pub const COMPARE_SIZE: usize = 16_000;
 /// A call uses no more bytes of its piece than this.
 pub const USED_MOST: usize = 65_536;
 /// A store has 1 to this many slots.
@@ -37,6 +41,10 @@ pub const SLOTS_MOST: usize = 500;
 pub const HEADER_SIZE: usize = 16;
 /// A slot holds one field.
 pub const SLOT_SIZE: usize = 128;
+/// Where a slot's key starts.
+pub const KEY_START: usize = 16;
+/// Where a slot's field starts.
+pub const FIELD_START: usize = 32;
 
 /// The bytes of a store of some slots.
 pub const fn store_size(slots: usize) -> usize {
@@ -60,15 +68,18 @@ pub struct Fed {
     pub reply_len: usize,
 }
 
-/// Why a call used and changed nothing. Where several apply, the lowest number is given.
+/// Why a call used and changed nothing. Where several apply, the lowest number is given; but
+/// [`compare`] gives [`Refusal::Instant`] before [`Refusal::ShortReply`].
 #[derive(Clone, Copy, Debug, PartialEq, Eq)]
 pub enum Refusal {
     /// A state that no feeding leaves.
     State = 1,
     /// Not the bytes of a well-formed store, or not [`store_size`] of them.
     Store = 2,
-    /// A reply buffer under [`REPLY_SIZE`] bytes.
+    /// A reply buffer under [`REPLY_SIZE`] bytes, or an output under [`COMPARE_SIZE`].
     ShortReply = 3,
+    /// An instant earlier than a store's clock, or 4,102,444,800,000 or more.
+    Instant = 11,
 }
 
 impl Feeder {
@@ -128,6 +139,7 @@ fn accepted(number: u32) -> Result<(), Refusal> {
         1 => Err(Refusal::State),
         2 => Err(Refusal::Store),
         3 => Err(Refusal::ShortReply),
+        11 => Err(Refusal::Instant),
         _ => panic!("the archive answered {number}: it is not that of include/exhash.h"),
     }
 }
@@ -137,7 +149,10 @@ impl fmt::Display for Refusal {
         let meaning = match self {
             Refusal::State => "the feeder's state is one that no feeding leaves",
             Refusal::Store => "the store is not well formed",
-            Refusal::ShortReply => "the reply buffer is under 56,000 bytes",
+            Refusal::ShortReply => {
+                "the reply buffer is under 56,000 bytes, or the output under 16,000"
+            }
+            Refusal::Instant => "the instant is before a store's clock or out of range",
         };
         write!(formatter, "refusal {}: {meaning}", *self as u32)
     }

@@ -1,7 +1,7 @@
 //! The cases of tests/cases, with their answers, through the wrapper.
 
-use cases::{Command, Outcome, PIECE_SIZES, Store, Stream, check};
-use exhash::{Feeder, REPLY_SIZE, store_check};
+use cases::{Command, Compare, Newer, Outcome, PIECE_SIZES, Store, Stream, check};
+use exhash::{COMPARE_SIZE, Feeder, REPLY_SIZE, Refusal, Which, compare, newer, store_check};
 
 #[test]
 fn commands() {
@@ -34,6 +34,51 @@ fn stores() {
         let checked = store_check(&case.store);
         assert_eq!(checked.is_ok(), case.well_formed, "{row}");
     });
+}
+
+#[test]
+fn two_stores_compared() {
+    check(|row, case: Compare| {
+        let mut out = vec![7; COMPARE_SIZE];
+        let compared = compare(&case.first, &case.second, case.instant, &mut out);
+        let listing = compared.map(|differences| differences.text().to_vec());
+        assert_eq!(
+            listing,
+            answered(case.number, case.listing.clone()),
+            "{row}"
+        );
+        let beyond = &out[case.listing.len()..];
+        assert!(beyond.iter().all(|byte| *byte == 7), "{row}");
+    });
+}
+
+#[test]
+fn newer_values() {
+    check(|row, case: Newer| {
+        let which = match case.which {
+            0 => None,
+            1 => Some(Which::First),
+            2 => Some(Which::Second),
+            other => panic!("which: {other}"),
+        };
+        let expected = which.map(|which| (which, &case.value[..]));
+        let Newer {
+            first, second, key, ..
+        } = &case;
+        let value = newer(first, second, key, &case.field, case.instant);
+        assert_eq!(value, answered(case.number, expected), "{row}");
+    });
+}
+
+/// An answer, or the refusal of a number other than 0.
+fn answered<T>(number: u32, answer: T) -> Result<T, Refusal> {
+    match number {
+        0 => Ok(answer),
+        2 => Err(Refusal::Store),
+        3 => Err(Refusal::ShortReply),
+        11 => Err(Refusal::Instant),
+        other => panic!("number: {other}"),
+    }
 }
 
 /// Offers each piece until it is used up.

@@ -1,7 +1,8 @@
 //! The numbers of include/exhash.h are the wrapper's; its version is that of the last note.
 
 use exhash::{
-    HEADER_SIZE, REPLY_SIZE, Refusal, SLOT_SIZE, SLOTS_MOST, State, USED_MOST, WAITING_MOST,
+    COMPARE_SIZE, HEADER_SIZE, REPLY_SIZE, Refusal, SLOT_SIZE, SLOTS_MOST, State, USED_MOST,
+    WAITING_MOST,
 };
 
 const HEADER: &str = include_str!("../../../include/exhash.h");
@@ -19,6 +20,7 @@ fn sizes_are_the_wrappers() {
     for (name, number) in [
         ("EXH_SLOTS_MOST", SLOTS_MOST),
         ("EXH_REPLY_SIZE", REPLY_SIZE),
+        ("EXH_COMPARE_SIZE", COMPARE_SIZE),
         ("EXH_WAITING_MOST", WAITING_MOST),
         ("EXH_USED_MOST", USED_MOST),
     ] {
@@ -36,6 +38,7 @@ fn refusals_are_the_wrappers() {
         ("EXH_BAD_STATE", Refusal::State as u32),
         ("EXH_BAD_STORE", Refusal::Store as u32),
         ("EXH_SHORT_REPLY", Refusal::ShortReply as u32),
+        ("EXH_BAD_INSTANT", Refusal::Instant as u32),
     ] {
         assert!(HEADER.contains(&format!(" {name} = {number}")), "{name}");
     }

@@ -81,13 +81,20 @@ fn stores_are_checked() {
 
 #[test]
 fn refusals_say_what_they_mean() {
-    let said = [Refusal::State, Refusal::Store, Refusal::ShortReply].map(|r| r.to_string());
+    let refusals = [
+        Refusal::State,
+        Refusal::Store,
+        Refusal::ShortReply,
+        Refusal::Instant,
+    ];
+    let said = refusals.map(|refusal| refusal.to_string());
     assert_eq!(
         said,
         [
             "refusal 1: the feeder's state is one that no feeding leaves",
             "refusal 2: the store is not well formed",
-            "refusal 3: the reply buffer is under 56,000 bytes",
+            "refusal 3: the reply buffer is under 56,000 bytes, or the output under 16,000",
+            "refusal 11: the instant is before a store's clock or out of range",
         ]
     );
 }

@@ -44,6 +44,7 @@ pub const MOST_WORDS: usize = 64;
 pub const MOST_WAITING: usize = 1035;
 pub const MOST_USED: usize = 65_536;
 pub const LEAST_REPLY_BUFFER: usize = 56_000;
+pub const LEAST_LISTING_BUFFER: usize = 16_000;
 
 /// The bytes of a store of some slots.
 pub const fn store_size(slots: usize) -> usize {

@@ -70,13 +70,18 @@ impl Generator {
     /// A store that is not well formed: one byte or one rule of a well-formed one is broken.
     pub fn damaged_store(&mut self) -> Vec<u8> {
         let mut store = self.store();
-        match self.random.below(4) {
-            0 => self.damage_length(&mut store),
-            1 => self.damage_header(&mut store),
-            2 => self.repeat_a_name(&mut store),
-            _ => self.damage_a_slot(&mut store),
-        }
+        self.damage(&mut store);
         store
+    }
+
+    /// Breaks one byte or one rule of a well-formed store.
+    pub(crate) fn damage(&mut self, store: &mut Vec<u8>) {
+        match self.random.below(4) {
+            0 => self.damage_length(store),
+            1 => self.damage_header(store),
+            2 => self.repeat_a_name(store),
+            _ => self.damage_a_slot(store),
+        }
     }
 
     /// A well-formed store with one byte changed: it may be well formed still.
@@ -200,7 +205,7 @@ impl Generator {
     }
 }
 
-fn store_clock(random: &mut Random) -> u64 {
+pub(crate) fn store_clock(random: &mut Random) -> u64 {
     let clocks = [0, 1, 999, 1000, 1_000_000, 1_700_000_000_000];
     let late = [TIME_LIMIT - 1, TIME_LIMIT - 2, TIME_LIMIT - 1000];
     if random.once_in(16) {
@@ -241,7 +246,7 @@ pub(crate) fn name_of(slot: &[u8]) -> Option<(&[u8], &[u8])> {
     (slot[STATE] != EMPTY).then_some((key, field))
 }
 
-fn write_entry(
+pub(crate) fn write_entry(
     slot: &mut [u8],
     key: &[u8],
     field: &[u8],
@@ -263,7 +268,8 @@ fn write_entry(
     slot[VALUE][..value.len()].copy_from_slice(value);
 }
 
-fn expiry(random: &mut Random, clock: u64) -> u64 {
+/// Around a clock, or at the ends.
+pub(crate) fn expiry(random: &mut Random, clock: u64) -> u64 {
     let near = [
         clock.saturating_sub(1),
         clock,

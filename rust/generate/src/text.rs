@@ -83,6 +83,9 @@ pub const VERSIONS: [u32; 8] = [
     LARGEST_VERSION,
 ];
 
+/// Beside the versions above, these tell reading in part, in another byte order or with a sign.
+pub const TELLING_VERSIONS: [u32; 6] = [255, 256, 65_535, 65_536, 1 << 24, 1 << 31];
+
 /// One of `usual`, or now and then of `long`.
 pub fn usual_or_long(
     random: &mut Random,

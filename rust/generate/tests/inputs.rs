@@ -1,11 +1,13 @@
 //! What the generator promises of its inputs, judged by the model.
 
-use generate::layout::{LARGEST_VERSION, LEAST_REPLY_BUFFER, store_size};
-use generate::{Generator, LONGEST_REPLY_BUFFER, State, record};
+use generate::layout::{
+    LARGEST_VERSION, LEAST_LISTING_BUFFER, LEAST_REPLY_BUFFER, MOST_SLOTS, store_size,
+};
+use generate::{Generator, LONGEST_LISTING_BUFFER, LONGEST_REPLY_BUFFER, State, record};
 use model::feeder::whole;
 use model::reply::Refusal;
 use model::resp::words;
-use model::{Feeder, execute, feed, store_check};
+use model::{Feeder, compare, execute, feed, newer, store_check};
 use std::collections::BTreeMap;
 
 fn feeder(state: &State) -> Feeder {
@@ -164,6 +166,64 @@ fn anything_gets_an_answer() {
         assert_eq!((fed.used, fed.skipped, fed.reply_len), (0, 0, 0));
         assert_eq!((fed.feeder, store), (state, before));
     }
+}
+
+/// Well-formed pairs are mostly compared, at every refusal's input some are refused, and lines of each
+/// kind come, up to the longest listing.
+#[test]
+fn pairs_of_stores_meet_every_mark_and_refusal() {
+    let mut generator = Generator::new(8);
+    let (mut met, mut marks, mut most) = (BTreeMap::new(), BTreeMap::new(), 0);
+    let mut out = vec![0; LONGEST_LISTING_BUFFER];
+    for _ in 0..5_000 {
+        let stores = generator.stores();
+        let [first, second] = &stores;
+        assert_eq!((store_check(first), store_check(second)), (0, 0));
+        let (instant, size) = (
+            generator.instant(&stores),
+            generator.listing_buffer_length(),
+        );
+        let compared = compare(first, second, instant, &mut out[..size]);
+        assert!(compared.refusal != 3 || size < LEAST_LISTING_BUFFER);
+        *met.entry(compared.refusal).or_insert(0) += 1;
+        let lines = out[..compared.written].split_inclusive(|byte| *byte == b'\n');
+        most = most.max(lines.clone().count());
+        lines.for_each(|line| *marks.entry(line[0]).or_insert(0) += 1);
+    }
+    println!("pairs by refusal: {met:?}, lines by mark: {marks:?}, lines at most: {most}");
+    assert!(met[&0] > 3_000 && met[&3] > 50 && met[&11] > 200);
+    assert!(b"<>~".iter().all(|mark| marks[mark] > 500));
+    assert_eq!((met.len(), marks.len(), most), (3, 3, 2 * MOST_SLOTS));
+}
+
+/// Each store is the damaged one, and each answer to a name comes.
+#[test]
+fn damaged_pairs_are_refused_and_names_are_found_or_not() {
+    let mut generator = Generator::new(9);
+    let (mut damaged, mut found) = (BTreeMap::new(), BTreeMap::new());
+    for _ in 0..5_000 {
+        let [first, second] = generator.damaged_stores();
+        let checked = (store_check(&first), store_check(&second));
+        *damaged.entry(checked).or_insert(0) += 1;
+        let stores = generator.stores();
+        let (instant, (key, field)) = (generator.instant(&stores), generator.name(&stores));
+        let place = newer(&stores[0], &stores[1], &key, &field, instant);
+        *found
+            .entry((place.refusal, place.which as u32))
+            .or_insert(0) += 1;
+    }
+    println!("damaged pairs by check: {damaged:?}, places by refusal and store: {found:?}");
+    assert!(
+        [(0, 2), (2, 0), (2, 2)]
+            .iter()
+            .all(|pair| damaged[pair] > 1_000)
+    );
+    assert!(
+        [(0, 0), (0, 1), (0, 2), (11, 0)]
+            .iter()
+            .all(|answer| found[answer] > 200)
+    );
+    assert_eq!((damaged.len(), found.len()), (3, 4));
 }
 
 #[test]

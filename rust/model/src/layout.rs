@@ -52,6 +52,8 @@ pub const MOST_WAITING: usize = LONGEST_RECORD - 1;
 pub const MOST_USED: usize = 65_536;
 /// A reply buffer under this size is refused.
 pub const LEAST_REPLY_BUFFER: usize = 56_000;
+/// An output for the listing of two stores' differences under this size is refused.
+pub const LEAST_LISTING_BUFFER: usize = 16_000;
 
 /// The bytes of a store of some slots.
 pub const fn store_size(slots: usize) -> usize {

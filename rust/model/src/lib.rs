@@ -3,11 +3,12 @@
 //!
 //! The modules follow the paper's sections, from the bottom: its numbers (`layout`), integers and
 //! words (`integer`, `resp`), the store (`store`, `time`, `versions`), commands (`parse`, `commands`,
-//! `reply`), then the feeder.
+//! `reply`), then the feeder, and two stores side by side (`compare`).
 
 #![forbid(unsafe_code)]
 
 pub mod commands;
+pub mod compare;
 pub mod feeder;
 pub mod integer;
 pub mod layout;
@@ -19,5 +20,6 @@ pub mod time;
 pub mod versions;
 
 pub use commands::{Done, execute};
+pub use compare::{Compared, NewerPlace, Which, compare, newer, newer_part};
 pub use feeder::{Fed, Feeder, feed};
 pub use store::store_check;

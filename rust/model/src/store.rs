@@ -13,7 +13,7 @@ pub type Slot = [u8; SLOT];
 const EMPTY_SLOT: Slot = [0; SLOT];
 
 /// An entry's name: a key and one of its fields.
-#[derive(Clone, Copy, Debug, PartialEq, Eq)]
+#[derive(Clone, Copy, Debug, PartialEq, Eq, Hash)]
 pub struct Name<'a> {
     pub key: &'a [u8],
     pub field: &'a [u8],
@@ -176,19 +176,27 @@ fn is_length(slots: usize, rest: usize) -> bool {
 
 /// 0, or 2 if the store is not well formed.
 pub fn store_check(store: &[u8]) -> u32 {
-    if is_well_formed(store) { 0 } else { 2 }
+    if contents(store).is_some() { 0 } else { 2 }
 }
 
-fn is_well_formed(store: &[u8]) -> bool {
-    let Some((header, places)) = store.split_first_chunk::<HEADER>() else {
-        return false;
-    };
+/// The clock and the slots of a well-formed store.
+#[derive(Clone, Copy)]
+pub struct Contents<'a> {
+    pub clock: u64,
+    pub slots: &'a [Slot],
+}
+
+/// None if the store is not well formed.
+pub fn contents(store: &[u8]) -> Option<Contents<'_>> {
+    let (header, places) = store.split_first_chunk::<HEADER>()?;
     let (slots, rest) = places.as_chunks();
-    is_length(slots.len(), rest.len())
-        && low_first(&header[CLOCK]) < TIME_LIMIT
+    let clock = low_first(&header[CLOCK]);
+    let is_well_formed = is_length(slots.len(), rest.len())
+        && clock < TIME_LIMIT
         && is_zero(&header[RESERVED])
         && slots.iter().all(is_slot_well_formed)
-        && are_distinct(slots)
+        && are_distinct(slots);
+    is_well_formed.then_some(Contents { clock, slots })
 }
 
 fn is_slot_well_formed(slot: &Slot) -> bool {

@@ -1,9 +1,9 @@
 //! The cases of tests/cases, with their answers.
 
-use cases::{Command, Outcome, PIECE_SIZES, Store, Stream, check};
+use cases::{Command, Compare, Newer, Outcome, PIECE_SIZES, Store, Stream, check};
 use model::feeder::whole;
-use model::layout::LEAST_REPLY_BUFFER;
-use model::{Feeder, execute, feed, store_check};
+use model::layout::{LEAST_LISTING_BUFFER, LEAST_REPLY_BUFFER};
+use model::{Feeder, compare, execute, feed, newer, newer_part, store_check};
 
 #[test]
 fn commands() {
@@ -45,6 +45,32 @@ fn streams_fed_whole_and_in_pieces() {
 fn stores() {
     check(|row, case: Store| {
         assert_eq!(store_check(&case.store) == 0, case.well_formed, "{row}");
+    });
+}
+
+#[test]
+fn two_stores_compared() {
+    check(|row, case: Compare| {
+        let mut out = vec![7; LEAST_LISTING_BUFFER];
+        let compared = compare(&case.first, &case.second, case.instant, &mut out);
+        assert_eq!(compared.refusal, case.number, "number of {row}");
+        let (listing, beyond) = out.split_at(compared.written);
+        assert_eq!(listing, case.listing, "listing of {row}");
+        assert!(beyond.iter().all(|byte| *byte == 7), "{row}");
+    });
+}
+
+#[test]
+fn newer_values() {
+    check(|row, case: Newer| {
+        let Newer {
+            first, second, key, ..
+        } = &case;
+        let place = newer(first, second, key, &case.field, case.instant);
+        assert_eq!(place.refusal, case.number, "number of {row}");
+        assert_eq!(place.which as u32, case.which, "{row}");
+        let part = newer_part(first, second, key, &case.field, case.instant);
+        assert_eq!(part, case.value, "value of {row}");
     });
 }
 
