@@ -93,7 +93,7 @@ zero-passed first second instant h = passed first second instant (go (firstApply
 -- ---- the listing's call
 
 module _ (first second : List ℕ) (instant : ℕ) (out : List ℕ) where
-  listing-checks : firstApplying (listingChecks first second instant out)
+  pub listing-checks : firstApplying (listingChecks first second instant out)
       ≡ orElse (firstApplying (checks first second instant)) (firstApplying (3 when ltb (length out) outputLeast ∷ [])) some
   unfolding listingChecks
   listing-checks = first-append (checks first second instant) (3 when ltb (length out) outputLeast ∷ [])

@@ -4,7 +4,8 @@ use Rattle.store.proofs.Computing as store
 use Rattle.compare.specs.Listing.{liveOf, liveSlotOf, sameExpiry, agree, firstMark, secondMark, lineOf, linesFrom, lines, spaced, lineText, listingOf, listing}
 use Rattle.compare.specs.Newer.{newerOf, newerSlot, placeOf, partAt}
 use Rattle.compare.specs.Calls.{checks, listingChecks, compare, newer}
+use Rattle.compare.specs.Examples.{listingGiven, listingExpected, listingRows, newerGiven, newerExpected, newerRows, refusalGiven, refusalExpected, refusalRows}
 
 unfoldable pub computing : Unit {0}
-unfolding store.computing entryAt valueStart liveOf liveSlotOf sameExpiry agree firstMark secondMark lineOf linesFrom lines spaced lineText listingOf listing newerOf newerSlot placeOf partAt checks listingChecks compare newer
+unfolding store.computing entryAt valueStart liveOf liveSlotOf sameExpiry agree firstMark secondMark lineOf linesFrom lines spaced lineText listingOf listing newerOf newerSlot placeOf partAt checks listingChecks compare newer listingGiven listingExpected listingRows newerGiven newerExpected newerRows refusalGiven refusalExpected refusalRows
 computing = tt

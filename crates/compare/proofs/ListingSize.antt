@@ -1,4 +1,4 @@
--- The listing of two well-formed stores is no longer than 12,000 bytes.
+-- The listing of two valid stores is no longer than 12,000 bytes.
 use mathlib.Core.Path.{_≡_, refl}
 use mathlib.Core.Bool.{Bool, true, false, cond}
 use mathlib.Core.List.{List, [], _∷_, flatten}
@@ -10,11 +10,9 @@ use lib.ListN.{length, getD, length-append}
 use Rattle.wire.specs.Lists.{orElse}
 use Rattle.wire.specs.Bytes.{text}
 use Rattle.wire.proofs.IntegerDigits.{length-naturalText}
-use Rattle.store.specs.Layout.{slotsMost}
-use Rattle.store.specs.Store.{Entry, Slot, decode, wellFormed}
+use Rattle.store.specs.Store.{Entry, Slot, Store}
 use Rattle.store.specs.Time.{live}
-use Rattle.store.specs.Valid.{Fits, FitsSlot, AllFit}
-use Rattle.store.proofs.Encode.{decode-valid}
+use Rattle.store.specs.Valid.{Fits, FitsSlot, AllFit, Valid}
 use Rattle.compare.specs.Listing.{firstMark, secondMark, Line, lineOf, linesFrom, lines, spaced, lineText, listingOf, listing}
 use Rattle.compare.proofs.LineTexts.{listing-append}
 
@@ -52,11 +50,9 @@ module _ (instant : ℕ) (mark : Entry → Option ℕ) where
       rw (listing-append (lineOf instant mark i s) (linesFrom instant mark (suc i) ss), length-append, mul-suc)
       (omega (arith, length-slot i s (f 0) (omega arith), length-slots (suc i) ss (λ j. f (suc j)) (omega arith)))
 
-pub listing-short : (instant : ℕ) (first second : List ℕ) → wellFormed first ≡ true → wellFormed second ≡ true
-    → length (listing instant (decode first) (decode second)) ≤ 12000
+pub listing-short : (instant : ℕ) (first second : Store) → Valid first → Valid second → length (listing instant first second) ≤ 12000
 unfolding listing lines
-listing-short instant first second w v =
-    let a = decode-valid first w in
-    let b = decode-valid second v in
-    rw (listing-append, length-append)
-    (omega (arith, a .most, b .most, length-slots instant (firstMark instant (decode second .slots)) 0 (decode first .slots) (a .fits) (omega (arith, a .most)), length-slots instant (secondMark instant (decode first .slots)) 0 (decode second .slots) (b .fits) (omega (arith, b .most))))
+listing-short instant first second a b =
+    let here = length-slots instant (firstMark instant (second .slots)) 0 (first .slots) (a .fits) (omega (arith, a .most)) in
+    let there = length-slots instant (secondMark instant (first .slots)) 0 (second .slots) (b .fits) (omega (arith, b .most)) in
+    rw (listing-append, length-append) (omega (arith, a .most, b .most, here, there))

@@ -1,34 +1,107 @@
--- What the theorems about the two operations say, in words of their own: no search, no order of slots.
+-- What the theorems about the two operations say, in words of their own: no search.
 use mathlib.Core.Path.{_≡_}
-use mathlib.Core.Bool.{Bool, true, _&&_}
-use mathlib.Core.List.{List}
+use mathlib.Core.Logic.{_⊎_, _↔_}
+use mathlib.Core.Bool.{Bool, true, false, cond}
+use mathlib.Core.List.{List, List·Memᴰ}
 use mathlib.Core.Option.{none, some}
-use mathlib.Core.Logic.{_↔_}
-use Prim.Native.Nat.{ℕ}
+use Prim.Native.Nat.{ℕ, _+_, _≤_, _<_}
 use lib.Dec.{eqb}
-use lib.ListN.{getD}
-use Rattle.wire.specs.Bytes.{same}
-use Rattle.store.specs.Store.{Entry, Slot}
+use lib.ListN.{length, getD}
+use Rattle.store.specs.Layout.{timeLimit}
+use Rattle.store.specs.Store.{Entry, Slot, clockOf, wellFormed}
 use Rattle.store.specs.Time.{live}
-use Rattle.compare.specs.Listing.{Line}
+use Rattle.compare.specs.declared.Place.{Place}
+use Rattle.compare.specs.Listing.{different, Line, lines}
 
--- an entry that is live at an instant stands in a slot
+-- slot i holds an entry that is live at an instant
+pub record LiveAt (instant : ℕ) (ss : List Slot) (i : ℕ) (e : Entry) : Type 0 where
+  pub here : getD ss i none ≡ some e
+  pub live : live instant e ≡ true
+
+-- some slot does
 pub record LiveIn (instant : ℕ) (ss : List Slot) (e : Entry) : Type 0 where
   pub slot : ℕ
-  pub here : getD ss slot none ≡ some e
-  pub live : live instant e ≡ true
+  pub at : LiveAt instant ss slot e
 
 -- two stores have the same live entries: key, field, value, version and expiry
 abbrev pub SameLive : ℕ → List Slot → List Slot → Type 0
 SameLive instant first second = (e : Entry) → LiveIn instant first e ↔ LiveIn instant second e
 
--- a line with a mark, and a line with another mark in its place
+-- two entries have the same key and field
+pub record SameName (e other : Entry) : Type 0 where
+  pub key : e .key ≡ other .key
+  pub field : e .field ≡ other .field
+
+-- no live entry has the key and the field of an entry
+abbrev pub Missing : ℕ → List Slot → Entry → Type 0
+Missing instant ss e = (other : Entry) → LiveIn instant ss other → SameName e other → ⊥
+
+-- a live entry has the key and the field of an entry, and is not the same: another value, version or expiry
+pub record Changed (instant : ℕ) (ss : List Slot) (e : Entry) : Type 0 where
+  pub other : Entry
+  pub live : LiveIn instant ss other
+  pub named : SameName e other
+  pub changed : e ≡ other → ⊥
+
+abbrev pub line : ℕ → Entry → ℕ → Line
+line m e i = record { mark = m; entry = e; slot = i }
+
+-- a line with a mark, and with another mark in its place
 unfoldable pub hasMark : ℕ → Line → Bool
 hasMark m l = eqb (l .mark) m
 
 abbrev pub remarked : ℕ → Line → Line
-remarked m l = record { mark = m; entry = l .entry; slot = l .slot }
+remarked m l = line m (l .entry) (l .slot)
 
--- a line about a key and a field
-unfoldable pub about : List ℕ → List ℕ → Line → Bool
-about k f l = same (l .entry .key) k && same (l .entry .field) f
+-- a key and a field are marked `~`
+pub record MarkedDifferent (instant : ℕ) (first second : List Slot) (k f : List ℕ) : Type 0 where
+  pub entry : Entry
+  pub slot : ℕ
+  pub listed : List·Memᴰ (line different entry slot) (lines instant first second)
+  pub key : entry .key ≡ k
+  pub field : entry .field ≡ f
+
+-- slot i of a store holds a live entry of a key and a field
+pub record Shown (instant : ℕ) (k f : List ℕ) (ss : List Slot) (i : ℕ) (e : Entry) : Type 0 where
+  pub at : LiveAt instant ss i e
+  pub key : e .key ≡ k
+  pub field : e .field ≡ f
+
+-- every live entry of a key and a field has a version of at most n, one below n, or there is none
+abbrev pub AtMost : ℕ → List ℕ → List ℕ → List Slot → ℕ → Type 0
+AtMost instant k f ss n = (i : ℕ) (e : Entry) → Shown instant k f ss i e → e .version ≤ n
+
+abbrev pub Below : ℕ → List ℕ → List ℕ → List Slot → ℕ → Type 0
+Below instant k f ss n = (i : ℕ) (e : Entry) → Shown instant k f ss i e → e .version < n
+
+abbrev pub NoLive : ℕ → List ℕ → List ℕ → List Slot → Type 0
+NoLive instant k f ss = (i : ℕ) (e : Entry) → Shown instant k f ss i e → ⊥
+
+-- a value is that of a live entry of a key and a field in one of two stores, and in neither has a live one a higher version
+pub record Newest (instant : ℕ) (k f : List ℕ) (first second : List Slot) (v : List ℕ) : Type 0 where
+  pub entry : Entry
+  pub slot : ℕ
+  pub shown : Shown instant k f first slot entry ⊎ Shown instant k f second slot entry
+  pub value : v ≡ entry .value
+  pub most : AtMost instant k f first (entry .version)
+  pub alsoMost : AtMost instant k f second (entry .version)
+
+-- a place lies in the bytes of the store that it names; where it names none it is empty
+abbrev pub Inside : List ℕ → List ℕ → Place → Type 0
+Inside first second p = p .start + p .size ≤ length (cond (eqb (p .which) 2) second first)
+
+-- both stores are well formed, and the instant is no earlier than a clock and below the limit
+pub record Proper (first second : List ℕ) (instant : ℕ) : Type 0 where
+  pub well : wellFormed first ≡ true
+  pub alsoWell : wellFormed second ≡ true
+  pub notBefore : clockOf first ≤ instant
+  pub norBefore : clockOf second ≤ instant
+  pub inTime : instant < timeLimit
+
+-- why a call is refused: 2, or 11 where neither store is damaged
+pub data Refusal (first second : List ℕ) (instant : ℕ) : ℕ → Type 0 where
+  damagedFirst : wellFormed first ≡ false → Refusal first second instant 2
+  damagedSecond : wellFormed second ≡ false → Refusal first second instant 2
+  beforeFirst : wellFormed first ≡ true → wellFormed second ≡ true → instant < clockOf first → Refusal first second instant 11
+  beforeSecond : wellFormed first ≡ true → wellFormed second ≡ true → instant < clockOf second → Refusal first second instant 11
+  tooLate : wellFormed first ≡ true → wellFormed second ≡ true → timeLimit ≤ instant → Refusal first second instant 11

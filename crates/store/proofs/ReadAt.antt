@@ -98,3 +98,13 @@ value-part {b} {i} h = rw (← entry-means {t = slotAt b i} h refl, size) (sym (
 
     size : length (part valueAt n (slotAt b i)) ≡ n
     size = length-part valueAt n (slotAt b i) room
+
+-- which lies in them
+pub value-within : {b : List ℕ} {i : ℕ} → Held b i → valueStart i + length (entryAt (decode b .slots) i .value) ≤ length b
+unfolding decodeEntry valueStart
+value-within {b} {i} h =
+    let slot : HeldBytes (slotAt b i) = held-bytes h refl in
+    let room : valueAt + getD (slotAt b i) valueLengthAt 0 ≤ length (slotAt b i) = value-inside (slotAt b i) slot in
+    let size : length (part valueAt (getD (slotAt b i) valueLengthAt 0) (slotAt b i)) ≡ getD (slotAt b i) valueLengthAt 0
+    = length-part valueAt (getD (slotAt b i) valueLengthAt 0) (slotAt b i) room in
+    rw (← entry-means {t = slotAt b i} h refl, size) (omega (arith, room, slot .slot .size, slot-inside b i (h .well) (h .inside)))

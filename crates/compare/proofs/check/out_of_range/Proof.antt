@@ -1,3 +1,4 @@
+use native.Mathlib.Omega.{arith}
 use Rattle.store.specs.Store.{decode}
 use denote.Ref.{now}
 use Rattle.compare.proofs.CallChecks.{before-first, before-second, after-both}
@@ -7,15 +8,15 @@ use Rattle.compare.proofs.check.out_of_range.Tie as tie
 
 returns : tie.Need-returns
 unfolding decode
-returns c = before-first (now (c .before .before .before .before .args .first)) (now (c .before .before .before .before .args .second)) (c .before .before .before .before .args .instant) (c .before .clock .ensures) (c .if1 .taken)
+returns c = before-first (now (c .before .before .before .before .args .first)) (now (c .before .before .before .before .args .second)) (c .before .before .before .before .args .instant) (c .before .clock .ensures) (omega (arith, c .if1 .taken))
 
 returns-2 : tie.Need-returns-2
 unfolding decode
-returns-2 c = before-second (now (c .before .before .before .before .before .before .args .first)) (now (c .before .before .before .before .before .before .args .second)) (c .before .before .before .before .before .before .args .instant) (c .before .before .before .clock .ensures) (c .before .before .if1 .left) (c .before .clock2 .ensures) (c .if2 .taken)
+returns-2 c = before-second (now (c .before .before .before .before .before .before .args .first)) (now (c .before .before .before .before .before .before .args .second)) (c .before .before .before .before .before .before .args .instant) (c .before .before .before .clock .ensures) (omega (arith, c .before .before .if1 .left)) (c .before .clock2 .ensures) (omega (arith, c .if2 .taken))
 
 returns-3 : tie.Need-returns-3
 unfolding decode
-returns-3 c = after-both (now (c .before .before .before .before .before .before .args .first)) (now (c .before .before .before .before .before .before .args .second)) (c .before .before .before .before .before .before .args .instant) (c .before .before .before .clock .ensures) (c .before .before .if1 .left) (c .before .clock2 .ensures) (c .if2 .left)
+returns-3 c = after-both (now (c .before .before .before .before .before .before .args .first)) (now (c .before .before .before .before .before .before .args .second)) (c .before .before .before .before .before .before .args .instant) (c .before .before .before .clock .ensures) (omega (arith, c .before .before .if1 .left)) (c .before .clock2 .ensures) (omega (arith, c .if2 .left))
 
 pub out-of-range-spec : {M : Type 1} → statement M
 out-of-range-spec = tie.close (tie.spec (λ c κs. search needs) returns (λ c κs. search needs) returns-2 returns-3)

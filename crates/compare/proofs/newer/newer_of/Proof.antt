@@ -27,11 +27,11 @@ version-requires-2 c κs = c .before .before .before .before .before .before .be
 
 returns-4 : tie.Need-returns-4
 unfolding newerFor newerOf slotIn
-returns-4 c = rw (c .before .before .before .before .before .before .before .left .given .1, c .before .before .before .before .right2 .given .1, ← (c .before .before .version .ensures), ← (c .before .version2 .ensures), lt-leb (c .before .version2 .result) (c .before .before .version .result) (c .if1 .taken))
+returns-4 c = rw (c .before .before .before .before .before .before .before .left .given .1, c .before .before .before .before .right2 .given .1, ← (c .before .before .version .ensures), ← (c .before .version2 .ensures), lt-leb (c .before .version2 .result) (c .before .before .version .result) (omega (arith, c .if1 .taken)))
 
 returns-5 : tie.Need-returns-5
 unfolding newerFor newerOf slotIn
-returns-5 c = rw (c .before .before .before .before .before .before .before .left .given .1, c .before .before .before .before .right2 .given .1, ← (c .before .before .version .ensures), ← (c .before .version2 .ensures), le-leb (c .before .version2 .result) (c .before .before .version .result) (c .if1 .left))
+returns-5 c = rw (c .before .before .before .before .before .before .before .left .given .1, c .before .before .before .before .right2 .given .1, ← (c .before .before .version .ensures), ← (c .before .version2 .ensures), le-leb (c .before .version2 .result) (c .before .before .version .result) (omega (arith, c .if1 .left)))
 
 pub newer-of-spec : {M : Type 1} → statement M
 newer-of-spec =

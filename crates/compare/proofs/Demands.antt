@@ -1,0 +1,118 @@
+-- What the two operations of M-102 come to: the page to open for them. Each theorem has one plain sentence above it; the proofs are laws of the other
+-- files. `lines` are the lines of a listing, `listing` its text; `compare` is the listing's call, `newer` the companion call of the newer value, `placeOf` its
+-- numbers and place, `partAt` the part that is shown, each over any bytes. A `Valid` store is one that well-formed bytes hold (feeder's `Demands`).
+use mathlib.Core.Path.{_≡_, refl, sym, ap, _∙_}
+use mathlib.Core.Logic.{_⊎_, inl, inr, _↔_, _≢_}
+use mathlib.Core.List.{List, [], _∷_, _++_, map, List·Memᴰ, List·Memᴰ·head, List·Memᴰ·append-cases, Memᴰ·append-left, Memᴰ·append-right}
+use mathlib.Core.Option.{Option, none, some}
+use Prim.Native.Nat.{ℕ, _+_, _≤_, _<_}
+use native.Mathlib.Omega.{arith}
+use lib.ListN.{length}
+use Rattle.wire.specs.Lists.{keep}
+use Rattle.wire.proofs.Lists.{impossible}
+use Rattle.store.specs.Store.{Entry, Slot, Store, decode}
+use Rattle.store.specs.Valid.{Valid}
+use Rattle.compare.specs.declared.Which.the-variants.{First, Second, Neither, Refused}
+use Rattle.compare.specs.Listing.{onlyFirst, onlySecond, different, firstMark, secondMark, Line, linesFrom, lines, listing}
+use Rattle.compare.specs.Newer.{placeOf, partAt}
+use Rattle.compare.specs.Calls.{outputLeast, answering, compare, newer}
+use Rattle.compare.specs.Claims.{LiveAt, LiveIn, SameLive, SameName, Missing, Changed, line, hasMark, remarked, MarkedDifferent, Shown, AtMost, Below, NoLive, Newest, Inside, Proper, Refusal}
+use Rattle.compare.proofs.ListingSize.{listing-short}
+use Rattle.compare.proofs.ListingTells as tells
+use Rattle.compare.proofs.SwappedLines.{swapped}
+use Rattle.compare.proofs.Exactly as exactly
+
+-- ---- the listing
+
+-- A `<` line about an entry stands in the listing exactly if the entry is live in that slot of the first store, and the second has no live entry of its key and field.
+pub only-first-if : (instant : ℕ) (first second : Store) (e : Entry) (i : ℕ)
+    → List·Memᴰ (line onlyFirst e i) (lines instant (first .slots) (second .slots)) ↔ (LiveAt instant (first .slots) i e × Missing instant (second .slots) e)
+only-first-if instant first second = tells.only-first instant (first .slots) (second .slots)
+
+-- A `>` line stands in it exactly if the entry is live in that slot of the second store, and the first has no live entry of its key and field.
+pub only-second-if : (instant : ℕ) (first second : Store) (e : Entry) (i : ℕ)
+    → List·Memᴰ (line onlySecond e i) (lines instant (first .slots) (second .slots)) ↔ (LiveAt instant (second .slots) i e × Missing instant (first .slots) e)
+only-second-if instant first second = tells.only-second instant (first .slots) (second .slots)
+
+-- A `~` line stands in it exactly if the entry is live in that slot of the first store, and the second has a live entry of its key and field that is not the same.
+pub different-if : (instant : ℕ) (first second : Store) → Valid second → (e : Entry) (i : ℕ)
+    → List·Memᴰ (line different e i) (lines instant (first .slots) (second .slots)) ↔ (LiveAt instant (first .slots) i e × Changed instant (second .slots) e)
+different-if instant first second v = tells.only-changed instant (first .slots) (second .slots) (v .apart)
+
+-- Every line has one of the three marks.
+pub three-marks : (instant : ℕ) (first second : Store) (l : Line) → List·Memᴰ l (lines instant (first .slots) (second .slots))
+    → (l .mark ≡ onlyFirst) ⊎ ((l .mark ≡ onlySecond) ⊎ (l .mark ≡ different))
+three-marks instant first second = tells.marks-known instant (first .slots) (second .slots)
+
+-- The listing is empty exactly if the two stores have the same live entries at the instant: the same keys and fields with the same value, version and expiry.
+pub empty-listing-if : (instant : ℕ) (first second : Store) → Valid first → Valid second → (listing instant first second ≡ []) ↔ SameLive instant (first .slots) (second .slots)
+empty-listing-if instant first second v w = tells.empty-exactly instant first second (v .apart) (w .apart)
+
+-- With the stores swapped, the `<` lines become the `>` lines, in the same order.
+pub swapped-lines : (instant : ℕ) (first second : Store)
+    → map (remarked onlySecond) (keep (hasMark onlyFirst) (lines instant (first .slots) (second .slots))) ≡ keep (hasMark onlySecond) (lines instant (second .slots) (first .slots))
+swapped-lines instant first second = swapped instant (first .slots) (second .slots)
+
+-- With the stores swapped, the keys and fields marked `~` are the same.
+pub swapped-different : (instant : ℕ) (first second : Store) → Valid first → Valid second → (k f : List ℕ)
+    → MarkedDifferent instant (first .slots) (second .slots) k f ↔ MarkedDifferent instant (second .slots) (first .slots) k f
+swapped-different instant first second v w k f =
+    (tells.marked-swaps instant (first .slots) (second .slots) (v .apart) (w .apart) k f, tells.marked-swaps instant (second .slots) (first .slots) (w .apart) (v .apart) k f)
+
+-- The listing is never longer than 12,000 bytes, so it fits an output that is not refused.
+pub listing-fits : (instant : ℕ) (first second : Store) → Valid first → Valid second → length (listing instant first second) ≤ 12000
+listing-fits = listing-short
+
+-- ---- the listing's call
+
+-- It is refused with 2 or 11 exactly as both calls are, and with 3 exactly if neither applies and the output is under 16,000 bytes.
+pub compare-refused-if : (first second : List ℕ) (instant : ℕ) (out : List ℕ) (n : ℕ) → n ≢ 0
+    → (compare first second instant out .compared .refusal ≡ n) ↔ (Refusal first second instant n ⊎ ((n ≡ 3) × Proper first second instant × (length out < outputLeast)))
+compare-refused-if = exactly.call-number
+
+-- A refused call writes nothing and changes no byte of the output.
+pub compare-refused : (first second : List ℕ) (instant : ℕ) (out : List ℕ) → compare first second instant out .compared .refusal ≢ 0
+    → (compare first second instant out .compared .written ≡ 0) × (compare first second instant out .output ≡ out)
+compare-refused = exactly.call-refused
+
+-- Any other writes the listing at the output's start and leaves the bytes beyond.
+pub compare-lists : (first second : List ℕ) (instant : ℕ) (out : List ℕ) → Proper first second instant → outputLeast ≤ length out
+    → compare first second instant out ≡ answering (listing instant (decode first) (decode second)) out
+compare-lists = exactly.call-listed
+
+-- ---- the newer value
+
+-- The first store is named, with slot i, exactly if that slot holds a live entry of the key and the field, and no live one of the second store has a higher version.
+pub newer-first-if : (first second k f : List ℕ) (instant i : ℕ)
+    → (newer first second k f instant ≡ First i)
+    ↔ (Proper first second instant × ((e : Entry) × Shown instant k f (decode first .slots) i e × AtMost instant k f (decode second .slots) (e .version)))
+newer-first-if = exactly.first-exactly
+
+-- The second is named, with slot j, exactly if that slot holds one, and any live one of the first store has a lower version.
+pub newer-second-if : (first second k f : List ℕ) (instant j : ℕ)
+    → (newer first second k f instant ≡ Second j)
+    ↔ (Proper first second instant × ((e : Entry) × Shown instant k f (decode second .slots) j e × Below instant k f (decode first .slots) (e .version)))
+newer-second-if = exactly.second-exactly
+
+-- Neither is named exactly if neither store has a live one.
+pub newer-neither-if : (first second k f : List ℕ) (instant : ℕ)
+    → (newer first second k f instant ≡ Neither) ↔ (Proper first second instant × NoLive instant k f (decode first .slots) × NoLive instant k f (decode second .slots))
+newer-neither-if = exactly.neither-exactly
+
+-- The call is refused with 2 exactly if a store is not well formed, and with 11 exactly if both are and the instant is earlier than a clock or too late.
+pub newer-refused-if : (first second k f : List ℕ) (instant n : ℕ) → (newer first second k f instant ≡ Refused n) ↔ Refusal first second instant n
+newer-refused-if = exactly.refused-exactly
+
+-- Where a store is named, the part shown is the value of a live entry of the key and the field in one of the stores, and no live one in either has a higher version.
+pub newest-shown : (first second k f : List ℕ) (instant : ℕ) → placeOf first second (newer first second k f instant) .which ≢ 0
+    → Newest instant k f (decode first .slots) (decode second .slots) (partAt first second (placeOf first second (newer first second k f instant)))
+newest-shown = exactly.newest
+
+-- Where none is named, the part shown is empty.
+pub nothing-shown : (first second k f : List ℕ) (instant : ℕ) → placeOf first second (newer first second k f instant) .which ≡ 0
+    → partAt first second (placeOf first second (newer first second k f instant)) ≡ []
+nothing-shown = exactly.none-shown
+
+-- The place lies in the bytes of its store.
+pub place-in-store : (first second k f : List ℕ) (instant : ℕ) → Inside first second (placeOf first second (newer first second k f instant))
+place-in-store = exactly.place-inside
