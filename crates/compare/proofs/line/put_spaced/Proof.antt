@@ -15,16 +15,24 @@ part-write-natural-start : tie.Need-part-write-natural-start
 part-write-natural-start c = spaced-inside (c .before .args .n) (c .before .args .out .now) (c .before .pre)
 
 write-natural-requires : tie.Need-write-natural-requires
-write-natural-requires c κs = spaced-room (c .before .before .args .n) (c .before .before .args .out .now) (c .before .before .pre)
+write-natural-requires c κs =
+    let start = c .before .before in
+    spaced-room (start .args .n) (start .args .out .now) (start .pre)
 
 add-result : tie.Need-add-result
-add-result c = omega (arith, laid-within (spaced-laid (c .before .before .before .before .before .args .n) (c .before .before .before .before .before .args .out .now) (c .before .before .before .before .before .pre) (c .before .before .write-natural .ensures)) (c .before .before .before .before .before .pre))
+add-result c =
+    let start = c .before .before .before .before .before in
+    omega (arith, laid-within (spaced-laid (start .args .n) (start .args .out .now) (start .pre) (c .before .before .write-natural .ensures)) (start .pre))
 
 same-length : tie.Need-same-length
-same-length c = laid-length (spaced-laid (c .before .before .before .before .before .args .n) (c .before .before .before .before .before .args .out .now) (c .before .before .before .before .before .pre) (c .before .before .write-natural .ensures)) (c .before .before .before .before .before .pre)
+same-length c =
+    let start = c .before .before .before .before .before in
+    laid-length (spaced-laid (start .args .n) (start .args .out .now) (start .pre) (c .before .before .write-natural .ensures)) (start .pre)
 
 returns : tie.Need-returns
-returns c = spaced-laid (c .before .before .before .before .before .args .n) (c .before .before .before .before .before .args .out .now) (c .before .before .before .before .before .pre) (c .before .before .write-natural .ensures)
+returns c =
+    let start = c .before .before .before .before .before in
+    spaced-laid (start .args .n) (start .args .out .now) (start .pre) (c .before .before .write-natural .ensures)
 
 pub put-spaced-spec : {M : Type 1} → statement M
 put-spaced-spec =

@@ -11,25 +11,34 @@ use Rattle.compare.proofs.listing.compare.Statement.{statement}
 use Rattle.compare.proofs.listing.compare.Tie as tie
 
 returns : tie.Need-returns
-returns c = compare-refused (now (c .before .before .before .before .before .args .first)) (now (c .before .before .before .before .before .args .second)) (c .before .before .before .before .before .args .instant) (c .before .before .before .before .before .args .out .now) (c .before .refusal .ensures) (c .if1 .taken)
+returns c =
+    let start = c .before .before .before .before .before in
+    compare-refused (now (start .args .first)) (now (start .args .second)) (start .args .instant) (start .args .out .now) (c .before .refusal .ensures) (c .if1 .taken)
 
 returns-2 : tie.Need-returns-2
-returns-2 c = compare-short (now (c .before .before .before .before .before .before .args .first)) (now (c .before .before .before .before .before .before .args .second)) (c .before .before .before .before .before .before .args .instant) (c .before .before .before .before .before .before .args .out .now) (zero-passed (now (c .before .before .before .before .before .before .args .first)) (now (c .before .before .before .before .before .before .args .second)) (c .before .before .before .before .before .before .args .instant) (sym (c .before .if1 .left) ∙ c .before .before .refusal .ensures)) (omega (arith, c .if2 .taken))
+returns-2 c =
+    let start = c .before .before .before .before .before .before in
+    compare-short (now (start .args .first)) (now (start .args .second)) (start .args .instant) (start .args .out .now) (zero-passed (now (start .args .first)) (now (start .args .second)) (start .args .instant) (sym (c .before .if1 .left) ∙ c .before .before .refusal .ensures)) (omega (arith, c .if2 .taken))
 
 put-listing-requires : tie.Need-put-listing-requires
 put-listing-requires c κs =
-    let p = zero-passed (now (c .before .before .before .before .before .before .before .args .first)) (now (c .before .before .before .before .before .before .before .args .second)) (c .before .before .before .before .before .before .before .args .instant) (sym (c .before .before .if1 .left) ∙ c .before .before .before .refusal .ensures) in
-    ((p .well, p .alsoWell), omega (arith, c .before .if2 .left, listing-short (c .before .before .before .before .before .before .before .args .instant) (decode (now (c .before .before .before .before .before .before .before .args .first))) (decode (now (c .before .before .before .before .before .before .before .args .second))) (decode-valid (now (c .before .before .before .before .before .before .before .args .first)) (p .well)) (decode-valid (now (c .before .before .before .before .before .before .before .args .second)) (p .alsoWell))))
+    let start = c .before .before .before .before .before .before .before in
+    let p = zero-passed (now (start .args .first)) (now (start .args .second)) (start .args .instant) (sym (c .before .before .if1 .left) ∙ c .before .before .before .refusal .ensures) in
+    ((p .well, p .alsoWell), omega (arith, c .before .if2 .left, listing-short (start .args .instant) (decode (now (start .args .first))) (decode (now (start .args .second))) (decode-valid (now (start .args .first)) (p .well)) (decode-valid (now (start .args .second)) (p .alsoWell))))
 
 same-length : tie.Need-same-length
 same-length c =
-    let p = zero-passed (now (c .before .before .before .before .before .before .before .before .before .before .args .first)) (now (c .before .before .before .before .before .before .before .before .before .before .args .second)) (c .before .before .before .before .before .before .before .before .before .before .args .instant) (sym (c .before .before .before .before .before .if1 .left) ∙ c .before .before .before .before .before .before .refusal .ensures) in
-    laid-length (c .before .before .put-listing .ensures) (omega (arith, c .before .before .before .before .if2 .left, listing-short (c .before .before .before .before .before .before .before .before .before .before .args .instant) (decode (now (c .before .before .before .before .before .before .before .before .before .before .args .first))) (decode (now (c .before .before .before .before .before .before .before .before .before .before .args .second))) (decode-valid (now (c .before .before .before .before .before .before .before .before .before .before .args .first)) (p .well)) (decode-valid (now (c .before .before .before .before .before .before .before .before .before .before .args .second)) (p .alsoWell))))
+    let back4 = c .before .before .before .before in let back5 = back4 .before in let back6 = back5 .before in
+    let start = back6 .before .before .before .before in
+    let p = zero-passed (now (start .args .first)) (now (start .args .second)) (start .args .instant) (sym (back5 .if1 .left) ∙ back6 .refusal .ensures) in
+    laid-length (c .before .before .put-listing .ensures) (omega (arith, back4 .if2 .left, listing-short (start .args .instant) (decode (now (start .args .first))) (decode (now (start .args .second))) (decode-valid (now (start .args .first)) (p .well)) (decode-valid (now (start .args .second)) (p .alsoWell))))
 
 returns-3 : tie.Need-returns-3
 returns-3 c =
-    compare-listed (now (c .before .before .before .before .before .before .before .before .before .before .args .first)) (now (c .before .before .before .before .before .before .before .before .before .before .args .second)) (c .before .before .before .before .before .before .before .before .before .before .args .instant) (c .before .before .before .before .before .before .before .before .before .before .args .out .now) (zero-passed (now (c .before .before .before .before .before .before .before .before .before .before .args .first)) (now (c .before .before .before .before .before .before .before .before .before .before .args .second)) (c .before .before .before .before .before .before .before .before .before .before .args .instant) (sym (c .before .before .before .before .before .if1 .left) ∙ c .before .before .before .before .before .before .refusal .ensures)) (omega (arith, c .before .before .before .before .if2 .left))
-    (rw (c .before .before .put-listing .ensures .size, c .before .before .put-listing .ensures .bytes))
+    let back2 = c .before .before in let back4 = back2 .before .before in let back5 = back4 .before in let back6 = back5 .before in
+    let start = back6 .before .before .before .before in
+    compare-listed (now (start .args .first)) (now (start .args .second)) (start .args .instant) (start .args .out .now) (zero-passed (now (start .args .first)) (now (start .args .second)) (start .args .instant) (sym (back5 .if1 .left) ∙ back6 .refusal .ensures)) (omega (arith, back4 .if2 .left))
+    (rw (back2 .put-listing .ensures .size, back2 .put-listing .ensures .bytes))
 
 pub compare-spec : {M : Type 1} → statement M
 compare-spec =

@@ -9,7 +9,9 @@ unfolding firstMarkFor
 returns c = rw (c .enum-told .given .1)
 
 agree-requires : tie.Need-agree-requires
-agree-requires c κs = (c .before .before .before .before .before .pre .0, c .before .before .before .before .before .pre .1 _ (c .before .found .given .1))
+agree-requires c κs =
+    let start = c .before .before .before .before .before in
+    (start .pre .0, start .pre .1 _ (c .before .found .given .1))
 
 returns-2 : tie.Need-returns-2
 unfolding firstMarkFor

@@ -7,19 +7,23 @@ use Rattle.compare.proofs.listing.mark_of.Statement.{statement}
 use Rattle.compare.proofs.listing.mark_of.Tie as tie
 
 first-mark-requires : tie.Need-first-mark-requires
-first-mark-requires c κs = (c .before .before .before .before .before .before .before .pre .0, live-held (now (c .before .before .before .before .before .before .before .args .other)) _ _ (c .before .before .before .before .before .before .before .args .instant) (c .before .before .before .before .before .before .before .pre .1) (c .before .before .live-near .ensures))
+first-mark-requires c κs =
+    let start = c .before .before .before .before .before .before .before in
+    (start .pre .0, live-held (now (start .args .other)) _ _ (start .args .instant) (start .pre .1) (c .before .before .live-near .ensures))
 
 returns : tie.Need-returns
 returns c =
+    let back4 = c .before .before .before .before in let back5 = back4 .before in let start = back5 .before .before .before in
     rw (c .before .enum-told .given .1)
-    (mark-first (c .before .before .before .before .before .before .before .before .args .instant) (entryAt (decode (now (c .before .before .before .before .before .before .before .before .args .store)) .slots) (c .before .before .before .before .before .before .before .before .args .i)) (decode (now (c .before .before .before .before .before .before .before .before .args .other)) .slots)
-    (rw (← (c .before .before .before .before .before .key .ensures), ← (c .before .before .before .before .field .ensures)) (c .before .before .before .live-near .ensures)) (c .first-mark .ensures))
+    (mark-first (start .args .instant) (entryAt (decode (now (start .args .store)) .slots) (start .args .i)) (decode (now (start .args .other)) .slots)
+    (rw (← (back5 .key .ensures), ← (back4 .field .ensures)) (c .before .before .before .live-near .ensures)) (c .first-mark .ensures))
 
 returns-2 : tie.Need-returns-2
 returns-2 c =
+    let back4 = c .before .before .before .before in let back5 = back4 .before in let start = back5 .before .before .before in
     rw (c .before .enum-told2 .given .1)
-    (mark-second (c .before .before .before .before .before .before .before .before .args .instant) (entryAt (decode (now (c .before .before .before .before .before .before .before .before .args .store)) .slots) (c .before .before .before .before .before .before .before .before .args .i)) (decode (now (c .before .before .before .before .before .before .before .before .args .other)) .slots)
-    (rw (← (c .before .before .before .before .before .key .ensures), ← (c .before .before .before .before .field .ensures)) (c .before .before .before .live-near .ensures)) (c .second-mark .ensures))
+    (mark-second (start .args .instant) (entryAt (decode (now (start .args .store)) .slots) (start .args .i)) (decode (now (start .args .other)) .slots)
+    (rw (← (back5 .key .ensures), ← (back4 .field .ensures)) (c .before .before .before .live-near .ensures)) (c .second-mark .ensures))
 
 pub mark-of-spec : {M : Type 1} → statement M
 mark-of-spec =

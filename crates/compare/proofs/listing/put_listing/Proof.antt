@@ -9,25 +9,39 @@ use Rattle.compare.proofs.listing.put_listing.Statement.{statement}
 use Rattle.compare.proofs.listing.put_listing.Tie as tie
 
 put-lines-requires : tie.Need-put-lines-requires
-put-lines-requires c κs = (c .before .before .before .before .pre .0, front-room (passText passes.First (c .before .before .before .before .args .instant) (now (c .before .before .before .before .args .first)) (now (c .before .before .before .before .args .second))) (passText passes.Second (c .before .before .before .before .args .instant) (now (c .before .before .before .before .args .second)) (now (c .before .before .before .before .args .first))) (listing-room (c .before .before .before .before .args .instant) (now (c .before .before .before .before .args .first)) (now (c .before .before .before .before .args .second)) (c .before .before .before .before .pre .1)))
+put-lines-requires c κs =
+    let start = c .before .before .before .before in
+    (start .pre .0, front-room (passText passes.First (start .args .instant) (now (start .args .first)) (now (start .args .second))) (passText passes.Second (start .args .instant) (now (start .args .second)) (now (start .args .first))) (listing-room (start .args .instant) (now (start .args .first)) (now (start .args .second)) (start .pre .1)))
 
 sub-put-lines : tie.Need-sub-put-lines
-sub-put-lines c = tail-inside (passText passes.Second (c .before .before .before .before .before .before .before .args .instant) (now (c .before .before .before .before .before .before .before .args .second)) (now (c .before .before .before .before .before .before .before .args .first))) (c .before .before .put-lines .ensures) (listing-room (c .before .before .before .before .before .before .before .args .instant) (now (c .before .before .before .before .before .before .before .args .first)) (now (c .before .before .before .before .before .before .before .args .second)) (c .before .before .before .before .before .before .before .pre .1))
+sub-put-lines c =
+    let start = c .before .before .before .before .before .before .before in
+    tail-inside (passText passes.Second (start .args .instant) (now (start .args .second)) (now (start .args .first))) (c .before .before .put-lines .ensures) (listing-room (start .args .instant) (now (start .args .first)) (now (start .args .second)) (start .pre .1))
 
 part-put-lines-start : tie.Need-part-put-lines-start
-part-put-lines-start c = tail-inside (passText passes.Second (c .before .before .before .before .before .before .before .args .instant) (now (c .before .before .before .before .before .before .before .args .second)) (now (c .before .before .before .before .before .before .before .args .first))) (c .before .before .put-lines .ensures) (listing-room (c .before .before .before .before .before .before .before .args .instant) (now (c .before .before .before .before .before .before .before .args .first)) (now (c .before .before .before .before .before .before .before .args .second)) (c .before .before .before .before .before .before .before .pre .1))
+part-put-lines-start c =
+    let start = c .before .before .before .before .before .before .before in
+    tail-inside (passText passes.Second (start .args .instant) (now (start .args .second)) (now (start .args .first))) (c .before .before .put-lines .ensures) (listing-room (start .args .instant) (now (start .args .first)) (now (start .args .second)) (start .pre .1))
 
 put-lines-requires-2 : tie.Need-put-lines-requires-2
-put-lines-requires-2 c κs = ((c .before .before .before .before .before .before .before .before .pre .0 .1, c .before .before .before .before .before .before .before .before .pre .0 .0), tail-room (passText passes.Second (c .before .before .before .before .before .before .before .before .args .instant) (now (c .before .before .before .before .before .before .before .before .args .second)) (now (c .before .before .before .before .before .before .before .before .args .first))) (c .before .before .before .put-lines .ensures) (listing-room (c .before .before .before .before .before .before .before .before .args .instant) (now (c .before .before .before .before .before .before .before .before .args .first)) (now (c .before .before .before .before .before .before .before .before .args .second)) (c .before .before .before .before .before .before .before .before .pre .1)))
+put-lines-requires-2 c κs =
+    let start = c .before .before .before .before .before .before .before .before in
+    ((start .pre .0 .1, start .pre .0 .0), tail-room (passText passes.Second (start .args .instant) (now (start .args .second)) (now (start .args .first))) (c .before .before .before .put-lines .ensures) (listing-room (start .args .instant) (now (start .args .first)) (now (start .args .second)) (start .pre .1)))
 
 add-result : tie.Need-add-result
-add-result c = omega (arith, laid-within (laid-tail (c .before .before .before .before .before .before .put-lines .ensures) (c .before .before .put-lines2 .ensures)) (listing-room (c .before .before .before .before .before .before .before .before .before .before .before .args .instant) (now (c .before .before .before .before .before .before .before .before .before .before .before .args .first)) (now (c .before .before .before .before .before .before .before .before .before .before .before .args .second)) (c .before .before .before .before .before .before .before .before .before .before .before .pre .1)))
+add-result c =
+    let back6 = c .before .before .before .before .before .before in let start = back6 .before .before .before .before .before in
+    omega (arith, laid-within (laid-tail (back6 .put-lines .ensures) (c .before .before .put-lines2 .ensures)) (listing-room (start .args .instant) (now (start .args .first)) (now (start .args .second)) (start .pre .1)))
 
 same-length : tie.Need-same-length
-same-length c = laid-length (laid-tail (c .before .before .before .before .before .before .put-lines .ensures) (c .before .before .put-lines2 .ensures)) (listing-room (c .before .before .before .before .before .before .before .before .before .before .before .args .instant) (now (c .before .before .before .before .before .before .before .before .before .before .before .args .first)) (now (c .before .before .before .before .before .before .before .before .before .before .before .args .second)) (c .before .before .before .before .before .before .before .before .before .before .before .pre .1))
+same-length c =
+    let back6 = c .before .before .before .before .before .before in let start = back6 .before .before .before .before .before in
+    laid-length (laid-tail (back6 .put-lines .ensures) (c .before .before .put-lines2 .ensures)) (listing-room (start .args .instant) (now (start .args .first)) (now (start .args .second)) (start .pre .1))
 
 returns : tie.Need-returns
-returns c = rw (listing-parts (c .before .before .before .before .before .before .before .before .before .before .before .args .instant) (now (c .before .before .before .before .before .before .before .before .before .before .before .args .first)) (now (c .before .before .before .before .before .before .before .before .before .before .before .args .second))) (laid-tail (c .before .before .before .before .before .before .put-lines .ensures) (c .before .before .put-lines2 .ensures))
+returns c =
+    let back6 = c .before .before .before .before .before .before in let start = back6 .before .before .before .before .before in
+    rw (listing-parts (start .args .instant) (now (start .args .first)) (now (start .args .second))) (laid-tail (back6 .put-lines .ensures) (c .before .before .put-lines2 .ensures))
 
 pub put-listing-spec : {M : Type 1} → statement M
 put-listing-spec =

@@ -17,7 +17,9 @@ returns-3 c = rw (c .before .before .before .a .given .1, c .enum-told4 .given .
 
 returns-4 : tie.Need-returns-4
 unfolding sameExpiry
-returns-4 c = rw (c .before .before .before .before .a .given .1, c .before .b .given .1)
+returns-4 c =
+    let back4 = c .before .before .before .before in
+    rw (back4 .a .given .1, c .before .b .given .1)
 
 pub same-expiry-spec : {M : Type 1} → statement M
 same-expiry-spec =

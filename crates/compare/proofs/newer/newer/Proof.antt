@@ -8,16 +8,24 @@ use Rattle.compare.proofs.newer.newer.Statement.{statement}
 use Rattle.compare.proofs.newer.newer.Tie as tie
 
 value-requires : tie.Need-value-requires
-value-requires c κs = first-held (now (c .before .before .before .before .before .before .before .before .args .first)) (now (c .before .before .before .before .before .before .before .before .args .second)) (now (c .before .before .before .before .before .before .before .before .args .key)) (now (c .before .before .before .before .before .before .before .before .args .field)) (c .before .before .before .before .before .before .before .before .args .instant) _ (sym (c .before .before .before .newer-in .ensures) ∙ c .before .found .given .1)
+value-requires c κs =
+    let start = c .before .before .before .before .before .before .before .before in
+    first-held (now (start .args .first)) (now (start .args .second)) (now (start .args .key)) (now (start .args .field)) (start .args .instant) _ (sym (c .before .before .before .newer-in .ensures) ∙ c .before .found .given .1)
 
 value-requires-2 : tie.Need-value-requires-2
-value-requires-2 c κs = second-held (now (c .before .before .before .before .before .before .before .before .args .first)) (now (c .before .before .before .before .before .before .before .before .args .second)) (now (c .before .before .before .before .before .before .before .before .args .key)) (now (c .before .before .before .before .before .before .before .before .args .field)) (c .before .before .before .before .before .before .before .before .args .instant) _ (sym (c .before .before .before .newer-in .ensures) ∙ c .before .found2 .given .1)
+value-requires-2 c κs =
+    let start = c .before .before .before .before .before .before .before .before in
+    second-held (now (start .args .first)) (now (start .args .second)) (now (start .args .key)) (now (start .args .field)) (start .args .instant) _ (sym (c .before .before .before .newer-in .ensures) ∙ c .before .found2 .given .1)
 
 returns : tie.Need-returns
-returns c = first-shown (now (c .before .before .before .before .before .before .before .before .before .args .first)) (now (c .before .before .before .before .before .before .before .before .before .args .second)) (now (c .before .before .before .before .before .before .before .before .before .args .key)) (now (c .before .before .before .before .before .before .before .before .before .args .field)) (c .before .before .before .before .before .before .before .before .before .args .instant) _ (sym (c .before .before .before .before .newer-in .ensures) ∙ c .before .before .found .given .1) (c .value .ensures)
+returns c =
+    let back4 = c .before .before .before .before in let start = back4 .before .before .before .before .before in
+    first-shown (now (start .args .first)) (now (start .args .second)) (now (start .args .key)) (now (start .args .field)) (start .args .instant) _ (sym (back4 .newer-in .ensures) ∙ c .before .before .found .given .1) (c .value .ensures)
 
 returns-2 : tie.Need-returns-2
-returns-2 c = second-shown (now (c .before .before .before .before .before .before .before .before .before .args .first)) (now (c .before .before .before .before .before .before .before .before .before .args .second)) (now (c .before .before .before .before .before .before .before .before .before .args .key)) (now (c .before .before .before .before .before .before .before .before .before .args .field)) (c .before .before .before .before .before .before .before .before .before .args .instant) _ (sym (c .before .before .before .before .newer-in .ensures) ∙ c .before .before .found2 .given .1) (c .value2 .ensures)
+returns-2 c =
+    let back4 = c .before .before .before .before in let start = back4 .before .before .before .before .before in
+    second-shown (now (start .args .first)) (now (start .args .second)) (now (start .args .key)) (now (start .args .field)) (start .args .instant) _ (sym (back4 .newer-in .ensures) ∙ c .before .before .found2 .given .1) (c .value2 .ensures)
 
 returns-3 : tie.Need-returns-3
 unfolding partAt placeOf part

@@ -11,24 +11,32 @@ use Rattle.compare.proofs.newer.newer_in.Tie as tie
 
 returns : tie.Need-returns
 returns c =
-    newer-refused (now (c .before .before .before .before .before .before .args .first)) (now (c .before .before .before .before .before .before .args .second)) (now (c .before .before .before .before .before .before .args .key)) (now (c .before .before .before .before .before .before .args .field)) (c .before .before .before .before .before .before .args .instant)
-    (given-some (firstApplying (checks (now (c .before .before .before .before .before .before .args .first)) (now (c .before .before .before .before .before .before .args .second)) (c .before .before .before .before .before .before .args .instant))) (c .before .refusal .result) (c .before .refusal .ensures) (c .if1 .taken))
+    let start = c .before .before .before .before .before .before in
+    newer-refused (now (start .args .first)) (now (start .args .second)) (now (start .args .key)) (now (start .args .field)) (start .args .instant)
+    (given-some (firstApplying (checks (now (start .args .first)) (now (start .args .second)) (start .args .instant))) (c .before .refusal .result) (c .before .refusal .ensures) (c .if1 .taken))
 
 live-near-requires : tie.Need-live-near-requires
-live-near-requires c κs = zero-passed (now (c .before .before .before .before .before .before .args .first)) (now (c .before .before .before .before .before .before .args .second)) (c .before .before .before .before .before .before .args .instant) (sym (c .if1 .left) ∙ c .before .refusal .ensures) .well
+live-near-requires c κs =
+    let start = c .before .before .before .before .before .before in
+    zero-passed (now (start .args .first)) (now (start .args .second)) (start .args .instant) (sym (c .if1 .left) ∙ c .before .refusal .ensures) .well
 
 live-near-requires-2 : tie.Need-live-near-requires-2
-live-near-requires-2 c κs = zero-passed (now (c .before .before .before .before .before .before .before .args .first)) (now (c .before .before .before .before .before .before .before .args .second)) (c .before .before .before .before .before .before .before .args .instant) (sym (c .before .if1 .left) ∙ c .before .before .refusal .ensures) .alsoWell
+live-near-requires-2 c κs =
+    let start = c .before .before .before .before .before .before .before in
+    zero-passed (now (start .args .first)) (now (start .args .second)) (start .args .instant) (sym (c .before .if1 .left) ∙ c .before .before .refusal .ensures) .alsoWell
 
 newer-of-requires : tie.Need-newer-of-requires
 newer-of-requires c κs =
-    let p = zero-passed (now (c .before .before .before .before .before .before .before .before .args .first)) (now (c .before .before .before .before .before .before .before .before .args .second)) (c .before .before .before .before .before .before .before .before .args .instant) (sym (c .before .before .if1 .left) ∙ c .before .before .before .refusal .ensures) in (
-      live-held (now (c .before .before .before .before .before .before .before .before .args .first)) (now (c .before .before .before .before .before .before .before .before .args .key)) (now (c .before .before .before .before .before .before .before .before .args .field)) (c .before .before .before .before .before .before .before .before .args .instant) (p .well) (c .before .live-near .ensures),
-      live-held (now (c .before .before .before .before .before .before .before .before .args .second)) (now (c .before .before .before .before .before .before .before .before .args .key)) (now (c .before .before .before .before .before .before .before .before .args .field)) (c .before .before .before .before .before .before .before .before .args .instant) (p .alsoWell) (c .live-near2 .ensures),
+    let start = c .before .before .before .before .before .before .before .before in
+    let p = zero-passed (now (start .args .first)) (now (start .args .second)) (start .args .instant) (sym (c .before .before .if1 .left) ∙ c .before .before .before .refusal .ensures) in (
+      live-held (now (start .args .first)) (now (start .args .key)) (now (start .args .field)) (start .args .instant) (p .well) (c .before .live-near .ensures),
+      live-held (now (start .args .second)) (now (start .args .key)) (now (start .args .field)) (start .args .instant) (p .alsoWell) (c .live-near2 .ensures),
     )
 
 returns-2 : tie.Need-returns-2
-returns-2 c = newer-found (now (c .before .before .before .before .before .before .before .before .before .args .first)) (now (c .before .before .before .before .before .before .before .before .before .args .second)) (now (c .before .before .before .before .before .before .before .before .before .args .key)) (now (c .before .before .before .before .before .before .before .before .before .args .field)) (c .before .before .before .before .before .before .before .before .before .args .instant) (zero-passed (now (c .before .before .before .before .before .before .before .before .before .args .first)) (now (c .before .before .before .before .before .before .before .before .before .args .second)) (c .before .before .before .before .before .before .before .before .before .args .instant) (sym (c .before .before .before .if1 .left) ∙ c .before .before .before .before .refusal .ensures)) (c .before .before .live-near .ensures) (c .before .live-near2 .ensures) (c .newer-of .ensures)
+returns-2 c =
+    let back4 = c .before .before .before .before in let start = back4 .before .before .before .before .before in
+    newer-found (now (start .args .first)) (now (start .args .second)) (now (start .args .key)) (now (start .args .field)) (start .args .instant) (zero-passed (now (start .args .first)) (now (start .args .second)) (start .args .instant) (sym (c .before .before .before .if1 .left) ∙ back4 .refusal .ensures)) (c .before .before .live-near .ensures) (c .before .live-near2 .ensures) (c .newer-of .ensures)
 
 pub newer-in-spec : {M : Type 1} → statement M
 newer-in-spec =

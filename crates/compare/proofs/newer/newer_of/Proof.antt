@@ -20,18 +20,26 @@ unfolding newerFor newerOf slotIn
 returns-3 c = rw (c .before .before .before .left .given .1, c .enum-told3 .given .1)
 
 version-requires : tie.Need-version-requires
-version-requires c κs = c .before .before .before .before .before .before .before .before .pre .0 _ (c .before .before .before .before .left .given .1)
+version-requires c κs =
+    let back4 = c .before .before .before .before in let start = back4 .before .before .before .before in
+    start .pre .0 _ (back4 .left .given .1)
 
 version-requires-2 : tie.Need-version-requires-2
-version-requires-2 c κs = c .before .before .before .before .before .before .before .before .before .pre .1 _ (c .before .before .right2 .given .1)
+version-requires-2 c κs =
+    let start = c .before .before .before .before .before .before .before .before .before in
+    start .pre .1 _ (c .before .before .right2 .given .1)
 
 returns-4 : tie.Need-returns-4
 unfolding newerFor newerOf slotIn
-returns-4 c = rw (c .before .before .before .before .before .before .before .left .given .1, c .before .before .before .before .right2 .given .1, ← (c .before .before .version .ensures), ← (c .before .version2 .ensures), lt-leb (c .before .version2 .result) (c .before .before .version .result) (omega (arith, c .if1 .taken)))
+returns-4 c =
+    let back2 = c .before .before in let back4 = back2 .before .before in let back7 = back4 .before .before .before in
+    rw (back7 .left .given .1, back4 .right2 .given .1, ← (back2 .version .ensures), ← (c .before .version2 .ensures), lt-leb (c .before .version2 .result) (back2 .version .result) (omega (arith, c .if1 .taken)))
 
 returns-5 : tie.Need-returns-5
 unfolding newerFor newerOf slotIn
-returns-5 c = rw (c .before .before .before .before .before .before .before .left .given .1, c .before .before .before .before .right2 .given .1, ← (c .before .before .version .ensures), ← (c .before .version2 .ensures), le-leb (c .before .version2 .result) (c .before .before .version .result) (omega (arith, c .if1 .left)))
+returns-5 c =
+    let back2 = c .before .before in let back4 = back2 .before .before in let back7 = back4 .before .before .before in
+    rw (back7 .left .given .1, back4 .right2 .given .1, ← (back2 .version .ensures), ← (c .before .version2 .ensures), le-leb (c .before .version2 .result) (back2 .version .result) (omega (arith, c .if1 .left)))
 
 pub newer-of-spec : {M : Type 1} → statement M
 newer-of-spec =

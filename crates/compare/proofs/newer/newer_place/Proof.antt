@@ -7,24 +7,36 @@ use Rattle.compare.proofs.newer.newer_place.Statement.{statement}
 use Rattle.compare.proofs.newer.newer_place.Tie as tie
 
 value-start-requires : tie.Need-value-start-requires
-value-start-requires c κs = first-held (now (c .before .before .before .before .before .before .before .before .args .first)) (now (c .before .before .before .before .before .before .before .before .args .second)) (now (c .before .before .before .before .before .before .before .before .args .key)) (now (c .before .before .before .before .before .before .before .before .args .field)) (c .before .before .before .before .before .before .before .before .args .instant) _ (sym (c .before .before .before .newer-in .ensures) ∙ c .before .found .given .1)
+value-start-requires c κs =
+    let start = c .before .before .before .before .before .before .before .before in
+    first-held (now (start .args .first)) (now (start .args .second)) (now (start .args .key)) (now (start .args .field)) (start .args .instant) _ (sym (c .before .before .before .newer-in .ensures) ∙ c .before .found .given .1)
 
 value-requires : tie.Need-value-requires
-value-requires c κs = first-held (now (c .before .before .before .before .before .before .before .before .before .args .first)) (now (c .before .before .before .before .before .before .before .before .before .args .second)) (now (c .before .before .before .before .before .before .before .before .before .args .key)) (now (c .before .before .before .before .before .before .before .before .before .args .field)) (c .before .before .before .before .before .before .before .before .before .args .instant) _ (sym (c .before .before .before .before .newer-in .ensures) ∙ c .before .before .found .given .1)
+value-requires c κs =
+    let back4 = c .before .before .before .before in let start = back4 .before .before .before .before .before in
+    first-held (now (start .args .first)) (now (start .args .second)) (now (start .args .key)) (now (start .args .field)) (start .args .instant) _ (sym (back4 .newer-in .ensures) ∙ c .before .before .found .given .1)
 
 value-start-requires-2 : tie.Need-value-start-requires-2
-value-start-requires-2 c κs = second-held (now (c .before .before .before .before .before .before .before .before .args .first)) (now (c .before .before .before .before .before .before .before .before .args .second)) (now (c .before .before .before .before .before .before .before .before .args .key)) (now (c .before .before .before .before .before .before .before .before .args .field)) (c .before .before .before .before .before .before .before .before .args .instant) _ (sym (c .before .before .before .newer-in .ensures) ∙ c .before .found2 .given .1)
+value-start-requires-2 c κs =
+    let start = c .before .before .before .before .before .before .before .before in
+    second-held (now (start .args .first)) (now (start .args .second)) (now (start .args .key)) (now (start .args .field)) (start .args .instant) _ (sym (c .before .before .before .newer-in .ensures) ∙ c .before .found2 .given .1)
 
 value-requires-2 : tie.Need-value-requires-2
-value-requires-2 c κs = second-held (now (c .before .before .before .before .before .before .before .before .before .args .first)) (now (c .before .before .before .before .before .before .before .before .before .args .second)) (now (c .before .before .before .before .before .before .before .before .before .args .key)) (now (c .before .before .before .before .before .before .before .before .before .args .field)) (c .before .before .before .before .before .before .before .before .before .args .instant) _ (sym (c .before .before .before .before .newer-in .ensures) ∙ c .before .before .found2 .given .1)
+value-requires-2 c κs =
+    let back4 = c .before .before .before .before in let start = back4 .before .before .before .before .before in
+    second-held (now (start .args .first)) (now (start .args .second)) (now (start .args .key)) (now (start .args .field)) (start .args .instant) _ (sym (back4 .newer-in .ensures) ∙ c .before .before .found2 .given .1)
 
 returns : tie.Need-returns
 unfolding placeOf
-returns c = rw (sym (c .before .before .before .before .before .newer-in .ensures) ∙ c .before .before .before .found .given .1, c .before .value-start .ensures, c .value .ensures)
+returns c =
+    let back5 = c .before .before .before .before .before in
+    rw (sym (back5 .newer-in .ensures) ∙ c .before .before .before .found .given .1, c .before .value-start .ensures, c .value .ensures)
 
 returns-2 : tie.Need-returns-2
 unfolding placeOf
-returns-2 c = rw (sym (c .before .before .before .before .before .newer-in .ensures) ∙ c .before .before .before .found2 .given .1, c .before .value-start2 .ensures, c .value2 .ensures)
+returns-2 c =
+    let back5 = c .before .before .before .before .before in
+    rw (sym (back5 .newer-in .ensures) ∙ c .before .before .before .found2 .given .1, c .before .value-start2 .ensures, c .value2 .ensures)
 
 returns-3 : tie.Need-returns-3
 unfolding placeOf
