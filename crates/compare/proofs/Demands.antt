@@ -1,22 +1,21 @@
 -- What the two operations of M-102 come to: the page to open for them. Each theorem has one plain sentence above it; the proofs are laws of the other
 -- files. `lines` are the lines of a listing, `listing` its text; `compare` is the listing's call, `newer` the companion call of the newer value, `placeOf` its
 -- numbers and place, `partAt` the part that is shown, each over any bytes. A `Valid` store is one that well-formed bytes hold (feeder's `Demands`).
-use mathlib.Core.Path.{_≡_, refl, sym, ap, _∙_}
-use mathlib.Core.Logic.{_⊎_, inl, inr, _↔_, _≢_}
-use mathlib.Core.List.{List, [], _∷_, _++_, map, List·Memᴰ, List·Memᴰ·head, List·Memᴰ·append-cases, Memᴰ·append-left, Memᴰ·append-right}
-use mathlib.Core.Option.{Option, none, some}
-use Prim.Native.Nat.{ℕ, _+_, _≤_, _<_}
-use native.Mathlib.Omega.{arith}
+use mathlib.Core.Path.{_≡_}
+use mathlib.Core.Logic.{_⊎_, _↔_, _≢_}
+use mathlib.Core.List.{List, [], map, List·Memᴰ}
+use Prim.Native.Nat.{ℕ, _≤_, _<_}
 use lib.ListN.{length}
 use Rattle.wire.specs.Lists.{keep}
-use Rattle.wire.proofs.Lists.{impossible}
-use Rattle.store.specs.Store.{Entry, Slot, Store, decode}
+use Rattle.store.specs.Store.{Entry, Store, decode}
 use Rattle.store.specs.Valid.{Valid}
 use Rattle.compare.specs.declared.Which.the-variants.{First, Second, Neither, Refused}
-use Rattle.compare.specs.Listing.{onlyFirst, onlySecond, different, firstMark, secondMark, Line, linesFrom, lines, listing}
+use Rattle.compare.specs.Listing.{onlyFirst, onlySecond, different, Line, lines, listing}
 use Rattle.compare.specs.Newer.{placeOf, partAt}
 use Rattle.compare.specs.Calls.{outputLeast, answering, compare, newer}
-use Rattle.compare.specs.Claims.{LiveAt, LiveIn, SameLive, SameName, Missing, Changed, line, hasMark, remarked, MarkedDifferent, Shown, AtMost, Below, NoLive, Newest, Inside, Proper, Refusal}
+use Rattle.compare.specs.Claims.{LiveAt, SameLive, Missing, Changed, line, hasMark, remarked, InOrder, MarkedDifferent, Shown, AtMost, Below, NoLive, Newest, Inside, Proper, Refusal}
+use Rattle.compare.specs.Examples.{listingGiven, listingExpected, listingRows, newerGiven, newerExpected, newerRows, refusalGiven, refusalExpected, refusalRows}
+use Rattle.compare.proofs.Examples as examples
 use Rattle.compare.proofs.ListingSize.{listing-short}
 use Rattle.compare.proofs.ListingTells as tells
 use Rattle.compare.proofs.SwappedLines.{swapped}
@@ -43,6 +42,10 @@ different-if instant first second v = tells.only-changed instant (first .slots) 
 pub three-marks : (instant : ℕ) (first second : Store) (l : Line) → List·Memᴰ l (lines instant (first .slots) (second .slots))
     → (l .mark ≡ onlyFirst) ⊎ ((l .mark ≡ onlySecond) ⊎ (l .mark ≡ different))
 three-marks instant first second = tells.marks-known instant (first .slots) (second .slots)
+
+-- The lines of the first store's slots come first, then those of entries only in the second, each in slot order.
+pub in-slot-order : (instant : ℕ) (first second : Store) → InOrder (lines instant (first .slots) (second .slots))
+in-slot-order instant first second = tells.ordered instant (first .slots) (second .slots)
 
 -- The listing is empty exactly if the two stores have the same live entries at the instant: the same keys and fields with the same value, version and expiry.
 pub empty-listing-if : (instant : ℕ) (first second : Store) → Valid first → Valid second → (listing instant first second ≡ []) ↔ SameLive instant (first .slots) (second .slots)
@@ -116,3 +119,17 @@ nothing-shown = exactly.none-shown
 -- The place lies in the bytes of its store.
 pub place-in-store : (first second k f : List ℕ) (instant : ℕ) → Inside first second (placeOf first second (newer first second k f instant))
 place-in-store = exactly.place-inside
+
+-- ---- worked cases
+
+-- The definitions give the request's example, and the listings beside it.
+pub worked-listings : map listingGiven listingRows ≡ map listingExpected listingRows
+worked-listings = examples.listing-rows
+
+-- They give which store has the newer value and the part shown, refusals too.
+pub worked-values : map newerGiven newerRows ≡ map newerExpected newerRows
+worked-values = examples.newer-rows
+
+-- They give the first of the listing's refusals that applies.
+pub worked-refusals : map refusalGiven refusalRows ≡ map refusalExpected refusalRows
+worked-refusals = examples.refusal-rows

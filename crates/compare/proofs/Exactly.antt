@@ -1,14 +1,14 @@
 -- Which refusal is given, and which store has the newer value: exactly when.
 use mathlib.Core.Path.{_≡_, refl, sym, ap, _∙_}
-use mathlib.Core.Logic.{_⊎_, inl, inr, _↔_, _≢_}
+use mathlib.Core.Logic.{_⊎_, inl, inr, _↔_}
 use mathlib.Core.Bool.{Bool, true, false, cond, not, _||_}
 use mathlib.Core.List.{List, [], _∷_}
 use mathlib.Core.Option.{Option, none, some}
 use Prim.Native.Nat.{ℕ, _≤_, _<_}
 use native.Mathlib.Omega.{arith}
 use lib.Dec.{leb, ltb}
-use lib.ListN.{length, getD}
-use borrow.Author.Tests.{ltb-true, ltb-false, leb-true, leb-false, lt-ltb, le-ltb, le-leb, lt-leb}
+use lib.ListN.{length}
+use borrow.Author.Tests.{ltb-true, ltb-false, leb-true, leb-false, le-leb, lt-leb}
 use Rattle.wire.specs.Lists.{orElse}
 use Rattle.wire.specs.Bytes.{part}
 use Rattle.wire.specs.Checks.{_when_, firstApplying}
@@ -24,7 +24,7 @@ use Rattle.compare.specs.declared.Which.{Which}
 use Rattle.compare.specs.declared.Which.the-variants.{First, Second, Neither, Refused}
 use Rattle.compare.specs.Listing.{liveSlotOf, listing}
 use Rattle.compare.specs.Newer.{newerOf, newerSlot, placeOf, partAt}
-use Rattle.compare.specs.Calls.{checks, outputLeast, listingChecks, Answer, refusing, answering, compare, newer}
+use Rattle.compare.specs.Calls.{checks, outputLeast, Answer, refusing, answering, compare, newer}
 use Rattle.compare.specs.Claims.{SameName, Shown, AtMost, Below, NoLive, Newest, Inside, Proper, Refusal}
 use Rattle.compare.specs.Claims.Refusal.{damagedFirst, damagedSecond, beforeFirst, beforeSecond, tooLate}
 use Rattle.compare.proofs.CallChecks.{listing-checks}

@@ -1,9 +1,9 @@
 -- Lines and their text: one line, the lines of one slot, and those of the slots that are left.
-use mathlib.Core.Path.{_≡_, refl, sym, ap, subst, _∙_}
-use mathlib.Core.Bool.{Bool, true, false, cond, not}
+use mathlib.Core.Path.{_≡_, refl, sym, subst, _∙_}
+use mathlib.Core.Bool.{Bool, true, false, not}
 use mathlib.Core.List.{List, [], _∷_, _++_, map, flatten, append-assoc, append-nil, map-append}
 use mathlib.Core.Option.{Option, none, some, Option·getD}
-use Prim.Native.Nat.{ℕ, suc, _+_, _-_, _≤_, _<_}
+use Prim.Native.Nat.{ℕ, _+_, _-_, _≤_, _<_}
 use native.Mathlib.Numerals.{add-one}
 use native.Mathlib.Omega.{arith}
 use lib.ListN.{length, take, drop, getD, set, length-append, length-set, drop-of-length-le}
@@ -13,12 +13,12 @@ use Rattle.wire.specs.Lists.{onlyIf, orElse}
 use Rattle.wire.specs.Bytes.{text}
 use Rattle.wire.specs.Integers.{naturalText}
 use Rattle.wire.specs.Promises.{Laid}
-use Rattle.wire.proofs.Lists.{both-ways, impossible}
+use Rattle.wire.proofs.Lists.{impossible}
 use Rattle.wire.proofs.ReplyLaws.{flatten-append}
-use Rattle.wire.proofs.ReplyLaying.{laid-first, laid-more, laid-tail, laid-length, laid-none, length-tail, front-room}
+use Rattle.wire.proofs.ReplyLaying.{laid-first, laid-more, laid-length, length-tail, front-room}
 use Rattle.wire.proofs.Elements.{Next}
 use Rattle.store.specs.Store.{Entry, Slot, blank, decode, slotCount, wellFormed}
-use Rattle.store.specs.Time.{live, emptySlot, liveSlot}
+use Rattle.store.specs.Time.{emptySlot, liveSlot}
 use Rattle.store.specs.Promises.{Held, entryAt}
 use Rattle.store.proofs.Encode.{length-decode}
 use Rattle.compare.specs.declared.Pass.{Pass}

@@ -1,8 +1,8 @@
 -- Which lines a listing has: each line by what the two stores hold, with no search.
 use mathlib.Core.Path.{_≡_, refl, sym, ap, _∙_}
-use mathlib.Core.Logic.{_⊎_, inl, inr, _↔_}
+use mathlib.Core.Logic.{_⊎_, inl, inr}
 use mathlib.Core.Bool.{Bool, true, false, cond, not, _&&_}
-use mathlib.Core.List.{List, [], _∷_, _++_, List·Memᴰ, List·Memᴰ·head, List·Memᴰ·not-nil, List·Memᴰ·eq-of-singleton, List·Memᴰ·append-cases, Memᴰ·append-left, Memᴰ·append-right, Memᴰ·cast}
+use mathlib.Core.List.{List, [], _∷_, List·Memᴰ, List·Memᴰ·head, List·Memᴰ·not-nil, List·Memᴰ·eq-of-singleton, List·Memᴰ·append-cases, Memᴰ·append-left, Memᴰ·append-right}
 use mathlib.Core.Option.{Option, none, some}
 use Prim.Native.Nat.{ℕ, zero, suc, _+_}
 use native.Mathlib.Omega.{arith}
@@ -15,14 +15,14 @@ use Rattle.wire.proofs.Lists.{and-left, and-right, both-ways, impossible}
 use Rattle.wire.proofs.ByteLaws.{same-true, same-refl}
 use Rattle.store.specs.declared.Expiry.{Expiry}
 use Rattle.store.specs.declared.Expiry.the-variants.{Never, At}
-use Rattle.store.specs.Store.{Entry, Slot, holds}
+use Rattle.store.specs.Store.{Entry, Slot}
 use Rattle.store.specs.Time.{live, liveSlot}
 use Rattle.store.specs.Valid.{Apart}
 use Rattle.store.specs.Promises.{entryAt}
 use Rattle.store.proofs.Slots.{Named, holds-named, holds-own}
-use Rattle.compare.specs.Listing.{liveOf, liveSlotOf, sameExpiry, agree, onlyFirst, onlySecond, different, firstMark, secondMark, Line, lineOf, linesFrom, lines}
+use Rattle.compare.specs.Listing.{liveOf, liveSlotOf, sameExpiry, agree, onlyFirst, onlySecond, different, firstMark, secondMark, Line, lineOf, linesFrom}
 use Rattle.compare.specs.Claims.{LiveAt, LiveIn, SameName, Missing, Changed, line}
-use Rattle.compare.proofs.LiveEntries.{live-holds, live-lives, live-both, live-here, live-nowhere, live-none, live-only}
+use Rattle.compare.proofs.LiveEntries.{live-holds, live-lives, live-both, live-here, live-nowhere, live-only}
 
 -- ---- entries that agree
 
@@ -223,11 +223,3 @@ module _ (instant : ℕ) (e : Entry) (other : List Slot) where
         go : (t : Bool) → agree e (c .other) ≡ t → onlyIf (not t) different ≡ some different
         go true q = absurd (c .changed (agree-same e (c .other) (c .named) q))
         go false q = refl
-
-    pub alike-first : LiveIn instant other e → firstMark instant other e ≡ none
-    unfolding onlyIf
-    alike-first i = found e i (record { key = refl; field = refl }) ∙ rw (agree-own e)
-
-    pub matched-second : (g : Entry) → LiveIn instant other g → SameName e g → secondMark instant other e ≡ none
-    unfolding secondMark orElse
-    matched-second g i n = rw (search-only instant e other a g i n)

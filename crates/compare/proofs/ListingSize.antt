@@ -1,12 +1,11 @@
 -- The listing of two valid stores is no longer than 12,000 bytes.
-use mathlib.Core.Path.{_≡_, refl}
 use mathlib.Core.Bool.{Bool, true, false, cond}
 use mathlib.Core.List.{List, [], _∷_, flatten}
 use mathlib.Core.Option.{Option, none, some}
 use Prim.Native.Nat.{ℕ, suc, _+_, _*_, _^_, _≤_, _<_}
 use native.Mathlib.Nat.{mul-suc}
 use native.Mathlib.Omega.{arith}
-use lib.ListN.{length, getD, length-append}
+use lib.ListN.{length, length-append}
 use Rattle.wire.specs.Lists.{orElse}
 use Rattle.wire.specs.Bytes.{text}
 use Rattle.wire.proofs.IntegerDigits.{length-naturalText}

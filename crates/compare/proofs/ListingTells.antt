@@ -1,16 +1,21 @@
 -- What a listing tells of two stores: each line, the empty listing, and the keys and fields marked `~`.
-use mathlib.Core.Path.{_≡_, refl, sym, ap, _∙_}
+use mathlib.Core.Path.{_≡_, refl, sym, _∙_}
 use mathlib.Core.Logic.{_⊎_, inl, inr, _↔_}
-use mathlib.Core.List.{List, [], _∷_, _++_, map, flatten, List·Memᴰ, List·Memᴰ·head, List·Memᴰ·not-nil, List·Memᴰ·append-cases, Memᴰ·append-left, Memᴰ·append-right}
+use mathlib.Core.Bool.{Bool, true, false, cond, not}
+use mathlib.Core.List.{List, [], _∷_, _++_, flatten, List·Memᴰ, List·Memᴰ·head, List·Memᴰ·tail, List·Memᴰ·not-nil, List·Memᴰ·append-cases, Memᴰ·append-left, Memᴰ·append-right}
 use mathlib.Core.Option.{Option, none, some}
-use Prim.Native.Nat.{ℕ, _+_}
+use Prim.Native.Nat.{ℕ, suc, _+_}
 use native.Mathlib.Omega.{arith}
-use Rattle.wire.proofs.Lists.{impossible}
+use lib.Dec.{ltb, eqb}
+use borrow.Author.Tests.{lt-ltb}
+use Rattle.wire.specs.Lists.{all, orElse}
+use Rattle.wire.proofs.Lists.{and-both, impossible}
 use Rattle.store.specs.Store.{Entry, Slot, Store}
+use Rattle.store.specs.Time.{live}
 use Rattle.store.specs.Valid.{Apart}
-use Rattle.compare.specs.Listing.{onlyFirst, onlySecond, different, firstMark, secondMark, Line, linesFrom, lines, lineText, listingOf, listing}
-use Rattle.compare.specs.Claims.{LiveAt, LiveIn, SameLive, SameName, Missing, Changed, line, MarkedDifferent}
-use Rattle.compare.proofs.ListedLines.{live-once, Lists, listed-lists, lists-listed, FirstMarked, first-marked, SecondMarked, second-marked, missing-first, missing-second, changed-first, alike-first, matched-second}
+use Rattle.compare.specs.Listing.{onlyFirst, onlySecond, different, firstMark, secondMark, Line, lineOf, linesFrom, lines, lineText, listingOf, listing}
+use Rattle.compare.specs.Claims.{LiveAt, LiveIn, SameLive, SameName, Missing, Changed, line, hasMark, ascending, InOrder, MarkedDifferent}
+use Rattle.compare.proofs.ListedLines.{live-once, Lists, listed-lists, lists-listed, FirstMarked, first-marked, SecondMarked, second-marked, missing-first, missing-second, changed-first}
 use Rattle.compare.proofs.ListedLines.FirstMarked.{alone, changed, alike}
 use Rattle.compare.proofs.ListedLines.SecondMarked.{unmatched, matched}
 
@@ -186,3 +191,58 @@ unfolding listing listingOf flatten
 empty-exactly instant first second v w =
     let e = same-exactly instant (first .slots) (second .slots) v w in
     (λ h. e .0 (no-text (lines instant (first .slots) (second .slots)) h), λ s. rw (e .1 s))
+
+-- ---- the order of lines
+
+all-members : (p : Line → Bool) (ls : List Line) → ((l : Line) → List·Memᴰ l ls → p l ≡ true) → all p ls ≡ true
+unfolding all
+all-members p [] h = refl
+all-members p (l ∷ ls) h = and-both (h l (List·Memᴰ·head refl)) (all-members p ls (λ m d. h m (List·Memᴰ·tail d)))
+
+module _ (instant : ℕ) (mark : Entry → Option ℕ) where
+  -- later slots have higher numbers
+  above : (i : ℕ) (ss : List Slot) → all (λ m. ltb i (m .slot)) (linesFrom instant mark (suc i) ss) ≡ true
+  above i ss = all-members (λ m. ltb i (m .slot)) (linesFrom instant mark (suc i) ss) (λ l d. lt-ltb i (l .slot) (omega (arith, listed-lists instant mark (suc i) ss l d .number)))
+
+  ascend : (i : ℕ) (ss : List Slot) → ascending (linesFrom instant mark i ss) ≡ true
+  unfolding linesFrom lineOf ascending orElse
+  ascend i [] = refl
+  ascend i (none ∷ ss) = ascend (suc i) ss
+  ascend i (some e ∷ ss) = go (live instant e) (mark e) (ascend (suc i) ss)
+    where
+      go : (t : Bool) (o : Option ℕ) → ascending (linesFrom instant mark (suc i) ss) ≡ true
+          → ascending (cond t (orElse o [] (λ m. line m e i ∷ [])) [] ++ linesFrom instant mark (suc i) ss) ≡ true
+      go true none h = h
+      go true (some m) h = and-both (above i ss) h
+      go false o h = h
+
+pub ordered : (instant : ℕ) (first second : List Slot) → InOrder (lines instant first second)
+unfolding lines hasMark
+ordered instant first second =
+    record {
+      firsts = linesFrom instant (firstMark instant second) 0 first;
+      seconds = linesFrom instant (secondMark instant first) 0 second;
+      parts = refl;
+      none = all-members (λ l. not (hasMark onlySecond l)) (linesFrom instant (firstMark instant second) 0 first) not-second;
+      rest = all-members (hasMark onlySecond) (linesFrom instant (secondMark instant first) 0 second) all-second;
+      ordered = ascend instant (firstMark instant second) 0 first;
+      alsoOrdered = ascend instant (secondMark instant first) 0 second;
+    }
+  where
+    other : (m : ℕ) → (m ≡ onlyFirst) ⊎ (m ≡ different) → not (eqb m onlySecond) ≡ true
+    other m (inl h) = rw h refl
+    other m (inr h) = rw h refl
+
+    which : (m : ℕ) {A B : Type 0} → ((m ≡ onlyFirst) × A) ⊎ ((m ≡ different) × B) → (m ≡ onlyFirst) ⊎ (m ≡ different)
+    which m (inl q) = inl (q .0)
+    which m (inr q) = inr (q .0)
+
+    not-second : (l : Line) → List·Memᴰ l (linesFrom instant (firstMark instant second) 0 first) → not (eqb (l .mark) onlySecond) ≡ true
+    not-second l d =
+        let q = listed-lists instant (firstMark instant second) 0 first l d in
+        other (l .mark) (which (l .mark) (first-says instant (l .entry) second (l .mark) (first-marked instant (l .entry) second) (q .marked)))
+
+    all-second : (l : Line) → List·Memᴰ l (linesFrom instant (secondMark instant first) 0 second) → eqb (l .mark) onlySecond ≡ true
+    all-second l d =
+        let q = listed-lists instant (secondMark instant first) 0 second l d in
+        rw (second-says instant (l .entry) first (l .mark) (second-marked instant (l .entry) first) (q .marked) .0) refl

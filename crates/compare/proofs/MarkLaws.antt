@@ -1,18 +1,16 @@
 -- Marks and the newer of two slots, as the code finds them.
 use mathlib.Core.Path.{_≡_, refl, sym, _∙_}
 use mathlib.Core.Bool.{Bool, true, false, cond, not, _&&_}
-use mathlib.Core.List.{List, []}
+use mathlib.Core.List.{List}
 use mathlib.Core.Option.{Option, none, some, Option·getD}
 use Prim.Native.Nat.{ℕ}
-use lib.Dec.{eqb}
 use borrow.Author.Tests.{eq-eqb, ne-eqb}
 use Rattle.wire.specs.Lists.{every, onlyIf, orElse}
 use Rattle.wire.specs.Bytes.{same}
-use Rattle.store.specs.declared.Expiry.{Expiry}
 use Rattle.store.specs.declared.Found.{Found}
 use Rattle.store.specs.declared.Found.the-variants as founds
 use Rattle.store.specs.Store.{Entry, Slot, decode, wellFormed}
-use Rattle.store.specs.Promises.{Held, entryAt, foundFor}
+use Rattle.store.specs.Promises.{entryAt, foundFor}
 use Rattle.store.proofs.Finding.{named-held}
 use Rattle.compare.specs.declared.Pass.the-variants as passes
 use Rattle.compare.specs.Listing.{liveOf, liveSlotOf, sameExpiry, agree, onlyFirst, onlySecond, different, firstMark, secondMark}

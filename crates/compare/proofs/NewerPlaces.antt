@@ -5,20 +5,17 @@ use mathlib.Core.List.{List}
 use mathlib.Core.Option.{Option, none, some}
 use Prim.Native.Nat.{ℕ, _≤_, _<_}
 use lib.Dec.{leb}
-use lib.ListN.{length}
 use borrow.Author.Tests.{leb-true, leb-false}
 use Rattle.wire.specs.Lists.{orElse}
-use Rattle.wire.specs.Bytes.{part}
 use Rattle.wire.specs.Checks.{firstApplying}
 use Rattle.wire.proofs.Lists.{impossible}
 use Rattle.store.specs.declared.Found.{Found}
 use Rattle.store.specs.declared.Found.the-variants as founds
-use Rattle.store.specs.Store.{Slot, decode, wellFormed}
-use Rattle.store.specs.Promises.{Held, entryAt, foundFor, valueStart}
+use Rattle.store.specs.Store.{Slot, decode}
+use Rattle.store.specs.Promises.{Held, entryAt, foundFor}
 use Rattle.store.proofs.ReadAt.{value-part}
 use Rattle.compare.specs.declared.Which.{Which}
-use Rattle.compare.specs.declared.Which.the-variants.{First, Second, Neither, Refused}
-use Rattle.compare.specs.declared.Place.{Place}
+use Rattle.compare.specs.declared.Which.the-variants.{First, Second, Refused}
 use Rattle.compare.specs.Listing.{liveSlotOf}
 use Rattle.compare.specs.Newer.{newerOf, newerSlot, placeOf, partAt}
 use Rattle.compare.specs.Calls.{checks, newer}

@@ -4,7 +4,6 @@ use mathlib.Core.Bool.{Bool, true, false, cond, not}
 use mathlib.Core.List.{List, [], _∷_, _++_, map, map-append, append-nil}
 use mathlib.Core.Option.{Option, none, some}
 use Prim.Native.Nat.{ℕ, suc}
-use lib.Dec.{eqb}
 use Rattle.wire.specs.Lists.{keep, onlyIf, orElse}
 use Rattle.store.specs.Store.{Entry, Slot}
 use Rattle.store.specs.Time.{live}

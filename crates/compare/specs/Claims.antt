@@ -1,17 +1,18 @@
 -- What the theorems about the two operations say, in words of their own: no search.
 use mathlib.Core.Path.{_≡_}
 use mathlib.Core.Logic.{_⊎_, _↔_}
-use mathlib.Core.Bool.{Bool, true, false, cond}
-use mathlib.Core.List.{List, List·Memᴰ}
+use mathlib.Core.Bool.{Bool, true, false, cond, not, _&&_}
+use mathlib.Core.List.{List, [], _∷_, _++_, List·Memᴰ}
 use mathlib.Core.Option.{none, some}
 use Prim.Native.Nat.{ℕ, _+_, _≤_, _<_}
-use lib.Dec.{eqb}
+use lib.Dec.{ltb, eqb}
 use lib.ListN.{length, getD}
+use Rattle.wire.specs.Lists.{all}
 use Rattle.store.specs.Layout.{timeLimit}
 use Rattle.store.specs.Store.{Entry, Slot, clockOf, wellFormed}
 use Rattle.store.specs.Time.{live}
 use Rattle.compare.specs.declared.Place.{Place}
-use Rattle.compare.specs.Listing.{different, Line, lines}
+use Rattle.compare.specs.Listing.{onlySecond, different, Line, lines}
 
 -- slot i holds an entry that is live at an instant
 pub record LiveAt (instant : ℕ) (ss : List Slot) (i : ℕ) (e : Entry) : Type 0 where
@@ -52,6 +53,21 @@ hasMark m l = eqb (l .mark) m
 
 abbrev pub remarked : ℕ → Line → Line
 remarked m l = line m (l .entry) (l .slot)
+
+-- each line has a lower slot than those after it
+unfoldable pub ascending : List Line → Bool
+ascending [] = true
+ascending (l ∷ ls) = all (λ m. ltb (l .slot) (m .slot)) ls && ascending ls
+
+-- lines of the first store's slots, in order, and then lines of the second's, in order
+pub record InOrder (ls : List Line) : Type 0 where
+  pub firsts : List Line
+  pub seconds : List Line
+  pub parts : ls ≡ firsts ++ seconds
+  pub none : all (λ l. not (hasMark onlySecond l)) firsts ≡ true
+  pub rest : all (hasMark onlySecond) seconds ≡ true
+  pub ordered : ascending firsts ≡ true
+  pub alsoOrdered : ascending seconds ≡ true
 
 -- a key and a field are marked `~`
 pub record MarkedDifferent (instant : ℕ) (first second : List Slot) (k f : List ℕ) : Type 0 where

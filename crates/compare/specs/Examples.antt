@@ -1,5 +1,5 @@
 -- The request's example and cases beside it, as rows of texts. proofs/Examples shows that the definitions give every row.
-use mathlib.Core.List.{List, [], _∷_, _++_}
+use mathlib.Core.List.{List, [], _∷_}
 use mathlib.Core.Option.{none, some, Option·getD}
 use Prim.Native.Nat.{ℕ}
 use Prim.Native.String.{String}

@@ -1,8 +1,8 @@
 // Two stores side by side: a listing of what they differ in, and the newer value of one field. Neither store changes.
-pub mod check;
-pub mod line;
+mod check;
+mod line;
 pub mod listing;
-pub mod live;
+mod live;
 pub mod newer;
 
 // What the listing's call answers: 0 or a refusal, and the listing's length.

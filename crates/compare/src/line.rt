@@ -1,6 +1,5 @@
 // One line of the listing.
 use wire::integers::write_natural;
-ghost use mathlib.Core.List.{_∷_, _++_};
 ghost use Prim.Native.Nat.{_≤_};
 ghost use lib.ListN.{length};
 ghost use Rattle.wire.specs.Promises.{Laid};

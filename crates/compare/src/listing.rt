@@ -13,8 +13,8 @@ ghost use Prim.Native.Nat.{_≤_, _<_};
 ghost use lib.ListN.{length};
 ghost use Rattle.wire.specs.Promises.{Laid};
 ghost use Rattle.store.specs.Store.{decode, wellFormed};
-ghost use Rattle.store.specs.Promises.{Held, entryAt, foundFor};
-ghost use Rattle.compare.specs.Listing.{liveSlotOf, listing};
+ghost use Rattle.store.specs.Promises.{Held, entryAt};
+ghost use Rattle.compare.specs.Listing.{listing};
 ghost use Rattle.compare.specs.Calls.{compare};
 ghost use Rattle.compare.specs.Promises.{HeldIn, firstMarkFor, secondMarkFor, markFor, slotText, passText};
 

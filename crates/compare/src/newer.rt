@@ -6,9 +6,8 @@ use crate::live::live_near;
 use store::Found;
 use store::read;
 ghost use mathlib.Core.Path.{_≡_};
-ghost use mathlib.Core.Bool.{true};
-ghost use Rattle.store.specs.Store.{decode, wellFormed};
-ghost use Rattle.compare.specs.Newer.{newerSlot, placeOf, partAt};
+ghost use Rattle.store.specs.Store.{decode};
+ghost use Rattle.compare.specs.Newer.{placeOf, partAt};
 ghost use Rattle.compare.specs.Calls.{newer};
 ghost use Rattle.compare.specs.Promises.{HeldIn, newerFor};
 

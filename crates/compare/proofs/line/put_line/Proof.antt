@@ -4,7 +4,7 @@ use Rattle.wire.specs.Bytes.{text}
 use Rattle.wire.proofs.ReplyLaying.{laid-length, laid-within, laid-tail, tail-inside, tail-room, mark-inside, mark-room, marked}
 use Rattle.compare.specs.Listing.{spaced}
 use Rattle.compare.specs.Promises as promises
-use Rattle.compare.proofs.LineTexts.{room-all, room-slot, room-field, room-key, newline-inside, line-laid}
+use Rattle.compare.proofs.LineTexts.{room-slot, room-field, room-key, newline-inside, line-laid}
 use borrow.Author.Needs.{needs}
 use Rattle.compare.proofs.line.put_line.Statement.{statement}
 use Rattle.compare.proofs.line.put_line.Tie as tie

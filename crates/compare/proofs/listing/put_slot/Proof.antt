@@ -3,7 +3,6 @@ use borrow.Author.Tests.{not-true, not-false}
 use denote.Ref.{now}
 use Rattle.wire.proofs.ReplyLaying.{laid-none, laid-length}
 use Rattle.compare.proofs.LineTexts.{live-slot, slot-inside, slot-dead, slot-unmarked, slot-marked}
-use borrow.Author.Needs.{needs}
 use Rattle.compare.proofs.listing.put_slot.Statement.{statement}
 use Rattle.compare.proofs.listing.put_slot.Tie as tie
 
