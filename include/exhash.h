@@ -125,7 +125,7 @@ uint32_t exh_store_check(const uint8_t *store, size_t store_len);
 /* What exh_compare answers. */
 typedef struct {
     uint32_t refusal; /* 0, 2, 3 or 11 */
-    size_t written;   /* bytes of listing at the output's start; 0 if the stores do not differ, or on a refusal */
+    size_t written;   /* bytes of listing at the output's start; 0 if no live entries differ, or on a refusal */
 } exh_compared;
 
 /*

@@ -1,5 +1,5 @@
 -- Which refusal is given, and which store has the newer value: exactly when.
-use mathlib.Core.Path.{_≡_, refl, sym, ap, _∙_}
+use mathlib.Core.Path.{_≡_, refl, sym, ap, subst, _∙_}
 use mathlib.Core.Logic.{_⊎_, inl, inr, _↔_}
 use mathlib.Core.Bool.{Bool, true, false, cond, not, _||_}
 use mathlib.Core.List.{List, [], _∷_}
@@ -12,11 +12,12 @@ use borrow.Author.Tests.{ltb-true, ltb-false, leb-true, leb-false, le-leb, lt-le
 use Rattle.wire.specs.Lists.{orElse}
 use Rattle.wire.specs.Bytes.{part}
 use Rattle.wire.specs.Checks.{_when_, firstApplying}
+use Rattle.wire.proofs.ReplyLaying.{take-laid, drop-laid, length-laid}
 use Rattle.wire.proofs.Lists.{both-ways, impossible}
-use Rattle.store.specs.Layout.{timeLimit}
+use Rattle.store.specs.Layout.{keyMost, fieldMost, timeLimit}
 use Rattle.store.specs.declared.Expiry.the-variants.{Never}
 use Rattle.store.specs.Store.{Entry, entry, Slot, clockOf, decode, wellFormed}
-use Rattle.store.specs.Valid.{Apart}
+use Rattle.store.specs.Valid.{Fits, FitsSlot, Apart}
 use Rattle.store.specs.Promises.{entryAt}
 use Rattle.store.proofs.Encode.{decode-valid}
 use Rattle.store.proofs.ReadAt.{value-within}
@@ -24,9 +25,10 @@ use Rattle.compare.specs.declared.Which.{Which}
 use Rattle.compare.specs.declared.Which.the-variants.{First, Second, Neither, Refused}
 use Rattle.compare.specs.Listing.{liveSlotOf, listing}
 use Rattle.compare.specs.Newer.{newerOf, newerSlot, placeOf, partAt}
-use Rattle.compare.specs.Calls.{checks, outputLeast, Answer, refusing, answering, compare, newer}
-use Rattle.compare.specs.Claims.{SameName, Shown, AtMost, Below, NoLive, Newest, Inside, Proper, Refusal}
+use Rattle.compare.specs.Calls.{checks, outputLeast, Answer, refusing, answering, compare, newerIn}
+use Rattle.compare.specs.Claims.{SameName, Outputs, LiveNamed, AtMost, Below, NoLive, Newest, Inside, Proper, Refusal}
 use Rattle.compare.specs.Claims.Refusal.{damagedFirst, damagedSecond, beforeFirst, beforeSecond, tooLate}
+use Rattle.compare.proofs.ListingSize.{listing-short}
 use Rattle.compare.proofs.CallChecks.{listing-checks}
 use Rattle.compare.proofs.ListedLines.{live-once, entry-here, search-some, search-none, search-only}
 use Rattle.compare.proofs.NewerPlaces.{in-first, in-second, first-held, second-held, first-shown, second-shown}
@@ -126,15 +128,15 @@ abbrev called : List ℕ → List ℕ → Entry
 called k f = entry k f [] 0 Never
 
 module _ (instant : ℕ) (k f : List ℕ) (ss : List Slot) where
-  search-shown : (j : ℕ) → liveSlotOf instant k f ss ≡ some j → Shown instant k f ss j (entryAt ss j)
+  search-shown : (j : ℕ) → liveSlotOf instant k f ss ≡ some j → LiveNamed instant k f ss j (entryAt ss j)
   search-shown j h =
       let q = search-some instant (called k f) ss j h in
       rw (q .3) (record { at = q .1; key = sym (q .2 .key); field = sym (q .2 .field) })
 
-  shown-search : Apart ss → (i : ℕ) (e : Entry) → Shown instant k f ss i e → liveSlotOf instant k f ss ≡ some i
+  shown-search : Apart ss → (i : ℕ) (e : Entry) → LiveNamed instant k f ss i e → liveSlotOf instant k f ss ≡ some i
   shown-search a i e s = search-only instant (called k f) ss a e (record { slot = i; at = s .at }) (record { key = sym (s .key); field = sym (s .field) })
 
-  shown-entry : (i : ℕ) (e : Entry) → Shown instant k f ss i e → entryAt ss i ≡ e
+  shown-entry : (i : ℕ) (e : Entry) → LiveNamed instant k f ss i e → entryAt ss i ≡ e
   shown-entry i e s = entry-here ss i e (s .at .here)
 
   search-no-live : liveSlotOf instant k f ss ≡ none → NoLive instant k f ss
@@ -156,13 +158,13 @@ module _ (first second k f : List ℕ) (instant : ℕ) where
   also-apart : wellFormed second ≡ true → Apart (decode second .slots)
   also-apart w = decode-valid second w .apart
 
-  pub first-exactly : (i : ℕ) → (newer first second k f instant ≡ First i)
-      ↔ (Proper first second instant × ((e : Entry) × Shown instant k f (decode first .slots) i e × AtMost instant k f (decode second .slots) (e .version)))
-  unfolding newer newerSlot newerOf orElse
+  pub first-exactly : (i : ℕ) → (newerIn first second k f instant ≡ First i)
+      ↔ (Proper first second instant × ((e : Entry) × LiveNamed instant k f (decode first .slots) i e × AtMost instant k f (decode second .slots) (e .version)))
+  unfolding newerIn newerSlot newerOf orElse
   first-exactly i = (there, back)
     where
-      there : newer first second k f instant ≡ First i
-          → Proper first second instant × ((e : Entry) × Shown instant k f (decode first .slots) i e × AtMost instant k f (decode second .slots) (e .version))
+      there : newerIn first second k f instant ≡ First i
+          → Proper first second instant × ((e : Entry) × LiveNamed instant k f (decode first .slots) i e × AtMost instant k f (decode second .slots) (e .version))
       there h =
           let p = in-first first second k f instant i h in (
             checks-pass first second instant .0 (p .passed .clear),
@@ -175,8 +177,8 @@ module _ (first second k f : List ℕ) (instant : ℕ) where
             ),
           )
 
-      back : Proper first second instant × ((e : Entry) × Shown instant k f (decode first .slots) i e × AtMost instant k f (decode second .slots) (e .version))
-          → newer first second k f instant ≡ First i
+      back : Proper first second instant × ((e : Entry) × LiveNamed instant k f (decode first .slots) i e × AtMost instant k f (decode second .slots) (e .version))
+          → newerIn first second k f instant ≡ First i
       back q =
           rw (checks-pass first second instant .1 (q .0), shown-search instant k f (decode first .slots) (apart (q .0 .well)) i (q .1 .0) (q .1 .1))
           (go (liveSlotOf instant k f (decode second .slots)) refl)
@@ -189,13 +191,13 @@ module _ (first second k f : List ℕ) (instant : ℕ) where
                 le-leb (entryAt (decode second .slots) j .version) (q .1 .0 .version) (q .1 .2 j (entryAt (decode second .slots) j) (search-shown instant k f (decode second .slots) j r)),
               )
 
-  pub second-exactly : (j : ℕ) → (newer first second k f instant ≡ Second j)
-      ↔ (Proper first second instant × ((e : Entry) × Shown instant k f (decode second .slots) j e × Below instant k f (decode first .slots) (e .version)))
-  unfolding newer newerSlot newerOf orElse
+  pub second-exactly : (j : ℕ) → (newerIn first second k f instant ≡ Second j)
+      ↔ (Proper first second instant × ((e : Entry) × LiveNamed instant k f (decode second .slots) j e × Below instant k f (decode first .slots) (e .version)))
+  unfolding newerIn newerSlot newerOf orElse
   second-exactly j = (there, back)
     where
-      there : newer first second k f instant ≡ Second j
-          → Proper first second instant × ((e : Entry) × Shown instant k f (decode second .slots) j e × Below instant k f (decode first .slots) (e .version))
+      there : newerIn first second k f instant ≡ Second j
+          → Proper first second instant × ((e : Entry) × LiveNamed instant k f (decode second .slots) j e × Below instant k f (decode first .slots) (e .version))
       there h =
           let p = in-second first second k f instant j h in (
             checks-pass first second instant .0 (p .passed .clear),
@@ -208,8 +210,8 @@ module _ (first second k f : List ℕ) (instant : ℕ) where
             ),
           )
 
-      back : Proper first second instant × ((e : Entry) × Shown instant k f (decode second .slots) j e × Below instant k f (decode first .slots) (e .version))
-          → newer first second k f instant ≡ Second j
+      back : Proper first second instant × ((e : Entry) × LiveNamed instant k f (decode second .slots) j e × Below instant k f (decode first .slots) (e .version))
+          → newerIn first second k f instant ≡ Second j
       back q =
           rw (checks-pass first second instant .1 (q .0), shown-search instant k f (decode second .slots) (also-apart (q .0 .alsoWell)) j (q .1 .0) (q .1 .1))
           (go (liveSlotOf instant k f (decode first .slots)) refl)
@@ -222,9 +224,9 @@ module _ (first second k f : List ℕ) (instant : ℕ) where
                 lt-leb (q .1 .0 .version) (entryAt (decode first .slots) i .version) (q .1 .2 i (entryAt (decode first .slots) i) (search-shown instant k f (decode first .slots) i r)),
               )
 
-  pub neither-exactly : (newer first second k f instant ≡ Neither)
+  pub neither-exactly : (newerIn first second k f instant ≡ Neither)
       ↔ (Proper first second instant × NoLive instant k f (decode first .slots) × NoLive instant k f (decode second .slots))
-  unfolding newer newerSlot newerOf orElse
+  unfolding newerIn newerSlot newerOf orElse
   neither-exactly = (λ h. there (firstApplying (checks first second instant)) refl h, back)
     where
       none-of : (o p : Option ℕ) → newerOf (decode first .slots) (decode second .slots) o p ≡ Neither → (o ≡ none) × (p ≡ none)
@@ -244,11 +246,11 @@ module _ (first second k f : List ℕ) (instant : ℕ) where
           (checks-pass first second instant .0 e, search-no-live instant k f (decode first .slots) (q .0), search-no-live instant k f (decode second .slots) (q .1))
       there (some n) e h = impossible cc
 
-      back : Proper first second instant × NoLive instant k f (decode first .slots) × NoLive instant k f (decode second .slots) → newer first second k f instant ≡ Neither
+      back : Proper first second instant × NoLive instant k f (decode first .slots) × NoLive instant k f (decode second .slots) → newerIn first second k f instant ≡ Neither
       back q = rw (checks-pass first second instant .1 (q .0), no-live-search instant k f (decode first .slots) (q .1), no-live-search instant k f (decode second .slots) (q .2))
 
-  pub refused-exactly : (n : ℕ) → (newer first second k f instant ≡ Refused n) ↔ Refusal first second instant n
-  unfolding newer newerSlot newerOf orElse
+  pub refused-exactly : (n : ℕ) → (newerIn first second k f instant ≡ Refused n) ↔ Refusal first second instant n
+  unfolding newerIn newerSlot newerOf orElse
   refused-exactly n = (λ h. checks-refuse first second instant n .0 (there (firstApplying (checks first second instant)) refl h), λ r. rw (checks-refuse first second instant n .1 r))
     where
       found : (o p : Option ℕ) → newerOf (decode first .slots) (decode second .slots) o p ≡ Refused n → ⊥
@@ -276,17 +278,17 @@ unfolding placeOf
 no-store-refused first second n = refl
 
 module _ (first second k f : List ℕ) (instant : ℕ) where
-  shown-value : (b : List ℕ) (i : ℕ) (e : Entry) → Shown instant k f (decode b .slots) i e → entryAt (decode b .slots) i .value ≡ e .value
+  shown-value : (b : List ℕ) (i : ℕ) (e : Entry) → LiveNamed instant k f (decode b .slots) i e → entryAt (decode b .slots) i .value ≡ e .value
   shown-value b i e s = rw (shown-entry instant k f (decode b .slots) i e s)
 
   -- all live entries of a key and a field in one store are one
-  once : {ss : List Slot} → Apart ss → {i : ℕ} {e : Entry} → Shown instant k f ss i e → AtMost instant k f ss (e .version)
+  once : {ss : List Slot} → Apart ss → {i : ℕ} {e : Entry} → LiveNamed instant k f ss i e → AtMost instant k f ss (e .version)
   once {ss} a {i} {e} s j g t =
       let n : SameName g e = record { key = t .key ∙ sym (s .key); field = t .field ∙ sym (s .field) } in
       let z : g ≡ e = live-once instant ss a g e (record { slot = j; at = t .at }) (record { slot = i; at = s .at }) n in
       rw z (omega arith)
 
-  newest-first : (i : ℕ) → newer first second k f instant ≡ First i
+  newest-first : (i : ℕ) → newerIn first second k f instant ≡ First i
       → Newest instant k f (decode first .slots) (decode second .slots) (partAt first second (placeOf first second (First i)))
   newest-first i e =
       let q = first-exactly first second k f instant i .0 e in
@@ -299,7 +301,7 @@ module _ (first second k f : List ℕ) (instant : ℕ) where
         alsoMost = q .1 .2;
       }
 
-  newest-second : (j : ℕ) → newer first second k f instant ≡ Second j
+  newest-second : (j : ℕ) → newerIn first second k f instant ≡ Second j
       → Newest instant k f (decode first .slots) (decode second .slots) (partAt first second (placeOf first second (Second j)))
   newest-second j e =
       let q = second-exactly first second k f instant j .0 e in
@@ -312,11 +314,11 @@ module _ (first second k f : List ℕ) (instant : ℕ) where
         alsoMost = once (decode-valid second (q .0 .alsoWell) .apart) (q .1 .1);
       }
 
-  pub newest : (placeOf first second (newer first second k f instant) .which ≡ 0 → ⊥)
-      → Newest instant k f (decode first .slots) (decode second .slots) (partAt first second (placeOf first second (newer first second k f instant)))
-  newest h = go (newer first second k f instant) refl h
+  pub newest : (placeOf first second (newerIn first second k f instant) .which ≡ 0 → ⊥)
+      → Newest instant k f (decode first .slots) (decode second .slots) (partAt first second (placeOf first second (newerIn first second k f instant)))
+  newest h = go (newerIn first second k f instant) refl h
     where
-      go : (w : Which) → newer first second k f instant ≡ w → (placeOf first second w .which ≡ 0 → ⊥)
+      go : (w : Which) → newerIn first second k f instant ≡ w → (placeOf first second w .which ≡ 0 → ⊥)
           → Newest instant k f (decode first .slots) (decode second .slots) (partAt first second (placeOf first second w))
       go (First i) e d = newest-first i e
       go (Second j) e d = newest-second j e
@@ -324,9 +326,9 @@ module _ (first second k f : List ℕ) (instant : ℕ) where
       go (Refused n) e d = absurd (d (no-store-refused first second n))
 
   -- where no store is named, nothing is shown
-  pub none-shown : placeOf first second (newer first second k f instant) .which ≡ 0 → partAt first second (placeOf first second (newer first second k f instant)) ≡ []
+  pub none-shown : placeOf first second (newerIn first second k f instant) .which ≡ 0 → partAt first second (placeOf first second (newerIn first second k f instant)) ≡ []
   unfolding placeOf partAt part
-  none-shown h = go (newer first second k f instant) h
+  none-shown h = go (newerIn first second k f instant) h
     where
       go : (w : Which) → placeOf first second w .which ≡ 0 → partAt first second (placeOf first second w) ≡ []
       go (First i) e = absurd (omega (arith, e))
@@ -335,11 +337,11 @@ module _ (first second k f : List ℕ) (instant : ℕ) where
       go (Refused n) e = refl
 
   -- the place lies in its store's bytes
-  pub place-inside : Inside first second (placeOf first second (newer first second k f instant))
+  pub place-inside : Inside first second (placeOf first second (newerIn first second k f instant))
   unfolding placeOf
-  place-inside = go (newer first second k f instant) refl
+  place-inside = go (newerIn first second k f instant) refl
     where
-      go : (w : Which) → newer first second k f instant ≡ w → Inside first second (placeOf first second w)
+      go : (w : Which) → newerIn first second k f instant ≡ w → Inside first second (placeOf first second w)
       go (First i) e = value-within (first-held first second k f instant i e)
       go (Second j) e = value-within (second-held first second k f instant j e)
       go Neither e = omega arith
@@ -409,3 +411,43 @@ module _ (first second : List ℕ) (instant : ℕ) (out : List ℕ) where
       go (refused r) = absurd (refusal-proper first second instant r p)
       go (short q m) = absurd (omega (arith, l, m))
       go (listed q m) = refl
+
+  pub call-writes : Proper first second instant → outputLeast ≤ length out
+      → Outputs (listing instant (decode first) (decode second)) out (compare first second instant out .output) (compare first second instant out .compared .written)
+  call-writes p l =
+      let short = listing-short instant (decode first) (decode second) (decode-valid first (p .well)) (decode-valid second (p .alsoWell)) in
+      rw (call-listed p l)
+      (record {
+        counted = refl;
+        starts = take-laid (listing instant (decode first) (decode second)) out;
+        beyond = drop-laid (listing instant (decode first) (decode second)) out;
+        size = length-laid (listing instant (decode first) (decode second)) out (omega (arith, short, l));
+      })
+
+-- ---- a name that no slot has room for
+
+long-named : (b k f : List ℕ) (instant : ℕ) → wellFormed b ≡ true → (keyMost < length k) ⊎ (fieldMost < length f) → NoLive instant k f (decode b .slots)
+long-named b k f instant w long i e s = go long (subst FitsSlot (s .at .here) (decode-valid b w .fits i))
+  where
+    go : (keyMost < length k) ⊎ (fieldMost < length f) → Fits e → ⊥
+    go (inl h) q = omega (arith, h, q .short .key, ap length (s .key))
+    go (inr h) q = omega (arith, h, q .short .field, ap length (s .field))
+
+pub long-neither : (first second k f : List ℕ) (instant : ℕ) → Proper first second instant → (keyMost < length k) ⊎ (fieldMost < length f)
+    → newerIn first second k f instant ≡ Neither
+long-neither first second k f instant p long =
+    neither-exactly first second k f instant .1 (p, long-named first k f instant (p .well) long, long-named second k f instant (p .alsoWell) long)
+
+-- ---- the place's number
+
+pub place-refused-exactly : (first second k f : List ℕ) (instant n : ℕ) → (n ≡ 0 → ⊥)
+    → (placeOf first second (newerIn first second k f instant) .refusal ≡ n) ↔ Refusal first second instant n
+unfolding placeOf
+place-refused-exactly first second k f instant n d =
+    (λ h. go (newerIn first second k f instant) refl h, λ r. rw (refused-exactly first second k f instant n .1 r))
+  where
+    go : (w : Which) → newerIn first second k f instant ≡ w → placeOf first second w .refusal ≡ n → Refusal first second instant n
+    go (First i) e h = absurd (d (sym h))
+    go (Second j) e h = absurd (d (sym h))
+    go Neither e h = absurd (d (sym h))
+    go (Refused m) e h = refused-exactly first second k f instant n .0 (rw (← h) e)

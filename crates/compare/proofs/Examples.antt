@@ -1,7 +1,7 @@
 -- The definitions give every row of the request's example and the cases beside it.
 use mathlib.Core.Path.{_≡_, refl}
 use mathlib.Core.List.{map}
-use Rattle.compare.specs.Examples.{listingGiven, listingExpected, listingRows, newerGiven, newerExpected, newerRows, refusalGiven, refusalExpected, refusalRows}
+use Rattle.compare.specs.Examples.{listingGiven, listingExpected, listingRows, newerGiven, newerExpected, newerRows, callGiven, callExpected, callRows}
 use Rattle.compare.proofs.Computing.{computing}
 
 -- listings
@@ -14,7 +14,7 @@ pub newer-rows : map newerGiven newerRows ≡ map newerExpected newerRows
 unfolding computing
 newer-rows = refl
 
--- the order of the listing's refusals
-pub refusal-rows : map refusalGiven refusalRows ≡ map refusalExpected refusalRows
+-- the listing's call, its refusals too
+pub call-rows : map callGiven callRows ≡ map callExpected callRows
 unfolding computing
-refusal-rows = refl
+call-rows = refl

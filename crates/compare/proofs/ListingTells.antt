@@ -7,14 +7,18 @@ use mathlib.Core.Option.{Option, none, some}
 use Prim.Native.Nat.{ℕ, suc, _+_}
 use native.Mathlib.Omega.{arith}
 use lib.Dec.{ltb, eqb}
+use lib.ListN.{length}
 use borrow.Author.Tests.{lt-ltb}
 use Rattle.wire.specs.Lists.{all, orElse}
+use Rattle.wire.specs.Bytes.{text}
+use Rattle.wire.specs.Integers.{naturalText}
+use Rattle.wire.proofs.IntegerDigits.{text-natural, value-text}
 use Rattle.wire.proofs.Lists.{and-both, impossible}
 use Rattle.store.specs.Store.{Entry, Slot, Store}
 use Rattle.store.specs.Time.{live}
 use Rattle.store.specs.Valid.{Apart}
-use Rattle.compare.specs.Listing.{onlyFirst, onlySecond, different, firstMark, secondMark, Line, lineOf, linesFrom, lines, lineText, listingOf, listing}
-use Rattle.compare.specs.Claims.{LiveAt, LiveIn, SameLive, SameName, Missing, Changed, line, hasMark, ascending, InOrder, MarkedDifferent}
+use Rattle.compare.specs.Listing.{onlyFirst, onlySecond, different, firstMark, secondMark, Line, lineOf, linesFrom, lines, spaced, lineText, listingOf, listing}
+use Rattle.compare.specs.Claims.{LiveAt, LiveIn, SameLive, SameName, Missing, Changed, line, hasMark, ascending, InOrder, Spelled, Written, MarkedDifferent}
 use Rattle.compare.proofs.ListedLines.{live-once, Lists, listed-lists, lists-listed, FirstMarked, first-marked, SecondMarked, second-marked, missing-first, missing-second, changed-first}
 use Rattle.compare.proofs.ListedLines.FirstMarked.{alone, changed, alike}
 use Rattle.compare.proofs.ListedLines.SecondMarked.{unmatched, matched}
@@ -246,3 +250,26 @@ ordered instant first second =
     all-second l d =
         let q = listed-lists instant (secondMark instant first) 0 second l d in
         rw (second-says instant (l .entry) first (l .mark) (second-marked instant (l .entry) first) (q .marked) .0) refl
+
+-- ---- the text
+
+spelled : (l : Line) → Spelled l (lineText l)
+unfolding lineText spaced text
+spelled l =
+    record {
+      key = naturalText (length (l .entry .key));
+      field = naturalText (length (l .entry .field));
+      slot = naturalText (l .slot);
+      whole = refl;
+      keyPlain = text-natural (length (l .entry .key));
+      keyLength = value-text (length (l .entry .key));
+      fieldPlain = text-natural (length (l .entry .field));
+      fieldLength = value-text (length (l .entry .field));
+      slotPlain = text-natural (l .slot);
+      slotNumber = value-text (l .slot);
+    }
+
+pub written : (ls : List Line) → Written ls (listingOf ls)
+unfolding listingOf flatten
+written [] = Written.nothing
+written (l ∷ ls) = Written.next (spelled l) (written ls)

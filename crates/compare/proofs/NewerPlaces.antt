@@ -18,7 +18,7 @@ use Rattle.compare.specs.declared.Which.{Which}
 use Rattle.compare.specs.declared.Which.the-variants.{First, Second, Refused}
 use Rattle.compare.specs.Listing.{liveSlotOf}
 use Rattle.compare.specs.Newer.{newerOf, newerSlot, placeOf, partAt}
-use Rattle.compare.specs.Calls.{checks, newer}
+use Rattle.compare.specs.Calls.{checks, newerIn}
 use Rattle.compare.specs.Promises.{slotIn, newerFor}
 use Rattle.compare.proofs.MarkLaws.{live-held}
 use Rattle.compare.proofs.CallChecks.{Passed, passed}
@@ -31,14 +31,14 @@ slot-found none = refl
 slot-found (some i) = refl
 
 module _ (first second k f : List ℕ) (instant : ℕ) where
-  pub newer-refused : {n : ℕ} → firstApplying (checks first second instant) ≡ some n → Refused n ≡ newer first second k f instant
-  unfolding newer orElse
+  pub newer-refused : {n : ℕ} → firstApplying (checks first second instant) ≡ some n → Refused n ≡ newerIn first second k f instant
+  unfolding newerIn orElse
   newer-refused h = rw h
 
   pub newer-found : {left right : Found} {r : Which} → Passed first second instant
       → left ≡ foundFor (liveSlotOf instant k f (decode first .slots)) → right ≡ foundFor (liveSlotOf instant k f (decode second .slots))
-      → r ≡ newerFor (decode first .slots) (decode second .slots) left right → r ≡ newer first second k f instant
-  unfolding newer orElse newerSlot newerFor
+      → r ≡ newerFor (decode first .slots) (decode second .slots) left right → r ≡ newerIn first second k f instant
+  unfolding newerIn orElse newerSlot newerFor
   newer-found p l m h =
       h ∙ rw (p .clear, l, m, slot-found (liveSlotOf instant k f (decode first .slots)), slot-found (liveSlotOf instant k f (decode second .slots)))
 
@@ -87,8 +87,8 @@ module _ (a b : List Slot) where
           (ap some e, λ i s. let z : m ≡ i = cc in rw (← e, ← z) (leb-false (entryAt b n .version) (entryAt a m .version) q))
 
 module _ (first second k f : List ℕ) (instant : ℕ) where
-  pub in-first : (i : ℕ) → newer first second k f instant ≡ First i → InFirst first second k f instant i
-  unfolding newer newerSlot orElse
+  pub in-first : (i : ℕ) → newerIn first second k f instant ≡ First i → InFirst first second k f instant i
+  unfolding newerIn newerSlot orElse
   in-first i h = go (firstApplying (checks first second instant)) refl h
     where
       go : (o : Option ℕ) → firstApplying (checks first second instant) ≡ o
@@ -99,8 +99,8 @@ module _ (first second k f : List ℕ) (instant : ℕ) where
           record { passed = passed first second instant e; live = z .0; most = z .1 }
       go (some n) e q = impossible cc
 
-  pub in-second : (j : ℕ) → newer first second k f instant ≡ Second j → InSecond first second k f instant j
-  unfolding newer newerSlot orElse
+  pub in-second : (j : ℕ) → newerIn first second k f instant ≡ Second j → InSecond first second k f instant j
+  unfolding newerIn newerSlot orElse
   in-second j h = go (firstApplying (checks first second instant)) refl h
     where
       go : (o : Option ℕ) → firstApplying (checks first second instant) ≡ o
@@ -111,13 +111,13 @@ module _ (first second k f : List ℕ) (instant : ℕ) where
           record { passed = passed first second instant e; live = z .0; most = z .1 }
       go (some n) e q = impossible cc
 
-  pub first-held : (i : ℕ) → newer first second k f instant ≡ First i → Held first i
+  pub first-held : (i : ℕ) → newerIn first second k f instant ≡ First i → Held first i
   unfolding foundFor
   first-held i h =
       let p = in-first i h in
       live-held first k f instant {found = founds.At i} (p .passed .well) (rw (p .live)) i refl
 
-  pub second-held : (j : ℕ) → newer first second k f instant ≡ Second j → Held second j
+  pub second-held : (j : ℕ) → newerIn first second k f instant ≡ Second j → Held second j
   unfolding foundFor
   second-held j h =
       let p = in-second j h in
@@ -126,12 +126,12 @@ module _ (first second k f : List ℕ) (instant : ℕ) where
   -- ---- the part that is shown
 
   module _ {v : List ℕ} where
-    pub first-shown : (i : ℕ) → newer first second k f instant ≡ First i → v ≡ entryAt (decode first .slots) i .value
-        → v ≡ partAt first second (placeOf first second (newer first second k f instant))
+    pub first-shown : (i : ℕ) → newerIn first second k f instant ≡ First i → v ≡ entryAt (decode first .slots) i .value
+        → v ≡ partAt first second (placeOf first second (newerIn first second k f instant))
     unfolding partAt placeOf
     first-shown i h e = e ∙ rw h (sym (value-part (first-held i h)))
 
-    pub second-shown : (j : ℕ) → newer first second k f instant ≡ Second j → v ≡ entryAt (decode second .slots) j .value
-        → v ≡ partAt first second (placeOf first second (newer first second k f instant))
+    pub second-shown : (j : ℕ) → newerIn first second k f instant ≡ Second j → v ≡ entryAt (decode second .slots) j .value
+        → v ≡ partAt first second (placeOf first second (newerIn first second k f instant))
     unfolding partAt placeOf
     second-shown j h e = e ∙ rw h (sym (value-part (second-held j h)))

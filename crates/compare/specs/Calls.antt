@@ -50,8 +50,8 @@ compare first second instant out =
     (λ n. refusing n out)
 
 -- where the newer value of a key and a field is
-unfoldable pub newer : List ℕ → List ℕ → List ℕ → List ℕ → ℕ → Which
-newer first second k f instant =
+unfoldable pub newerIn : List ℕ → List ℕ → List ℕ → List ℕ → ℕ → Which
+newerIn first second k f instant =
     orElse (firstApplying (checks first second instant))
     (newerSlot instant k f (decode first .slots) (decode second .slots))
     Refused

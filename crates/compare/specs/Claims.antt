@@ -6,8 +6,9 @@ use mathlib.Core.List.{List, [], _∷_, _++_, List·Memᴰ}
 use mathlib.Core.Option.{none, some}
 use Prim.Native.Nat.{ℕ, _+_, _≤_, _<_}
 use lib.Dec.{ltb, eqb}
-use lib.ListN.{length, getD}
+use lib.ListN.{length, take, drop, getD}
 use Rattle.wire.specs.Lists.{all}
+use Rattle.wire.specs.Integers.{value, isNatural}
 use Rattle.store.specs.Layout.{timeLimit}
 use Rattle.store.specs.Store.{Entry, Slot, clockOf, wellFormed}
 use Rattle.store.specs.Time.{live}
@@ -69,6 +70,31 @@ pub record InOrder (ls : List Line) : Type 0 where
   pub ordered : ascending firsts ≡ true
   pub alsoOrdered : ascending seconds ≡ true
 
+-- a text is a line: its mark, and three numbers with a space before each, then a newline; the numbers are plain and mean the two lengths and the slot
+pub record Spelled (l : Line) (t : List ℕ) : Type 0 where
+  pub key : List ℕ
+  pub field : List ℕ
+  pub slot : List ℕ
+  pub whole : t ≡ l .mark ∷ 32 ∷ (key ++ (32 ∷ (field ++ (32 ∷ (slot ++ (10 ∷ []))))))
+  pub keyPlain : isNatural key ≡ true
+  pub keyLength : value key ≡ length (l .entry .key)
+  pub fieldPlain : isNatural field ≡ true
+  pub fieldLength : value field ≡ length (l .entry .field)
+  pub slotPlain : isNatural slot ≡ true
+  pub slotNumber : value slot ≡ l .slot
+
+-- a text is lines, one after the other
+pub data Written : List Line → List ℕ → Type 0 where
+  nothing : Written [] []
+  next : {l : Line} {ls : List Line} {t u : List ℕ} → Spelled l t → Written ls u → Written (l ∷ ls) (t ++ u)
+
+-- a text stands at the start of an output, as many bytes as are counted; the bytes beyond are as they were
+pub record Outputs (shown before after : List ℕ) (count : ℕ) : Type 0 where
+  pub counted : count ≡ length shown
+  pub starts : take (length shown) after ≡ shown
+  pub beyond : drop (length shown) after ≡ drop (length shown) before
+  pub size : length after ≡ length before
+
 -- a key and a field are marked `~`
 pub record MarkedDifferent (instant : ℕ) (first second : List Slot) (k f : List ℕ) : Type 0 where
   pub entry : Entry
@@ -78,31 +104,31 @@ pub record MarkedDifferent (instant : ℕ) (first second : List Slot) (k f : Lis
   pub field : entry .field ≡ f
 
 -- slot i of a store holds a live entry of a key and a field
-pub record Shown (instant : ℕ) (k f : List ℕ) (ss : List Slot) (i : ℕ) (e : Entry) : Type 0 where
+pub record LiveNamed (instant : ℕ) (k f : List ℕ) (ss : List Slot) (i : ℕ) (e : Entry) : Type 0 where
   pub at : LiveAt instant ss i e
   pub key : e .key ≡ k
   pub field : e .field ≡ f
 
 -- every live entry of a key and a field has a version of at most n, one below n, or there is none
 abbrev pub AtMost : ℕ → List ℕ → List ℕ → List Slot → ℕ → Type 0
-AtMost instant k f ss n = (i : ℕ) (e : Entry) → Shown instant k f ss i e → e .version ≤ n
+AtMost instant k f ss n = (i : ℕ) (e : Entry) → LiveNamed instant k f ss i e → e .version ≤ n
 
 abbrev pub Below : ℕ → List ℕ → List ℕ → List Slot → ℕ → Type 0
-Below instant k f ss n = (i : ℕ) (e : Entry) → Shown instant k f ss i e → e .version < n
+Below instant k f ss n = (i : ℕ) (e : Entry) → LiveNamed instant k f ss i e → e .version < n
 
 abbrev pub NoLive : ℕ → List ℕ → List ℕ → List Slot → Type 0
-NoLive instant k f ss = (i : ℕ) (e : Entry) → Shown instant k f ss i e → ⊥
+NoLive instant k f ss = (i : ℕ) (e : Entry) → LiveNamed instant k f ss i e → ⊥
 
 -- a value is that of a live entry of a key and a field in one of two stores, and in neither has a live one a higher version
 pub record Newest (instant : ℕ) (k f : List ℕ) (first second : List Slot) (v : List ℕ) : Type 0 where
   pub entry : Entry
   pub slot : ℕ
-  pub shown : Shown instant k f first slot entry ⊎ Shown instant k f second slot entry
+  pub shown : LiveNamed instant k f first slot entry ⊎ LiveNamed instant k f second slot entry
   pub value : v ≡ entry .value
   pub most : AtMost instant k f first (entry .version)
   pub alsoMost : AtMost instant k f second (entry .version)
 
--- a place lies in the bytes of the store that it names; where it names none it is empty
+-- a place lies in the bytes of the second store where it names that one, else in those of the first
 abbrev pub Inside : List ℕ → List ℕ → Place → Type 0
 Inside first second p = p .start + p .size ≤ length (cond (eqb (p .which) 2) second first)
 

@@ -8,7 +8,7 @@ use store::read;
 ghost use mathlib.Core.Path.{_≡_};
 ghost use Rattle.store.specs.Store.{decode};
 ghost use Rattle.compare.specs.Newer.{placeOf, partAt};
-ghost use Rattle.compare.specs.Calls.{newer};
+ghost use Rattle.compare.specs.Calls.{newerIn};
 ghost use Rattle.compare.specs.Promises.{HeldIn, newerFor};
 
 // Which of two slots has the newer value, where key and field were looked for in both stores.
@@ -34,7 +34,7 @@ fn newer_of(first: &[u8], left: Found, second: &[u8], right: Found) -> Which
 // Which store has the newer value of a key and a field.
 pub fn newer_in(first: &[u8], second: &[u8], key: &[u8], field: &[u8], instant: u64) -> Which
     ensures { λ r.
-        ⌜ r ≡ newer (now (first .entry)) (now (second .entry)) (now (key .entry)) (now (field .entry)) instant ⌝ }
+        ⌜ r ≡ newerIn (now (first .entry)) (now (second .entry)) (now (key .entry)) (now (field .entry)) instant ⌝ }
 {
     let number = refusal(first, second, instant);
     if number != 0 {
@@ -45,10 +45,10 @@ pub fn newer_in(first: &[u8], second: &[u8], key: &[u8], field: &[u8], instant: 
     newer_of(first, left, second, right)
 }
 
-// Its place.
+// Where the newer value stands, in numbers.
 pub fn newer_place(first: &[u8], second: &[u8], key: &[u8], field: &[u8], instant: u64) -> Place
     ensures { λ r.
-        let which = newer (now (first .entry)) (now (second .entry)) (now (key .entry)) (now (field .entry)) instant in
+        let which = newerIn (now (first .entry)) (now (second .entry)) (now (key .entry)) (now (field .entry)) instant in
         ⌜ r ≡ placeOf (now (first .entry)) (now (second .entry)) which ⌝ }
 {
     let found = newer_in(first, second, key, field, instant);
@@ -89,7 +89,7 @@ pub fn newer<'a>(
     instant: u64,
 ) -> &'a [u8]
     ensures { λ r.
-        let which = newer (now (first .entry)) (now (second .entry)) (now (key .entry)) (now (field .entry)) instant in
+        let which = newerIn (now (first .entry)) (now (second .entry)) (now (key .entry)) (now (field .entry)) instant in
         ⌜ now r ≡ partAt (now (first .entry)) (now (second .entry)) (placeOf (now (first .entry)) (now (second .entry)) which) ⌝ }
 {
     let found = newer_in(first, second, key, field, instant);

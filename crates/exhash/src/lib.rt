@@ -8,7 +8,7 @@ ghost use mathlib.Core.Path.{_≡_};
 ghost use mathlib.Core.Bool.{cond};
 ghost use Rattle.store.specs.Store.{wellFormed};
 ghost use Rattle.compare.specs.Newer.{placeOf};
-ghost use Rattle.compare.specs.Calls.{compare, newer};
+ghost use Rattle.compare.specs.Calls.{compare, newerIn};
 ghost use Rattle.feeder.specs.State.{fresh};
 ghost use Rattle.feeder.specs.Feed.{feed};
 
@@ -75,7 +75,7 @@ pub extern "C" fn exh_newer(
     instant: u64,
 ) -> Place
     ensures { λ r.
-        let which = newer (now (first .entry)) (now (second .entry)) (now (key .entry)) (now (field .entry)) instant in
+        let which = newerIn (now (first .entry)) (now (second .entry)) (now (key .entry)) (now (field .entry)) instant in
         ⌜ r ≡ placeOf (now (first .entry)) (now (second .entry)) which ⌝ }
 {
     compare::newer::newer_place(first, second, key, field, instant)
