@@ -65,6 +65,16 @@ module _ (m k f s : ℕ) (d : List ℕ) (room : length (marked m k f s) ≤ leng
   pub room-key : length (m ∷ spaced k) ≤ length d
   room-key = front-room (m ∷ spaced k) (spaced f) room-field
 
+  pub mark-space : 1 ≤ length (set d 0 m)
+  mark-space = rw length-set (omega (arith, room-key))
+
+  pub key-space : length (spaced k) ≤ length (take (length (set d 0 m) - 1) (drop 1 (set d 0 m)))
+  key-space = omega (arith, room-key, length-tail m d (omega (arith, room-key)))
+
+  pub key-laid : {e : List ℕ} {r : ℕ} → Laid (spaced k) (take (length (set d 0 m) - 1) (drop 1 (set d 0 m))) e r
+      → Laid (m ∷ spaced k) d (putMid 1 (length (set d 0 m) - 1) (set d 0 m) e) (r + 1)
+  key-laid l = laid-first m (omega (arith, room-key)) l
+
   module _ {e : List ℕ} {r : ℕ} (l : Laid (((m ∷ spaced k) ++ spaced f) ++ spaced s) d e r) where
     pub newline-inside : r < length e
     newline-inside = omega (arith, l .size, laid-length l room-slot, room-all, length-append (((m ∷ spaced k) ++ spaced f) ++ spaced s) (10 ∷ []))

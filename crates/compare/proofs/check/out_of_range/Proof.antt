@@ -15,13 +15,15 @@ returns c =
 returns-2 : tie.Need-returns-2
 unfolding decode
 returns-2 c =
-    let start = c .before .before .before .before .before .before in
+    let back5 = c .before .before .before .before .before in
+    let start = back5 .before in
     before-second (now (start .args .first)) (now (start .args .second)) (start .args .instant) (c .before .before .before .clock .ensures) (omega (arith, c .before .before .if1 .left)) (c .before .clock2 .ensures) (omega (arith, c .if2 .taken))
 
 returns-3 : tie.Need-returns-3
 unfolding decode
 returns-3 c =
-    let start = c .before .before .before .before .before .before in
+    let back5 = c .before .before .before .before .before in
+    let start = back5 .before in
     after-both (now (start .args .first)) (now (start .args .second)) (start .args .instant) (c .before .before .before .clock .ensures) (omega (arith, c .before .before .if1 .left)) (c .before .clock2 .ensures) (omega (arith, c .if2 .left))
 
 pub out-of-range-spec : {M : Type 1} → statement M

@@ -13,7 +13,8 @@ returns c =
 
 returns-2 : tie.Need-returns-2
 returns-2 c =
-    let start = c .before .before .before .before .before .before in
+    let back5 = c .before .before .before .before .before in
+    let start = back5 .before in
     damaged-second (now (start .args .first)) (now (start .args .second)) (start .args .instant) (sym (c .before .before .before .well-formed .ensures) ∙ not-false _ (c .before .before .if1 .left)) (sym (c .before .well-formed2 .ensures) ∙ not-true _ (c .if2 .taken))
 
 out-of-range-requires : tie.Need-out-of-range-requires

@@ -21,17 +21,20 @@ write-natural-requires c κs =
 
 add-result : tie.Need-add-result
 add-result c =
-    let start = c .before .before .before .before .before in
+    let back4 = c .before .before .before .before in
+    let start = back4 .before in
     omega (arith, laid-within (spaced-laid (start .args .n) (start .args .out .now) (start .pre) (c .before .before .write-natural .ensures)) (start .pre))
 
 same-length : tie.Need-same-length
 same-length c =
-    let start = c .before .before .before .before .before in
+    let back4 = c .before .before .before .before in
+    let start = back4 .before in
     laid-length (spaced-laid (start .args .n) (start .args .out .now) (start .pre) (c .before .before .write-natural .ensures)) (start .pre)
 
 returns : tie.Need-returns
 returns c =
-    let start = c .before .before .before .before .before in
+    let back4 = c .before .before .before .before in
+    let start = back4 .before in
     spaced-laid (start .args .n) (start .args .out .now) (start .pre) (c .before .before .write-natural .ensures)
 
 pub put-spaced-spec : {M : Type 1} → statement M

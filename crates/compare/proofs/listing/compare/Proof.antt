@@ -12,17 +12,20 @@ use Rattle.compare.proofs.listing.compare.Tie as tie
 
 returns : tie.Need-returns
 returns c =
-    let start = c .before .before .before .before .before in
+    let back4 = c .before .before .before .before in
+    let start = back4 .before in
     compare-refused (now (start .args .first)) (now (start .args .second)) (start .args .instant) (start .args .out .now) (c .before .refusal .ensures) (c .if1 .taken)
 
 returns-2 : tie.Need-returns-2
 returns-2 c =
-    let start = c .before .before .before .before .before .before in
+    let back5 = c .before .before .before .before .before in
+    let start = back5 .before in
     compare-short (now (start .args .first)) (now (start .args .second)) (start .args .instant) (start .args .out .now) (zero-passed (now (start .args .first)) (now (start .args .second)) (start .args .instant) (sym (c .before .if1 .left) ∙ c .before .before .refusal .ensures)) (omega (arith, c .if2 .taken))
 
 put-listing-requires : tie.Need-put-listing-requires
 put-listing-requires c κs =
-    let start = c .before .before .before .before .before .before .before in
+    let back6 = c .before .before .before .before .before .before in
+    let start = back6 .before in
     let p = zero-passed (now (start .args .first)) (now (start .args .second)) (start .args .instant) (sym (c .before .before .if1 .left) ∙ c .before .before .before .refusal .ensures) in
     ((p .well, p .alsoWell), omega (arith, c .before .if2 .left, listing-short (start .args .instant) (decode (now (start .args .first))) (decode (now (start .args .second))) (decode-valid (now (start .args .first)) (p .well)) (decode-valid (now (start .args .second)) (p .alsoWell))))
 

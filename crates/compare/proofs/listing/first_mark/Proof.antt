@@ -10,7 +10,8 @@ returns c = rw (c .enum-told .given .1)
 
 agree-requires : tie.Need-agree-requires
 agree-requires c κs =
-    let start = c .before .before .before .before .before in
+    let back4 = c .before .before .before .before in
+    let start = back4 .before in
     (start .pre .0, start .pre .1 _ (c .before .found .given .1))
 
 returns-2 : tie.Need-returns-2

@@ -8,7 +8,8 @@ use Rattle.compare.proofs.listing.mark_of.Tie as tie
 
 first-mark-requires : tie.Need-first-mark-requires
 first-mark-requires c κs =
-    let start = c .before .before .before .before .before .before .before in
+    let back6 = c .before .before .before .before .before .before in
+    let start = back6 .before in
     (start .pre .0, live-held (now (start .args .other)) _ _ (start .args .instant) (start .pre .1) (c .before .before .live-near .ensures))
 
 returns : tie.Need-returns

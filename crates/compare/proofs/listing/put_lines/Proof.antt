@@ -58,7 +58,8 @@ same-length c = going-length (c .before .loop .inv .0)
 
 returns : tie.Need-returns Inv-loop μ-loop
 returns c =
-    let start = c .before .before .before .before .before .before in
+    let back5 = c .before .before .before .before .before in
+    let start = back5 .before in
     going-ends (c .before .loop .inv .0) (rest-ends (start .args .pass) (start .args .instant) (now (start .args .store)) (now (start .args .other)) (c .before .loop .i) (rw (← (c .before .loop .inv .1)) (c .loop-test .left)))
 
 pub put-lines-spec : {M : Type 1} → statement M

@@ -15,17 +15,20 @@ put-lines-requires c κs =
 
 sub-put-lines : tie.Need-sub-put-lines
 sub-put-lines c =
-    let start = c .before .before .before .before .before .before .before in
+    let back6 = c .before .before .before .before .before .before in
+    let start = back6 .before in
     tail-inside (passText passes.Second (start .args .instant) (now (start .args .second)) (now (start .args .first))) (c .before .before .put-lines .ensures) (listing-room (start .args .instant) (now (start .args .first)) (now (start .args .second)) (start .pre .1))
 
 part-put-lines-start : tie.Need-part-put-lines-start
 part-put-lines-start c =
-    let start = c .before .before .before .before .before .before .before in
+    let back6 = c .before .before .before .before .before .before in
+    let start = back6 .before in
     tail-inside (passText passes.Second (start .args .instant) (now (start .args .second)) (now (start .args .first))) (c .before .before .put-lines .ensures) (listing-room (start .args .instant) (now (start .args .first)) (now (start .args .second)) (start .pre .1))
 
 put-lines-requires-2 : tie.Need-put-lines-requires-2
 put-lines-requires-2 c κs =
-    let start = c .before .before .before .before .before .before .before .before in
+    let back7 = c .before .before .before .before .before .before .before in
+    let start = back7 .before in
     ((start .pre .0 .1, start .pre .0 .0), tail-room (passText passes.Second (start .args .instant) (now (start .args .second)) (now (start .args .first))) (c .before .before .before .put-lines .ensures) (listing-room (start .args .instant) (now (start .args .first)) (now (start .args .second)) (start .pre .1)))
 
 add-result : tie.Need-add-result

@@ -13,22 +13,26 @@ is-live-requires c κs =
 
 returns : tie.Need-returns
 returns c =
-    let start = c .before .before .before .before .before in
+    let back4 = c .before .before .before .before in
+    let start = back4 .before in
     rw (slot-dead (start .args .pass) (start .args .instant) (now (start .args .store)) (now (start .args .other)) (start .args .i) (sym (c .before .is-live .ensures) ∙ not-true _ (c .if1 .taken))) (laid-none (start .args .out .now))
 
 mark-of-requires : tie.Need-mark-of-requires
 mark-of-requires c κs =
-    let start = c .before .before .before .before .before in
+    let back4 = c .before .before .before .before in
+    let start = back4 .before in
     (live-slot (now (start .args .store)) (start .args .i) (start .pre .0 .0) (start .pre .0 .2) (start .args .instant) (sym (c .before .is-live .ensures) ∙ not-false _ (c .if1 .left)), start .pre .0 .1)
 
 returns-2 : tie.Need-returns-2
 returns-2 c =
-    let start = c .before .before .before .before .before .before .before in
+    let back6 = c .before .before .before .before .before .before in
+    let start = back6 .before in
     rw (slot-unmarked (start .args .pass) (start .args .instant) (now (start .args .store)) (now (start .args .other)) (start .args .i) (sym (c .before .before .before .is-live .ensures) ∙ not-false _ (c .before .before .if1 .left)) (c .before .mark-of .ensures) (c .if2 .taken)) (laid-none (start .args .out .now))
 
 key-requires : tie.Need-key-requires
 key-requires c κs =
-    let start = c .before .before .before .before .before .before .before in
+    let back6 = c .before .before .before .before .before .before in
+    let start = back6 .before in
     live-slot (now (start .args .store)) (start .args .i) (start .pre .0 .0) (start .pre .0 .2) (start .args .instant) (sym (c .before .before .before .is-live .ensures) ∙ not-false _ (c .before .before .if1 .left))
 
 field-requires : tie.Need-field-requires

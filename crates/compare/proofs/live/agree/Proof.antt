@@ -11,7 +11,8 @@ use Rattle.compare.proofs.live.agree.Tie as tie
 -- the values are compared as the code reads them
 returns : tie.Need-returns
 returns c =
-    let start = c .before .before .before .before .before .before in
+    let back5 = c .before .before .before .before .before in
+    let start = back5 .before in
     other-value (entryAt (decode (now (start .args .first)) .slots) (start .args .i)) (entryAt (decode (now (start .args .second)) .slots) (start .args .j))
     (rw (← (c .before .before .before .value .ensures), ← (c .before .before .value2 .ensures)) (sym (c .before .equal .ensures) ∙ not-true _ (c .if1 .taken)))
 

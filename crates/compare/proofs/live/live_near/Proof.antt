@@ -7,12 +7,14 @@ use Rattle.compare.proofs.live.live_near.Tie as tie
 
 returns : tie.Need-returns
 returns c =
-    let start = c .before .before .before .before .before .before in
+    let back5 = c .before .before .before .before .before in
+    let start = back5 .before in
     named-nowhere (now (start .args .store)) (now (start .args .key)) (now (start .args .field)) (start .args .instant) (start .pre) (sym (c .enum-told .given .1) ∙ c .before .before .named-near .ensures)
 
 is-live-requires : tie.Need-is-live-requires
 is-live-requires c κs =
-    let start = c .before .before .before .before .before .before .before in
+    let back6 = c .before .before .before .before .before .before in
+    let start = back6 .before in
     found-inside (now (start .args .store)) (now (start .args .key)) (now (start .args .field)) (start .args .instant) (start .pre) (c .before .found .given .0 .0) (sym (c .before .found .given .1) ∙ c .before .before .before .named-near .ensures)
 
 returns-2 : tie.Need-returns-2

@@ -9,12 +9,14 @@ use Rattle.compare.proofs.newer.newer.Tie as tie
 
 value-requires : tie.Need-value-requires
 value-requires c κs =
-    let start = c .before .before .before .before .before .before .before .before in
+    let back7 = c .before .before .before .before .before .before .before in
+    let start = back7 .before in
     first-held (now (start .args .first)) (now (start .args .second)) (now (start .args .key)) (now (start .args .field)) (start .args .instant) _ (sym (c .before .before .before .newer-in .ensures) ∙ c .before .found .given .1)
 
 value-requires-2 : tie.Need-value-requires-2
 value-requires-2 c κs =
-    let start = c .before .before .before .before .before .before .before .before in
+    let back7 = c .before .before .before .before .before .before .before in
+    let start = back7 .before in
     second-held (now (start .args .first)) (now (start .args .second)) (now (start .args .key)) (now (start .args .field)) (start .args .instant) _ (sym (c .before .before .before .newer-in .ensures) ∙ c .before .found2 .given .1)
 
 returns : tie.Need-returns

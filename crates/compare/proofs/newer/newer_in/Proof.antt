@@ -11,23 +11,27 @@ use Rattle.compare.proofs.newer.newer_in.Tie as tie
 
 returns : tie.Need-returns
 returns c =
-    let start = c .before .before .before .before .before .before in
+    let back5 = c .before .before .before .before .before in
+    let start = back5 .before in
     newer-refused (now (start .args .first)) (now (start .args .second)) (now (start .args .key)) (now (start .args .field)) (start .args .instant)
     (given-some (firstApplying (checks (now (start .args .first)) (now (start .args .second)) (start .args .instant))) (c .before .refusal .result) (c .before .refusal .ensures) (c .if1 .taken))
 
 live-near-requires : tie.Need-live-near-requires
 live-near-requires c κs =
-    let start = c .before .before .before .before .before .before in
+    let back5 = c .before .before .before .before .before in
+    let start = back5 .before in
     zero-passed (now (start .args .first)) (now (start .args .second)) (start .args .instant) (sym (c .if1 .left) ∙ c .before .refusal .ensures) .well
 
 live-near-requires-2 : tie.Need-live-near-requires-2
 live-near-requires-2 c κs =
-    let start = c .before .before .before .before .before .before .before in
+    let back6 = c .before .before .before .before .before .before in
+    let start = back6 .before in
     zero-passed (now (start .args .first)) (now (start .args .second)) (start .args .instant) (sym (c .before .if1 .left) ∙ c .before .before .refusal .ensures) .alsoWell
 
 newer-of-requires : tie.Need-newer-of-requires
 newer-of-requires c κs =
-    let start = c .before .before .before .before .before .before .before .before in
+    let back7 = c .before .before .before .before .before .before .before in
+    let start = back7 .before in
     let p = zero-passed (now (start .args .first)) (now (start .args .second)) (start .args .instant) (sym (c .before .before .if1 .left) ∙ c .before .before .before .refusal .ensures) in (
       live-held (now (start .args .first)) (now (start .args .key)) (now (start .args .field)) (start .args .instant) (p .well) (c .before .live-near .ensures),
       live-held (now (start .args .second)) (now (start .args .key)) (now (start .args .field)) (start .args .instant) (p .alsoWell) (c .live-near2 .ensures),

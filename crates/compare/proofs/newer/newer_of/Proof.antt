@@ -25,7 +25,8 @@ version-requires c κs =
 
 version-requires-2 : tie.Need-version-requires-2
 version-requires-2 c κs =
-    let start = c .before .before .before .before .before .before .before .before .before in
+    let back8 = c .before .before .before .before .before .before .before .before in
+    let start = back8 .before in
     start .pre .1 _ (c .before .before .right2 .given .1)
 
 returns-4 : tie.Need-returns-4

@@ -8,7 +8,8 @@ use Rattle.compare.proofs.newer.newer_place.Tie as tie
 
 value-start-requires : tie.Need-value-start-requires
 value-start-requires c κs =
-    let start = c .before .before .before .before .before .before .before .before in
+    let back7 = c .before .before .before .before .before .before .before in
+    let start = back7 .before in
     first-held (now (start .args .first)) (now (start .args .second)) (now (start .args .key)) (now (start .args .field)) (start .args .instant) _ (sym (c .before .before .before .newer-in .ensures) ∙ c .before .found .given .1)
 
 value-requires : tie.Need-value-requires
@@ -18,7 +19,8 @@ value-requires c κs =
 
 value-start-requires-2 : tie.Need-value-start-requires-2
 value-start-requires-2 c κs =
-    let start = c .before .before .before .before .before .before .before .before in
+    let back7 = c .before .before .before .before .before .before .before in
+    let start = back7 .before in
     second-held (now (start .args .first)) (now (start .args .second)) (now (start .args .key)) (now (start .args .field)) (start .args .instant) _ (sym (c .before .before .before .newer-in .ensures) ∙ c .before .found2 .given .1)
 
 value-requires-2 : tie.Need-value-requires-2
