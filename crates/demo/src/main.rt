@@ -1,12 +1,19 @@
 // Plays the script of standard input, a line a step, against the feeder and a store of two slots. A line's first byte says what it is:
-//   =  a heading: from here on a fresh feeder and an empty store
+//   =  a heading: from here on a fresh feeder and empty stores
 //   a digit: a record, its clock in ms and its command; its record is fed
 //   ~  from here on records come in pieces of so many bytes, and every call is shown
 //   !  stray bytes, fed as they stand
 //   ?  shows the store
+//   &  puts the store aside as the first of two, and begins the second with a fresh feeder
+//   ^  an instant: lists what the two stores differ in
+//   %  an instant, a key and a field: shows the newer value, and whose it is
 //   .  says what happened
 // Any other line is written as it stands.
 use commands::execute::BUFFER_LEAST;
+use compare::Which;
+use compare::listing::compare;
+use compare::newer::newer;
+use compare::newer::newer_in;
 use feeder::Fed;
 use feeder::Feeder;
 use libc::STDIN_FILENO;
@@ -18,6 +25,7 @@ use store::layout::SLOT_SIZE;
 use store::layout::TIME_LIMIT;
 use store::read;
 use wire::bytes::clear;
+use wire::bytes::copy;
 use wire::bytes::equal;
 use wire::bytes::write_le;
 use wire::integers::Natural;
@@ -300,6 +308,80 @@ fn show_store(bytes: &[u8]) {
     show_slots(bytes);
 }
 
+// ---- two stores side by side
+
+// Puts a store aside and empties it.
+fn put_aside(store: &mut [u8], other: &mut [u8])
+    requires { ⌜ length (now store) ≤ length (now other) ⌝ }
+{
+    copy(store, other);
+    clear(store);
+    put(b"  store put aside as the first handset's, and the second's begins empty\n");
+}
+
+fn show_refusal(number: u32) {
+    put(b"        refused: ");
+    put_number(number as u64, b"\n");
+}
+
+// Writes the lines of a text.
+fn show_lines(text: &[u8]) {
+    let mut from = 0;
+    while from < text.len() {
+        let end = seek(text, from, b'\n');
+        say(b"        ", &text[from..end]);
+        from = end + 1;
+    }
+}
+
+// What two stores differ in.
+fn show_differences(instant: u64, first: &[u8], second: &[u8], out: &mut [u8]) {
+    let compared = compare(first, second, instant, out);
+    if compared.refusal != 0 {
+        show_refusal(compared.refusal);
+        return;
+    }
+    if compared.written == 0 {
+        put(b"        none\n");
+        return;
+    }
+    show_lines(within(out, compared.written));
+}
+
+// A value, and whose it is.
+fn show_value(value: &[u8], whose: &[u8]) {
+    put(b"        \"");
+    put(value);
+    say(b"\", ", whose);
+}
+
+// The newer value of a field.
+fn show_newer<'a>(instant: u64, key: &[u8], field: &[u8], first: &'a [u8], second: &'a [u8]) {
+    let value = newer(first, second, key, field, instant);
+    let which = newer_in(first, second, key, field, instant);
+    match which {
+        Which::First(_) => show_value(value, b"the first's"),
+        Which::Second(_) => show_value(value, b"the second's"),
+        Which::Neither => put(b"        neither's\n"),
+        Which::Refused(number) => show_refusal(number),
+    }
+}
+
+// The newer value of the field that a line names: instant, key and field, with one space between them.
+fn show_named<'a>(line: &[u8], first: &'a [u8], second: &'a [u8]) {
+    let end = seek(line, 0, b' ');
+    let instant = number_of(within(line, end));
+    let name = beyond(line, end + 1);
+    let middle = seek(name, 0, b' ');
+    show_newer(
+        instant,
+        within(name, middle),
+        beyond(name, middle + 1),
+        first,
+        second,
+    );
+}
+
 // ---- steps
 
 // So many bytes further, but at most to the end; to the end where they are none.
@@ -375,6 +457,14 @@ fn show_bytes(bytes: &[u8]) {
     }
 }
 
+// Feeds bytes as they stand.
+fn send_stray(stage: Stage, bytes: &[u8], store: &mut [u8], reply: &mut [u8]) -> Stage {
+    put(b"  stray");
+    show_bytes(bytes);
+    put(b"\n");
+    feed(stage, bytes, store, reply)
+}
+
 fn is_digit(byte: u8) -> bool {
     if byte < b'0' {
         return false;
@@ -382,9 +472,10 @@ fn is_digit(byte: u8) -> bool {
     byte <= b'9'
 }
 
-// A line that feeds nothing.
-fn show_other(line: &[u8], store: &[u8]) {
+// A line that changes no store.
+fn show_other<'a>(line: &[u8], store: &'a [u8], other: &'a [u8], reply: &mut [u8]) {
     let mark = first(line);
+    let rest = beyond(line, 1);
     if mark == b'?' {
         show_store(store);
         return;
@@ -393,20 +484,42 @@ fn show_other(line: &[u8], store: &[u8]) {
         say(b"        ", beyond(line, 2));
         return;
     }
+    if mark == b'^' {
+        say(b"  side by side at ", rest);
+        show_differences(number_of(rest), other, store, reply);
+        return;
+    }
+    if mark == b'%' {
+        say(b"  newer at ", rest);
+        show_named(rest, other, store);
+        return;
+    }
     say(b"", line);
 }
 
-fn play_line(stage: Stage, line: &[u8], store: &mut [u8], reply: &mut [u8]) -> Stage {
+fn fresh_stage() -> Stage {
+    Stage {
+        feeder: Feeder::fresh(),
+        cut: 0,
+    }
+}
+
+fn play_line(
+    stage: Stage,
+    line: &[u8],
+    store: &mut [u8],
+    other: &mut [u8],
+    reply: &mut [u8],
+) -> Stage
+    requires { ⌜ length (now store) ≤ length (now other) ⌝ }
+{
     let mark = first(line);
     let rest = beyond(line, 1);
     if is_digit(mark) {
         return send(stage, line, store, reply);
     }
     if mark == b'!' {
-        put(b"  stray");
-        show_bytes(rest);
-        put(b"\n");
-        return feed(stage, rest, store, reply);
+        return send_stray(stage, rest, store, reply);
     }
     let feeder = stage.feeder;
     if mark == b'~' {
@@ -418,24 +531,25 @@ fn play_line(stage: Stage, line: &[u8], store: &mut [u8], reply: &mut [u8]) -> S
     if mark == b'=' {
         say(b"\n", beyond(line, 2));
         clear(store);
-        return Stage {
-            feeder: Feeder::fresh(),
-            cut: 0,
-        };
+        clear(other);
+        return fresh_stage();
     }
-    show_other(line, store);
+    if mark == b'&' {
+        put_aside(store, other);
+        return fresh_stage();
+    }
+    show_other(line, store, other, reply);
     stage
 }
 
-fn play(script: &[u8], store: &mut [u8], reply: &mut [u8]) {
-    let mut stage = Stage {
-        feeder: Feeder::fresh(),
-        cut: 0,
-    };
+fn play(script: &[u8], store: &mut [u8], other: &mut [u8], reply: &mut [u8])
+    requires { ⌜ length (now store) ≤ length (now other) ⌝ }
+{
+    let mut stage = fresh_stage();
     let mut from = 0;
     while from < script.len() {
         let end = seek(script, from, b'\n');
-        stage = play_line(stage, &script[from..end], store, reply);
+        stage = play_line(stage, &script[from..end], store, other, reply);
         from = end + 1;
     }
 }
@@ -443,7 +557,8 @@ fn play(script: &[u8], store: &mut [u8], reply: &mut [u8]) {
 fn main() {
     let mut space = [0u8; SCRIPT];
     let mut store = [0u8; STORE];
+    let mut other = [0u8; STORE];
     let mut reply = [0u8; REPLY];
     let n = io::read_full(STDIN_FILENO, &mut space);
-    play(&space[..n], &mut store, &mut reply);
+    play(&space[..n], &mut store, &mut other, &mut reply);
 }

@@ -1,6 +1,7 @@
 //! Plays a script of the demo (`crates/demo/stdin`) from standard input and writes the replies, byte
 //! for byte, to standard output. A line that starts with a digit is a record, its clock in ms and
-//! its command; `=` starts afresh; `!` is followed by stray bytes. Other lines are passed over.
+//! its command; `=` and `&` start afresh; `!` is followed by stray bytes. Other lines are passed
+//! over.
 
 use exhash::{Feeder, REPLY_SIZE, Refusal, store_size};
 use std::error::Error;
@@ -57,7 +58,7 @@ fn main() -> Result<(), Box<dyn Error>> {
     for line in io::stdin().lock().lines() {
         let line = line?;
         match line.as_bytes() {
-            [b'=', ..] => session = Session::fresh(),
+            [b'=' | b'&', ..] => session = Session::fresh(),
             [b'!', stray @ ..] => session.feed(stray)?,
             [b'0'..=b'9', ..] => {
                 let (clock, command) = line.split_once(' ').ok_or("a record without a command")?;
