@@ -14,7 +14,7 @@ demo:
 	@rt check demo >target/demo.log 2>&1 || { cat target/demo.log; exit 1; }
 	@target/bin/demo <crates/demo/stdin
 
-# The gate: every proof, every must-fail edit and every program, from nothing; the C example, the Rust tests and the comparison.
+# The gate: every proof, every must-fail edit and every program, from nothing; the C examples, the Rust tests and the comparison.
 test:
 	@.ci/run
 

@@ -25,9 +25,9 @@
  * Pointers: none may be null, even with length 0. piece, store and reply must not overlap. During a call nobody else may
  * write piece, nor read or write store and reply, an interrupt or a DMA channel included. Between calls nobody else may
  * write the store: what the calls come to is said of the store as the last one left it. Each length is the number of
- * bytes that may be read, and for store and reply written. exh_compare and exh_newer only read their two stores, which
- * may be the same bytes and which nobody may write meanwhile; exh_compare's output must overlap neither store, and
- * during the call nobody else may read or write it.
+ * bytes that may be read, and for store, reply and exh_compare's output written. exh_compare and exh_newer only read their
+ * two stores, and exh_newer its key and field: these may overlap one another, and nobody may write them meanwhile.
+ * exh_compare's output must overlap neither store, and during the call nobody else may read or write it.
  */
 #ifndef EXHASH_H
 #define EXHASH_H

@@ -16,9 +16,9 @@ use Rattle.store.specs.declared.Expiry.{Expiry}
 use Rattle.store.specs.declared.Expiry.the-variants.{Never, At}
 use Rattle.store.specs.declared.Found.{Found}
 use Rattle.store.specs.declared.Found.the-variants as founds
-use Rattle.store.specs.Store.{Entry, Slot, decode, wellFormed, holds}
+use Rattle.store.specs.Store.{Entry, Slot, decode, wellFormed, holds, entryAt}
 use Rattle.store.specs.Time.{keyExists, lowestSlot, entryOf}
-use Rattle.store.specs.Promises.{Held, entryAt}
+use Rattle.store.specs.Promises.{Held}
 use Rattle.store.specs.Valid.{Fits, FitsSlot}
 use Rattle.store.proofs.Encode.{decode-valid}
 use Rattle.store.proofs.Slots.{holds-none, entry-at-lowest, lowest-entry-none}

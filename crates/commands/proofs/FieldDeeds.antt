@@ -27,10 +27,10 @@ use Rattle.store.specs.declared.Expiry.{Expiry}
 use Rattle.store.specs.declared.Expiry.the-variants.{Never, At}
 use Rattle.store.specs.declared.Found.{Found}
 use Rattle.store.specs.declared.Found.the-variants as founds
-use Rattle.store.specs.Store.{Entry, entry, Slot, decode, wellFormed, instantOf, holds}
+use Rattle.store.specs.Store.{Entry, entry, Slot, decode, wellFormed, instantOf, holds, entryAt}
 use Rattle.store.specs.Time.{lowestSlot, slotFor, entryOf}
 use Rattle.store.specs.Valid.{FitsSlot}
-use Rattle.store.specs.Promises.{Held, Holds, Placeable, foundFor, entryAt, stamped, withSlot}
+use Rattle.store.specs.Promises.{Held, Holds, Placeable, foundFor, stamped, withSlot}
 use Rattle.store.proofs.Slots.{lowest-some, lowest-nowhere, holds-none, holds-own, holds-only}
 use Rattle.store.proofs.Encode.{decode-valid}
 use Rattle.store.proofs.Changes.{held-entry}

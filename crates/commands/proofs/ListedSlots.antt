@@ -18,10 +18,10 @@ use Rattle.wire.proofs.Lists.{both-ways}
 use Rattle.wire.proofs.ReplyLaying.{front-room}
 use Rattle.store.specs.declared.Found.{Found}
 use Rattle.store.specs.declared.Found.the-variants as founds
-use Rattle.store.specs.Store.{Entry, Slot, decode, wellFormed, holds}
+use Rattle.store.specs.Store.{Entry, Slot, decode, wellFormed, holds, entryAt}
 use Rattle.store.specs.Layout.{slotsMost}
 use Rattle.store.specs.Time.{liveOfKey, lowestSlot, without}
-use Rattle.store.specs.Promises.{Held, Holds, foundFor, lowestFrom, entryAt, withSlot}
+use Rattle.store.specs.Promises.{Held, Holds, foundFor, lowestFrom, withSlot}
 use Rattle.store.specs.Valid.{Apart}
 use Rattle.store.proofs.Slots.{Lowest, lowest-some, lowest-nowhere, holds-none, holds-once}
 use Rattle.store.proofs.Put.{getD-set}

@@ -19,10 +19,10 @@ use Rattle.store.specs.declared.Expiry.the-variants.{Never}
 use Rattle.store.specs.declared.Found.{Found}
 use Rattle.store.specs.declared.Found.the-variants as founds
 use Rattle.store.specs.Layout.{versionMost, timeLimit}
-use Rattle.store.specs.Store.{Entry, blank, withVersion, withExpiry, Slot, Store, withSlots, decode, wellFormed, holds}
+use Rattle.store.specs.Store.{Entry, blank, withVersion, withExpiry, Slot, Store, withSlots, decode, wellFormed, holds, entryAt}
 use Rattle.store.specs.Time.{keyExists, liveOfKey, lowestSlot, entryOf, slotFor, put, emptySlot, deadSlot}
 use Rattle.store.specs.Valid.{Short}
-use Rattle.store.specs.Promises.{foundFor, entryAt, Held, Holds}
+use Rattle.store.specs.Promises.{foundFor, Held, Holds}
 use Rattle.commands.specs.declared.Lifetime.{Lifetime}
 use Rattle.commands.specs.declared.Lifetime.the-variants.{Clear}
 use Rattle.commands.specs.declared.Versioning.the-variants.{Next}

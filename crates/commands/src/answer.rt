@@ -18,8 +18,8 @@ ghost use Prim.Native.Nat.{_≤_};
 ghost use lib.ListN.{length};
 ghost use Rattle.wire.specs.Replies.{bulk, number, array};
 ghost use Rattle.wire.specs.Promises.{Laid};
-ghost use Rattle.store.specs.Store.{decode, wellFormed};
-ghost use Rattle.store.specs.Promises.{Held, entryAt};
+ghost use Rattle.store.specs.Store.{decode, wellFormed, entryAt};
+ghost use Rattle.store.specs.Promises.{Held};
 ghost use Rattle.commands.specs.Effect.{reply};
 ghost use Rattle.commands.specs.Promises.{Looked, timeLeftOf, noVersionOf, answerMost, answerAbout};
 

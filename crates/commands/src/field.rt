@@ -35,8 +35,8 @@ ghost use Rattle.wire.specs.Integers.{lowest64, highest64, within, integerText}
 ghost use Rattle.wire.specs.Replies.{number, integer};
 ghost use Rattle.wire.specs.Promises.{integerFor, integerOf, Laid};
 ghost use Rattle.store.specs.Layout.{timeLimit};
-ghost use Rattle.store.specs.Store.{decode, wellFormed, instantOf};
-ghost use Rattle.store.specs.Promises.{Held, entryAt, stamped};
+ghost use Rattle.store.specs.Store.{decode, wellFormed, instantOf, entryAt};
+ghost use Rattle.store.specs.Promises.{Held, stamped};
 ghost use Rattle.commands.specs.declared.Question.{Question};
 ghost use Rattle.commands.specs.declared.Condition.the-variants.{Always};
 ghost use Rattle.commands.specs.Refusal.{bufferLeast};

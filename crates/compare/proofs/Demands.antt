@@ -5,11 +5,13 @@ use mathlib.Core.Path.{_≡_, refl, sym}
 use mathlib.Core.Logic.{_⊎_, _↔_, _≢_}
 use mathlib.Core.List.{List, [], map, List·Memᴰ}
 use Prim.Native.Nat.{ℕ, _≤_, _<_}
-use lib.ListN.{length}
+use lib.ListN.{length, take, drop}
 use Rattle.wire.specs.Lists.{keep}
-use Rattle.store.specs.Store.{Entry, Store, decode}
+use Rattle.wire.specs.Bytes.{part}
+use Rattle.store.specs.Store.{Entry, Store, decode, entryAt}
 use Rattle.store.specs.Valid.{Valid}
-use Rattle.store.specs.Promises.{entryAt, valueStart}
+use Rattle.store.specs.Layout.{valueStart}
+use Rattle.store.proofs.ReadAt.{value-part}
 use Rattle.compare.specs.declared.Which.the-variants.{First, Second, Neither, Refused}
 use Rattle.compare.specs.Listing.{onlyFirst, onlySecond, different, Line, lines, listing}
 use Rattle.compare.specs.Newer.{placeOf, partAt}
@@ -35,7 +37,8 @@ pub only-second-if : (instant : ℕ) (first second : Store) (e : Entry) (i : ℕ
     → List·Memᴰ (line onlySecond e i) (lines instant (first .slots) (second .slots)) ↔ (LiveAt instant (second .slots) i e × Missing instant (first .slots) e)
 only-second-if instant first second = tells.only-second instant (first .slots) (second .slots)
 
--- A `~` line stands in it exactly if the entry is live in that slot of the first store, and the second has a live entry of its key and field that is not the same.
+-- A `~` line stands in it, beside a valid second store, exactly if the entry is live in that slot of the first store, and the second has a live entry of its key and
+-- field that is not the same.
 pub different-if : (instant : ℕ) (first second : Store) → Valid second → (e : Entry) (i : ℕ)
     → List·Memᴰ (line different e i) (lines instant (first .slots) (second .slots)) ↔ (LiveAt instant (first .slots) i e × Changed instant (second .slots) e)
 different-if instant first second v = tells.only-changed instant (first .slots) (second .slots) (v .apart)
@@ -54,7 +57,7 @@ pub listing-written : (instant : ℕ) (first second : Store) → Written (lines 
 unfolding listing
 listing-written instant first second = tells.written (lines instant (first .slots) (second .slots))
 
--- The listing is empty exactly if the two stores have the same live entries at the instant: the same keys and fields with the same value, version and expiry.
+-- The listing of two valid stores is empty exactly if they have the same live entries at the instant: the same keys and fields with the same value, version and expiry.
 pub empty-listing-if : (instant : ℕ) (first second : Store) → Valid first → Valid second → (listing instant first second ≡ []) ↔ SameLive instant (first .slots) (second .slots)
 empty-listing-if instant first second v w = tells.empty-exactly instant first second (v .apart) (w .apart)
 
@@ -63,13 +66,13 @@ pub swapped-lines : (instant : ℕ) (first second : Store)
     → map (remarked onlySecond) (keep (hasMark onlyFirst) (lines instant (first .slots) (second .slots))) ≡ keep (hasMark onlySecond) (lines instant (second .slots) (first .slots))
 swapped-lines instant first second = swapped instant (first .slots) (second .slots)
 
--- With the stores swapped, the keys and fields marked `~` are the same.
+-- With two valid stores swapped, the keys and fields marked `~` are the same.
 pub swapped-different : (instant : ℕ) (first second : Store) → Valid first → Valid second → (k f : List ℕ)
     → MarkedDifferent instant (first .slots) (second .slots) k f ↔ MarkedDifferent instant (second .slots) (first .slots) k f
 swapped-different instant first second v w k f =
     (tells.marked-swaps instant (first .slots) (second .slots) (v .apart) (w .apart) k f, tells.marked-swaps instant (second .slots) (first .slots) (w .apart) (v .apart) k f)
 
--- The listing is never longer than 12,000 bytes.
+-- The listing of two valid stores is never longer than 12,000 bytes.
 pub listing-fits : (instant : ℕ) (first second : Store) → Valid first → Valid second → length (listing instant first second) ≤ 12000
 listing-fits = listing-short
 
@@ -92,19 +95,19 @@ compare-writes = exactly.call-writes
 
 -- ---- the newer value
 
--- The first store is named, with slot i, exactly if that slot holds a live entry of the key and the field, and no live one of the second store has a higher version.
+-- The first store is named, with slot i, exactly if the call is not refused, that slot holds a live entry of the key and the field, and no live one of the second store has a higher version.
 pub newer-first-if : (first second k f : List ℕ) (instant i : ℕ)
     → (newerIn first second k f instant ≡ First i)
     ↔ (Proper first second instant × ((e : Entry) × LiveNamed instant k f (decode first .slots) i e × AtMost instant k f (decode second .slots) (e .version)))
 newer-first-if = exactly.first-exactly
 
--- The second is named, with slot j, exactly if that slot holds one, and any live one of the first store has a lower version.
+-- The second is named, with slot j, exactly if the call is not refused, that slot holds one, and any live one of the first store has a lower version.
 pub newer-second-if : (first second k f : List ℕ) (instant j : ℕ)
     → (newerIn first second k f instant ≡ Second j)
     ↔ (Proper first second instant × ((e : Entry) × LiveNamed instant k f (decode second .slots) j e × Below instant k f (decode first .slots) (e .version)))
 newer-second-if = exactly.second-exactly
 
--- Neither is named exactly if neither store has a live one.
+-- Neither is named exactly if the call is not refused and neither store has a live one.
 pub newer-neither-if : (first second k f : List ℕ) (instant : ℕ)
     → (newerIn first second k f instant ≡ Neither) ↔ (Proper first second instant × NoLive instant k f (decode first .slots) × NoLive instant k f (decode second .slots))
 newer-neither-if = exactly.neither-exactly
@@ -127,21 +130,25 @@ nothing-shown = exactly.none-shown
 pub place-in-store : (first second k f : List ℕ) (instant : ℕ) → Inside first second (placeOf first second (newerIn first second k f instant))
 place-in-store = exactly.place-inside
 
--- In numbers: the first store is 1, with the place of the value of that slot, and the part shown is that value.
+-- In numbers: the first store is 1, with the place of the value of that slot; the bytes there are that value, and so is the part shown.
 pub place-first : (first second k f : List ℕ) (instant i : ℕ) → newerIn first second k f instant ≡ First i
     → let v = entryAt (decode first .slots) i .value in
     let p = placeOf first second (newerIn first second k f instant) in
-    (p ≡ record { refusal = 0; which = 1; start = valueStart i; size = length v }) × (partAt first second p ≡ v)
-unfolding placeOf
-place-first first second k f instant i h = (rw h, sym (places.first-shown first second k f instant i h refl))
+    (p ≡ record { refusal = 0; which = 1; start = valueStart i; size = length v })
+    × (take (p .size) (drop (p .start) first) ≡ v)
+    × (partAt first second p ≡ v)
+unfolding placeOf part
+place-first first second k f instant i h = (rw h, rw h (value-part (places.first-held first second k f instant i h)), sym (places.first-shown first second k f instant i h refl))
 
 -- The second is 2.
 pub place-second : (first second k f : List ℕ) (instant j : ℕ) → newerIn first second k f instant ≡ Second j
     → let v = entryAt (decode second .slots) j .value in
     let p = placeOf first second (newerIn first second k f instant) in
-    (p ≡ record { refusal = 0; which = 2; start = valueStart j; size = length v }) × (partAt first second p ≡ v)
-unfolding placeOf
-place-second first second k f instant j h = (rw h, sym (places.second-shown first second k f instant j h refl))
+    (p ≡ record { refusal = 0; which = 2; start = valueStart j; size = length v })
+    × (take (p .size) (drop (p .start) second) ≡ v)
+    × (partAt first second p ≡ v)
+unfolding placeOf part
+place-second first second k f instant j h = (rw h, rw h (value-part (places.second-held first second k f instant j h)), sym (places.second-shown first second k f instant j h refl))
 
 -- Neither is 0 throughout.
 pub place-neither : (first second k f : List ℕ) (instant : ℕ) → newerIn first second k f instant ≡ Neither
@@ -155,7 +162,7 @@ pub place-refused : (first second k f : List ℕ) (instant n : ℕ) → newerIn 
 unfolding placeOf
 place-refused first second k f instant n h = rw h
 
--- So the number is one of these exactly if the call is refused with it.
+-- So its number is n, and not 0, exactly if the call is refused with n.
 pub place-refused-if : (first second k f : List ℕ) (instant n : ℕ) → n ≢ 0
     → (placeOf first second (newerIn first second k f instant) .refusal ≡ n) ↔ Refusal first second instant n
 place-refused-if = exactly.place-refused-exactly
@@ -174,6 +181,6 @@ worked-listings = examples.listing-rows
 pub worked-values : map newerGiven newerRows ≡ map newerExpected newerRows
 worked-values = examples.newer-rows
 
--- They give what the listing's call answers and leaves, whole, and its refusals in order.
+-- They give what the listing's call answers and the start of the output that it leaves, and its refusals in order.
 pub worked-calls : map callGiven callRows ≡ map callExpected callRows
 worked-calls = examples.call-rows

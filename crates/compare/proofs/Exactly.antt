@@ -16,9 +16,8 @@ use Rattle.wire.proofs.ReplyLaying.{take-laid, drop-laid, length-laid}
 use Rattle.wire.proofs.Lists.{both-ways, impossible}
 use Rattle.store.specs.Layout.{keyMost, fieldMost, timeLimit}
 use Rattle.store.specs.declared.Expiry.the-variants.{Never}
-use Rattle.store.specs.Store.{Entry, entry, Slot, clockOf, decode, wellFormed}
+use Rattle.store.specs.Store.{Entry, entry, Slot, clockOf, decode, wellFormed, entryAt}
 use Rattle.store.specs.Valid.{Fits, FitsSlot, Apart}
-use Rattle.store.specs.Promises.{entryAt}
 use Rattle.store.proofs.Encode.{decode-valid}
 use Rattle.store.proofs.ReadAt.{value-within}
 use Rattle.compare.specs.declared.Which.{Which}

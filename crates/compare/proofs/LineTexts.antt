@@ -17,9 +17,9 @@ use Rattle.wire.proofs.Lists.{impossible}
 use Rattle.wire.proofs.ReplyLaws.{flatten-append}
 use Rattle.wire.proofs.ReplyLaying.{laid-first, laid-more, laid-length, length-tail, front-room}
 use Rattle.wire.proofs.Elements.{Next}
-use Rattle.store.specs.Store.{Entry, Slot, blank, decode, slotCount, wellFormed}
+use Rattle.store.specs.Store.{Entry, Slot, blank, decode, slotCount, wellFormed, entryAt}
 use Rattle.store.specs.Time.{emptySlot, liveSlot}
-use Rattle.store.specs.Promises.{Held, entryAt}
+use Rattle.store.specs.Promises.{Held}
 use Rattle.store.proofs.Encode.{length-decode}
 use Rattle.compare.specs.declared.Pass.{Pass}
 use Rattle.compare.specs.declared.Pass.the-variants as passes

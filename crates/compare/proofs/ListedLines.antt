@@ -15,10 +15,9 @@ use Rattle.wire.proofs.Lists.{and-left, and-right, both-ways, impossible}
 use Rattle.wire.proofs.ByteLaws.{same-true, same-refl}
 use Rattle.store.specs.declared.Expiry.{Expiry}
 use Rattle.store.specs.declared.Expiry.the-variants.{Never, At}
-use Rattle.store.specs.Store.{Entry, Slot}
+use Rattle.store.specs.Store.{Entry, Slot, entryAt}
 use Rattle.store.specs.Time.{live, liveSlot}
 use Rattle.store.specs.Valid.{Apart}
-use Rattle.store.specs.Promises.{entryAt}
 use Rattle.store.proofs.Slots.{Named, holds-named, holds-own}
 use Rattle.compare.specs.Listing.{liveOf, liveSlotOf, sameExpiry, agree, onlyFirst, onlySecond, different, firstMark, secondMark, Line, lineOf, linesFrom}
 use Rattle.compare.specs.Claims.{LiveAt, LiveIn, SameName, Missing, Changed, line}

@@ -227,8 +227,8 @@ ordered instant first second =
       firsts = linesFrom instant (firstMark instant second) 0 first;
       seconds = linesFrom instant (secondMark instant first) 0 second;
       parts = refl;
-      none = all-members (λ l. not (hasMark onlySecond l)) (linesFrom instant (firstMark instant second) 0 first) not-second;
-      rest = all-members (hasMark onlySecond) (linesFrom instant (secondMark instant first) 0 second) all-second;
+      notSecond = all-members (λ l. not (hasMark onlySecond l)) (linesFrom instant (firstMark instant second) 0 first) not-second;
+      allSecond = all-members (hasMark onlySecond) (linesFrom instant (secondMark instant first) 0 second) all-second;
       ordered = ascend instant (firstMark instant second) 0 first;
       alsoOrdered = ascend instant (secondMark instant first) 0 second;
     }

@@ -9,8 +9,8 @@ use Rattle.wire.specs.Lists.{every, onlyIf, orElse}
 use Rattle.wire.specs.Bytes.{same}
 use Rattle.store.specs.declared.Found.{Found}
 use Rattle.store.specs.declared.Found.the-variants as founds
-use Rattle.store.specs.Store.{Entry, Slot, decode, wellFormed}
-use Rattle.store.specs.Promises.{entryAt, foundFor}
+use Rattle.store.specs.Store.{Entry, Slot, decode, wellFormed, entryAt}
+use Rattle.store.specs.Promises.{foundFor}
 use Rattle.store.proofs.Finding.{named-held}
 use Rattle.compare.specs.declared.Pass.the-variants as passes
 use Rattle.compare.specs.Listing.{liveOf, liveSlotOf, sameExpiry, agree, onlyFirst, onlySecond, different, firstMark, secondMark}

@@ -11,8 +11,8 @@ use Rattle.wire.specs.Checks.{firstApplying}
 use Rattle.wire.proofs.Lists.{impossible}
 use Rattle.store.specs.declared.Found.{Found}
 use Rattle.store.specs.declared.Found.the-variants as founds
-use Rattle.store.specs.Store.{Slot, decode}
-use Rattle.store.specs.Promises.{Held, entryAt, foundFor}
+use Rattle.store.specs.Store.{Slot, decode, entryAt}
+use Rattle.store.specs.Promises.{Held, foundFor}
 use Rattle.store.proofs.ReadAt.{value-part}
 use Rattle.compare.specs.declared.Which.{Which}
 use Rattle.compare.specs.declared.Which.the-variants.{First, Second, Refused}

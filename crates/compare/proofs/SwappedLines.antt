@@ -5,9 +5,8 @@ use mathlib.Core.List.{List, [], _∷_, _++_, map, map-append, append-nil}
 use mathlib.Core.Option.{Option, none, some}
 use Prim.Native.Nat.{ℕ, suc}
 use Rattle.wire.specs.Lists.{keep, onlyIf, orElse}
-use Rattle.store.specs.Store.{Entry, Slot}
+use Rattle.store.specs.Store.{Entry, Slot, entryAt}
 use Rattle.store.specs.Time.{live}
-use Rattle.store.specs.Promises.{entryAt}
 use Rattle.compare.specs.Listing.{liveSlotOf, agree, onlyFirst, onlySecond, different, firstMark, secondMark, Line, lineOf, linesFrom, lines}
 use Rattle.compare.specs.Claims.{line, hasMark, remarked}
 

@@ -65,8 +65,8 @@ pub record InOrder (ls : List Line) : Type 0 where
   pub firsts : List Line
   pub seconds : List Line
   pub parts : ls ≡ firsts ++ seconds
-  pub none : all (λ l. not (hasMark onlySecond l)) firsts ≡ true
-  pub rest : all (hasMark onlySecond) seconds ≡ true
+  pub notSecond : all (λ l. not (hasMark onlySecond l)) firsts ≡ true
+  pub allSecond : all (hasMark onlySecond) seconds ≡ true
   pub ordered : ascending firsts ≡ true
   pub alsoOrdered : ascending seconds ≡ true
 
@@ -109,13 +109,15 @@ pub record LiveNamed (instant : ℕ) (k f : List ℕ) (ss : List Slot) (i : ℕ)
   pub key : e .key ≡ k
   pub field : e .field ≡ f
 
--- every live entry of a key and a field has a version of at most n, one below n, or there is none
+-- every live entry of a key and a field has a version of at most n
 abbrev pub AtMost : ℕ → List ℕ → List ℕ → List Slot → ℕ → Type 0
 AtMost instant k f ss n = (i : ℕ) (e : Entry) → LiveNamed instant k f ss i e → e .version ≤ n
 
+-- every live entry of a key and a field has a version below n
 abbrev pub Below : ℕ → List ℕ → List ℕ → List Slot → ℕ → Type 0
 Below instant k f ss n = (i : ℕ) (e : Entry) → LiveNamed instant k f ss i e → e .version < n
 
+-- there is no live entry of a key and a field
 abbrev pub NoLive : ℕ → List ℕ → List ℕ → List Slot → Type 0
 NoLive instant k f ss = (i : ℕ) (e : Entry) → LiveNamed instant k f ss i e → ⊥
 

@@ -10,9 +10,8 @@ use Rattle.wire.specs.Bytes.{same, text}
 use Rattle.wire.specs.Integers.{naturalText}
 use Rattle.store.specs.declared.Expiry.{Expiry}
 use Rattle.store.specs.declared.Expiry.the-variants.{Never, At}
-use Rattle.store.specs.Store.{Entry, Slot, Store, holds}
+use Rattle.store.specs.Store.{Entry, Slot, Store, holds, entryAt}
 use Rattle.store.specs.Time.{live, liveSlot, lowestSlot}
-use Rattle.store.specs.Promises.{entryAt}
 
 -- "Compare live entries only, by key and field.": a slot that holds an entry of a key and a field live at an instant, and the lowest such slot
 unfoldable pub liveOf : ℕ → List ℕ → List ℕ → Slot → Bool

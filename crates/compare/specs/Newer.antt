@@ -6,8 +6,8 @@ use Prim.Native.Nat.{ℕ}
 use lib.Dec.{leb, eqb}
 use lib.ListN.{length}
 use Rattle.wire.specs.Bytes.{part}
-use Rattle.store.specs.Store.{Slot, decode}
-use Rattle.store.specs.Promises.{entryAt, valueStart}
+use Rattle.store.specs.Store.{Slot, decode, entryAt}
+use Rattle.store.specs.Layout.{valueStart}
 use Rattle.compare.specs.declared.Which.{Which}
 use Rattle.compare.specs.declared.Which.the-variants.{First, Second, Neither, Refused}
 use Rattle.compare.specs.declared.Place.{Place}

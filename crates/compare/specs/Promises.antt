@@ -8,8 +8,8 @@ use lib.ListN.{getD}
 use Rattle.wire.specs.Bytes.{text}
 use Rattle.store.specs.declared.Found.{Found}
 use Rattle.store.specs.declared.Found.the-variants as founds
-use Rattle.store.specs.Store.{Entry, Slot, decode}
-use Rattle.store.specs.Promises.{Held, entryAt}
+use Rattle.store.specs.Store.{Entry, Slot, decode, entryAt}
+use Rattle.store.specs.Promises.{Held}
 use Rattle.compare.specs.declared.Which.{Which}
 use Rattle.compare.specs.declared.Pass.{Pass}
 use Rattle.compare.specs.declared.Pass.the-variants as passes
@@ -55,7 +55,7 @@ markFor pass instant other e = Option·getD (passMark pass instant other e) noMa
 unfoldable pub marked : ℕ → ℕ → ℕ → ℕ → List ℕ
 marked mark key field slot = mark ∷ (spaced key ++ (spaced field ++ (spaced slot ++ text "\n")))
 
--- what a pass writes of slot i, of the slots from i on, and of all
+-- what a pass writes of slot i, and of all slots
 unfoldable pub slotText : Pass → ℕ → List ℕ → List ℕ → ℕ → List ℕ
 slotText pass instant b other i = listingOf (lineOf instant (passMark pass instant (decode other .slots)) i (getD (decode b .slots) i none))
 

@@ -6,8 +6,8 @@ use store::read;
 use wire::bytes::equal;
 ghost use mathlib.Core.Path.{_≡_};
 ghost use mathlib.Core.Bool.{true};
-ghost use Rattle.store.specs.Store.{decode, wellFormed};
-ghost use Rattle.store.specs.Promises.{Held, entryAt, foundFor};
+ghost use Rattle.store.specs.Store.{decode, wellFormed, entryAt};
+ghost use Rattle.store.specs.Promises.{Held, foundFor};
 ghost use Rattle.compare.specs.Listing.{liveSlotOf, sameExpiry, agree};
 
 // The slot in which a key and a field are live at an instant; the hint's slot is looked at first.

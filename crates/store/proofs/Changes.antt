@@ -14,9 +14,9 @@ use Rattle.wire.specs.Bytes.{toLE, part}
 use Rattle.wire.proofs.ByteLaws.{length-toLE}
 use Rattle.store.specs.declared.Expiry.{Expiry}
 use Rattle.store.specs.Layout.{headerSize, slotSize, clockSize, reservedSize, timeLimit, versionMost}
-use Rattle.store.specs.Store.{Entry, Slot, Store, slotCount, decode, encodeEntry, encodeSlot, encode, clash, instantOf, wellFormed, withClock}
+use Rattle.store.specs.Store.{Entry, Slot, Store, slotCount, decode, encodeEntry, encodeSlot, encode, clash, instantOf, wellFormed, withClock, entryAt}
 use Rattle.store.specs.Time.{emptySlot}
-use Rattle.store.specs.Promises.{Held, Holds, Placeable, entryAt, withSlot, stamped, stampedBytes}
+use Rattle.store.specs.Promises.{Held, Holds, Placeable, withSlot, stamped, stampedBytes}
 use Rattle.store.specs.Valid.{Fits, FitsSlot, AllFit, Valid}
 use Rattle.store.proofs.Put.{getD-set, apart-set}
 use Rattle.store.proofs.SlotBytes.{length-encodeSlot}

@@ -11,10 +11,10 @@ use Rattle.wire.specs.Lists.{orElse}
 use Rattle.wire.specs.Bytes.{part}
 use Rattle.wire.proofs.Lists.{all-at, both-ways}
 use Rattle.wire.proofs.ByteLaws.{bytes-part}
-use Rattle.store.specs.Layout.{headerSize, slotSize, slotsMost, stateAt, valueLengthAt, valueAt, emptyState}
-use Rattle.store.specs.Store.{decodeSlot, decodeEntry, slotCount, slotBytes, slotWell, decode, wellFormed}
+use Rattle.store.specs.Layout.{headerSize, slotSize, slotsMost, stateAt, valueLengthAt, valueAt, emptyState, valueStart}
+use Rattle.store.specs.Store.{decodeSlot, decodeEntry, slotCount, slotBytes, slotWell, decode, wellFormed, entryAt}
 use Rattle.store.specs.Time.{emptySlot}
-use Rattle.store.specs.Promises.{SlotBytes, HeldBytes, Held, entryAt, valueStart, slotAt}
+use Rattle.store.specs.Promises.{SlotBytes, HeldBytes, Held, slotAt}
 use Rattle.store.proofs.Pieces.{length-part}
 use Rattle.store.proofs.Encode.{well-formed, length-decode, length-slotsIn, decode-valid}
 use Rattle.store.proofs.Places.{slot-part, decode-at}

@@ -1,5 +1,5 @@
 -- Every number of the store's layout, by its name (01, "The store's bytes").
-use Prim.Native.Nat.{ℕ}
+use Prim.Native.Nat.{ℕ, _+_, _*_}
 
 -- "A store is 16+128·n bytes, n from 1 to 500. First 8: the latest clock, low first; next 8: zero."
 abbrev pub headerSize : ℕ
@@ -60,6 +60,10 @@ valueAt = 64
 
 abbrev pub valueMost : ℕ
 valueMost = 64
+
+-- where the value of slot i begins in the store's bytes
+unfoldable pub valueStart : ℕ → ℕ
+valueStart i = headerSize + slotSize * i + valueAt
 
 -- the three states of a slot: "0 empty, 1 held, 2 held with expiry"
 abbrev pub emptyState : ℕ

@@ -7,14 +7,14 @@ use Prim.Native.Nat.{ℕ, _+_, _-_, _*_, _/_, _%_, _^_, _≤_, _<_}
 use lib.Bits.{bitAnd, bitOr, bitXor}
 use lib.Dec.{eqb}
 use lib.ListN.{length, drop, getD, set}
-use Rattle.wire.specs.Lists.{every, all, any, orElse}
+use Rattle.wire.specs.Lists.{every, all, any}
 use Rattle.wire.specs.Bytes.{Bytes, fromLE, part, toLE}
 use Rattle.store.specs.declared.Expiry.{Expiry}
 use Rattle.store.specs.declared.Expiry.the-variants.{At}
 use Rattle.store.specs.declared.Found.{Found}
 use Rattle.store.specs.declared.Found.the-variants as founds
-use Rattle.store.specs.Layout.{headerSize, slotSize, stateAt, keyLengthAt, keyAt, keyMost, fieldAt, fieldMost, valueAt, emptyState, versionSize, expirySize}
-use Rattle.store.specs.Store.{Entry, blank, withVersion, withExpiry, Slot, Store, withSlots, decodeSlot, slotsIn, decode, slotsWithin, slotCount, slotWell, sizeTests, wellFormed, instantOf, holds, clash, distinct, stateOf}
+use Rattle.store.specs.Layout.{headerSize, slotSize, stateAt, keyLengthAt, keyAt, keyMost, fieldAt, fieldMost, emptyState, versionSize, expirySize}
+use Rattle.store.specs.Store.{Entry, withVersion, withExpiry, Slot, Store, withSlots, decodeSlot, slotsIn, decode, slotsWithin, slotCount, slotWell, sizeTests, wellFormed, instantOf, holds, clash, distinct, stateOf}
 use Rattle.store.specs.Valid.{Short, Fits}
 use Rattle.store.specs.Time.{lowestSlot, emptySlot}
 
@@ -125,14 +125,6 @@ pub record Held (b : List ℕ) (i : ℕ) : Type 0 where
   pub well : wellFormed b ≡ true
   pub inside : i < slotCount b
   pub held : emptySlot (getD (decode b .slots) i none) ≡ false
-
--- the entry of a slot; an empty one where there is none
-unfoldable pub entryAt : List Slot → ℕ → Entry
-entryAt ss i = orElse (getD ss i none) blank (λ e. e)
-
--- where the value of slot i begins in a store's bytes
-unfoldable pub valueStart : ℕ → ℕ
-valueStart i = headerSize + slotSize * i + valueAt
 
 -- bytes are a well-formed store that holds s
 pub record Holds (b : List ℕ) (s : Store) : Type 0 where

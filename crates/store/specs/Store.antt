@@ -40,6 +40,10 @@ withExpiry x e = entry (e .key) (e .field) (e .value) (e .version) x
 abbrev pub Slot : Type 0
 Slot = Option Entry
 
+-- the entry of slot i; an empty one where there is none
+unfoldable pub entryAt : List Slot → ℕ → Entry
+entryAt ss i = orElse (getD ss i none) blank (λ e. e)
+
 pub record Store : Type 0 where
   pub clock : ℕ
   pub slots : List Slot

@@ -24,8 +24,8 @@ ghost use lib.ListN.{length};
 ghost use Prim.Native.Nat.{_≤_, _<_};
 ghost use Rattle.wire.specs.Bytes.{padded};
 ghost use Rattle.store.specs.Layout.{slotSize, timeLimit, versionMost};
-ghost use Rattle.store.specs.Store.{decode, wellFormed, slotCount, encodeEntry, stateOf, instantOf, withClock, entry};
-ghost use Rattle.store.specs.Promises.{Held, Holds, Placeable, Writable, withSlot, entryAt, stamped, stampedBytes};
+ghost use Rattle.store.specs.Store.{decode, wellFormed, slotCount, encodeEntry, stateOf, instantOf, withClock, entry, entryAt};
+ghost use Rattle.store.specs.Promises.{Held, Holds, Placeable, Writable, withSlot, stamped, stampedBytes};
 
 // Sets the clock.
 pub fn set_clock(store: &mut [u8], time: u64)

@@ -11,9 +11,10 @@ ghost use mathlib.Core.Bool.{true};
 ghost use mathlib.Core.Option.{none};
 ghost use lib.ListN.{length, getD};
 ghost use Prim.Native.Nat.{_<_};
-ghost use Rattle.store.specs.Store.{decode, wellFormed, slotCount};
+ghost use Rattle.store.specs.Store.{decode, wellFormed, slotCount, entryAt};
 ghost use Rattle.store.specs.Time.{nowAt, emptySlot, liveSlot};
-ghost use Rattle.store.specs.Promises.{Held, entryAt, valueStart};
+ghost use Rattle.store.specs.Layout.{valueStart};
+ghost use Rattle.store.specs.Promises.{Held};
 
 // How many slots a store has.
 pub fn slots(store: &[u8]) -> usize

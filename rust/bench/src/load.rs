@@ -8,7 +8,7 @@ use generate::layout::{
 
 const CLOCK: u64 = 1_700_000_000_000;
 /// The key of all fields.
-pub const MOB: &str = "mob";
+pub const KEY_HELD: &str = "mob";
 
 /// A store and pieces, how many records they complete, none of them refused, and by how many to
 /// divide the time.
@@ -71,15 +71,15 @@ pub fn day(slots: usize, held: usize, records: usize, order: Order) -> Load {
         match at % 5 {
             0 => {
                 versions[number] = version + 1;
-                record(&format!("EXHINCRBY {MOB} {field} 1 VER {version}"))
+                record(&format!("EXHINCRBY {KEY_HELD} {field} 1 VER {version}"))
             }
             1 => {
                 versions[number] = version.max(1);
-                record(&format!("EXHSET {MOB} {field} 0 NX"))
+                record(&format!("EXHSET {KEY_HELD} {field} 0 NX"))
             }
-            2 => record(&format!("EXHGET {MOB} {field}")),
-            3 => record(&format!("EXHVER {MOB} {field}")),
-            _ => record(&format!("EXHLEN {MOB}")),
+            2 => record(&format!("EXHGET {KEY_HELD} {field}")),
+            3 => record(&format!("EXHVER {KEY_HELD} {field}")),
+            _ => record(&format!("EXHLEN {KEY_HELD}")),
         }
     });
     let label = order.label();
@@ -122,7 +122,7 @@ pub fn noise(slots: usize, bytes: usize) -> Load {
 
 /// All fields of a full store.
 pub fn get_all(slots: usize, records: usize) -> Load {
-    let records = vec![record(&format!("EXHGETALL {MOB}")); records];
+    let records = vec![record(&format!("EXHGETALL {KEY_HELD}")); records];
     Load::of_records(
         format!("EXHGETALL of {slots}"),
         store(slots, slots, Order::Ascending),
@@ -136,7 +136,7 @@ pub fn set_many(slots: usize, pairs: usize, records: usize) -> Load {
     let one = |_| {
         let pair = |_| format!(" {} 1", tag(random.below(slots)));
         let pairs: String = (0..pairs).map(pair).collect();
-        record(&format!("EXHMSET {MOB}{pairs}"))
+        record(&format!("EXHMSET {KEY_HELD}{pairs}"))
     };
     let name = format!("EXHMSET of {pairs} pairs, {slots} slots held");
     let store = store(slots, slots, Order::Ascending);
@@ -146,7 +146,7 @@ pub fn set_many(slots: usize, pairs: usize, records: usize) -> Load {
 /// One field at a time.
 pub fn get(slots: usize, records: usize, order: Order) -> Load {
     let mut random = Random::new(5);
-    let one = |_| record(&format!("EXHGET {MOB} {}", tag(random.below(slots))));
+    let one = |_| record(&format!("EXHGET {KEY_HELD} {}", tag(random.below(slots))));
     let name = format!("EXHGET, {slots} slots held{}", order.label());
     let store = store(slots, slots, order);
     Load::of_records(name, store, (0..records).map(one).collect())
@@ -155,7 +155,7 @@ pub fn get(slots: usize, records: usize, order: Order) -> Load {
 /// One field at a time, where the check's filter has the same bits for all names.
 pub fn get_alike(slots: usize, records: usize) -> Load {
     let mut random = Random::new(7);
-    let one = |_| record(&format!("EXHGET {MOB} {}", alike(random.below(slots))));
+    let one = |_| record(&format!("EXHGET {KEY_HELD} {}", alike(random.below(slots))));
     let name = format!("EXHGET, {slots} slots held, names that share their bits");
     let store = store_of(slots, (0..slots).map(alike));
     Load::of_records(name, store, (0..records).map(one).collect())
@@ -163,7 +163,7 @@ pub fn get_alike(slots: usize, records: usize) -> Load {
 
 /// A record byte by byte, without its last byte: no call completes it.
 pub fn single_bytes(slots: usize) -> Load {
-    let record = record(&format!("EXHMGET {MOB}{}", " tag0000".repeat(60)));
+    let record = record(&format!("EXHMGET {KEY_HELD}{}", " tag0000".repeat(60)));
     let bytes = record[..record.len() - 1].iter();
     let pieces: Vec<Vec<u8>> = bytes.map(|byte| vec![*byte]).collect();
     Load {
@@ -194,11 +194,11 @@ pub fn store_of(slots: usize, fields: impl Iterator<Item = String>) -> Vec<u8> {
     let mut store = vec![0; store_size(slots)];
     for (slot, field) in store[HEADER..].chunks_mut(SLOT).zip(fields) {
         slot[STATE] = HELD;
-        slot[KEY_LENGTH] = MOB.len() as u8;
+        slot[KEY_LENGTH] = KEY_HELD.len() as u8;
         slot[FIELD_LENGTH] = field.len() as u8;
         slot[VALUE_LENGTH] = 1;
         slot[VERSION.start] = 1;
-        slot[KEY][..MOB.len()].copy_from_slice(MOB.as_bytes());
+        slot[KEY][..KEY_HELD.len()].copy_from_slice(KEY_HELD.as_bytes());
         slot[FIELD][..field.len()].copy_from_slice(field.as_bytes());
         slot[VALUE.start] = b'1';
     }

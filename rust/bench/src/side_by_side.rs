@@ -1,6 +1,6 @@
 //! Times of calls on two full stores.
 
-use crate::load::{MOB, Order, store, store_of, tag};
+use crate::load::{KEY_HELD, Order, store, store_of, tag};
 use crate::{in_turns, print_row};
 use generate::Random;
 use generate::layout::{HEADER, LEAST_LISTING_BUFFER, MOST_SLOTS, SLOT, VERSION};
@@ -59,13 +59,25 @@ fn list_by_model(sides: &Sides, out: &mut [u8]) -> usize {
 
 fn newer_by_library<'a>(sides: &'a Sides, field: &str) -> &'a [u8] {
     let Sides { first, second, .. } = sides;
-    let newer = exhash::newer(first, second, MOB.as_bytes(), field.as_bytes(), INSTANT);
+    let newer = exhash::newer(
+        first,
+        second,
+        KEY_HELD.as_bytes(),
+        field.as_bytes(),
+        INSTANT,
+    );
     newer.expect("nothing is damaged").expect("it is held").1
 }
 
 fn newer_by_model<'a>(sides: &'a Sides, field: &str) -> &'a [u8] {
     let Sides { first, second, .. } = sides;
-    model::newer_part(first, second, MOB.as_bytes(), field.as_bytes(), INSTANT)
+    model::newer_part(
+        first,
+        second,
+        KEY_HELD.as_bytes(),
+        field.as_bytes(),
+        INSTANT,
+    )
 }
 
 /// Nanoseconds of one listing.

@@ -24,14 +24,15 @@ pub struct Difference<'a> {
     pub field: &'a [u8],
 }
 
-/// The differences of two stores, in the listing's order.
+/// The differences of two stores, in the listing's order. Keys and fields are parts of the stores and
+/// outlive the listing's text.
 #[derive(Clone, Debug)]
-pub struct Differences<'a> {
+pub struct Differences<'a, 't> {
     first: &'a [u8],
     second: &'a [u8],
-    text: &'a [u8],
+    text: &'t [u8],
     /// What of the text is still to be read.
-    rest: &'a [u8],
+    rest: &'t [u8],
 }
 
 /// The store that has the newer value.
@@ -53,12 +54,12 @@ pub enum Which {
 /// }
 /// # Ok::<(), exhash::Refusal>(())
 /// ```
-pub fn compare<'a>(
+pub fn compare<'a, 't>(
     first: &'a [u8],
     second: &'a [u8],
     instant: u64,
-    out: &'a mut [u8],
-) -> Result<Differences<'a>, Refusal> {
+    out: &'t mut [u8],
+) -> Result<Differences<'a, 't>, Refusal> {
     let answer = interface::compare(first, second, instant, out);
     accepted(answer.refusal)?;
     let text = &out[..answer.written];
@@ -90,9 +91,9 @@ pub fn newer<'a>(
     Ok(Some((which, &store[place.start..][..place.size])))
 }
 
-impl<'a> Differences<'a> {
+impl<'a, 't> Differences<'a, 't> {
     /// The whole listing, also after some of it was read.
-    pub fn text(&self) -> &'a [u8] {
+    pub fn text(&self) -> &'t [u8] {
         self.text
     }
 
@@ -117,7 +118,7 @@ impl<'a> Differences<'a> {
     }
 }
 
-impl<'a> Iterator for Differences<'a> {
+impl<'a> Iterator for Differences<'a, '_> {
     type Item = Difference<'a>;
 
     fn next(&mut self) -> Option<Difference<'a>> {
@@ -129,4 +130,4 @@ impl<'a> Iterator for Differences<'a> {
     }
 }
 
-impl FusedIterator for Differences<'_> {}
+impl FusedIterator for Differences<'_, '_> {}

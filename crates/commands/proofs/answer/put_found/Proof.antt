@@ -1,6 +1,5 @@
 use denote.Ref.{now}
-use Rattle.store.specs.Store.{decode}
-use Rattle.store.specs.Promises.{entryAt}
+use Rattle.store.specs.Store.{decode, entryAt}
 use Rattle.commands.proofs.Answers.{found-room, laid-reply, value-reply, length-reply, exists-reply, versioned-reply, version-reply, seconds-reply, milliseconds-reply}
 use borrow.Author.Needs.{needs}
 use Rattle.commands.proofs.answer.put_found.Statement.{statement}

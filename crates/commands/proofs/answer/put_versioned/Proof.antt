@@ -4,8 +4,7 @@ use native.Mathlib.Omega.{arith}
 use denote.Ref.{now}
 use Rattle.wire.specs.Replies.{header, bulk, number}
 use Rattle.wire.proofs.ReplyLaying.{laid-tail, laid-within, tail-inside, tail-room, front-room}
-use Rattle.store.specs.Store.{decode}
-use Rattle.store.specs.Promises.{entryAt}
+use Rattle.store.specs.Store.{decode, entryAt}
 use Rattle.commands.proofs.Answers.{laid-reply, pair-reply, pair-room}
 use borrow.Author.Needs.{needs}
 use Rattle.commands.proofs.answer.put_versioned.Statement.{statement}

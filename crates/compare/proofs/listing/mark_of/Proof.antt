@@ -1,6 +1,5 @@
 use denote.Ref.{now}
-use Rattle.store.specs.Store.{decode}
-use Rattle.store.specs.Promises.{entryAt}
+use Rattle.store.specs.Store.{decode, entryAt}
 use Rattle.compare.proofs.MarkLaws.{live-held, mark-first, mark-second}
 use borrow.Author.Needs.{needs}
 use Rattle.compare.proofs.listing.mark_of.Statement.{statement}

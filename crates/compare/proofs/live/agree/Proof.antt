@@ -1,8 +1,7 @@
 use mathlib.Core.Path.{sym, _∙_}
 use borrow.Author.Tests.{not-true, not-false}
 use denote.Ref.{now}
-use Rattle.store.specs.Store.{decode}
-use Rattle.store.specs.Promises.{entryAt}
+use Rattle.store.specs.Store.{decode, entryAt}
 use Rattle.compare.proofs.MarkLaws.{other-value, other-version, same-version}
 use borrow.Author.Needs.{needs}
 use Rattle.compare.proofs.live.agree.Statement.{statement}

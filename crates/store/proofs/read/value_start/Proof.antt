@@ -1,6 +1,6 @@
 use native.Mathlib.Omega.{arith}
 use mathlib.Core.Path.{refl}
-use Rattle.store.specs.Promises.{valueStart}
+use Rattle.store.specs.Layout.{valueStart}
 use Rattle.store.proofs.ReadAt.{held-few}
 use Rattle.store.proofs.read.value_start.Statement.{statement}
 use Rattle.store.proofs.read.value_start.Tie as tie
