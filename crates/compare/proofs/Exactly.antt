@@ -1,14 +1,14 @@
 -- Which refusal is given, and which store has the newer value: exactly when.
 use mathlib.Core.Path.{_≡_, refl, sym, ap, subst, _∙_}
 use mathlib.Core.Logic.{_⊎_, inl, inr, _↔_}
-use mathlib.Core.Bool.{Bool, true, false, cond, not, _||_}
+use mathlib.Core.Bool.{Bool, true, false, not, _||_}
 use mathlib.Core.List.{List, [], _∷_}
 use mathlib.Core.Option.{Option, none, some}
 use Prim.Native.Nat.{ℕ, _≤_, _<_}
 use native.Mathlib.Omega.{arith}
 use lib.Dec.{leb, ltb}
 use lib.ListN.{length}
-use borrow.Author.Tests.{ltb-true, ltb-false, leb-true, leb-false, le-leb, lt-leb}
+use borrow.Author.Tests.{ltb-true, ltb-false, leb-true, leb-false}
 use Rattle.wire.specs.Lists.{orElse}
 use Rattle.wire.specs.Bytes.{part}
 use Rattle.wire.specs.Checks.{_when_, firstApplying}
@@ -23,14 +23,14 @@ use Rattle.store.proofs.ReadAt.{value-within}
 use Rattle.compare.specs.declared.Which.{Which}
 use Rattle.compare.specs.declared.Which.the-variants.{First, Second, Neither, Refused}
 use Rattle.compare.specs.Listing.{liveSlotOf, listing}
-use Rattle.compare.specs.Newer.{newerOf, newerSlot, placeOf, partAt}
+use Rattle.compare.specs.Newer.{placeOf, partAt}
 use Rattle.compare.specs.Calls.{checks, outputLeast, Answer, refusing, answering, compare, newerIn}
 use Rattle.compare.specs.Claims.{SameName, Outputs, LiveNamed, AtMost, Below, NoLive, Newest, Inside, Proper, Refusal}
 use Rattle.compare.specs.Claims.Refusal.{damagedFirst, damagedSecond, beforeFirst, beforeSecond, tooLate}
 use Rattle.compare.proofs.ListingSize.{listing-short}
 use Rattle.compare.proofs.CallChecks.{listing-checks}
 use Rattle.compare.proofs.ListedLines.{live-once, entry-here, search-some, search-none, search-only}
-use Rattle.compare.proofs.NewerPlaces.{in-first, in-second, first-held, second-held, first-shown, second-shown}
+use Rattle.compare.proofs.NewerPlaces.{Chosen, Answered, answered, first-held, second-held, first-shown, second-shown}
 
 -- ---- the checks
 
@@ -148,6 +148,11 @@ module _ (instant : ℕ) (k f : List ℕ) (ss : List Slot) where
       go none q = refl
       go (some j) q = absurd (h j (entryAt ss j) (search-shown j q))
 
+  -- what holds of the version in the slot that the search gives holds of every live one
+  by-search : (P : ℕ → Type 0) → Apart ss → ((j : ℕ) → liveSlotOf instant k f ss ≡ some j → P (entryAt ss j .version))
+      → (j : ℕ) (e : Entry) → LiveNamed instant k f ss j e → P (e .version)
+  by-search P a h j e s = subst (λ (g : Entry). P (g .version)) (shown-entry j e s) (h j (shown-search a j e s))
+
 -- ---- the newer value
 
 module _ (first second k f : List ℕ) (instant : ℕ) where
@@ -159,112 +164,87 @@ module _ (first second k f : List ℕ) (instant : ℕ) where
 
   pub first-exactly : (i : ℕ) → (newerIn first second k f instant ≡ First i)
       ↔ (Proper first second instant × ((e : Entry) × LiveNamed instant k f (decode first .slots) i e × AtMost instant k f (decode second .slots) (e .version)))
-  unfolding newerIn newerSlot newerOf orElse
-  first-exactly i = (there, back)
+  first-exactly i = (there (answered first second k f instant), λ q. back (answered first second k f instant) q)
     where
-      there : newerIn first second k f instant ≡ First i
+      there : {w : Which} → Answered first second k f instant w → w ≡ First i
           → Proper first second instant × ((e : Entry) × LiveNamed instant k f (decode first .slots) i e × AtMost instant k f (decode second .slots) (e .version))
-      there h =
-          let p = in-first first second k f instant i h in (
-            checks-pass first second instant .0 (p .passed .clear),
-            (
-              entryAt (decode first .slots) i,
-              search-shown instant k f (decode first .slots) i (p .live),
-              λ j g s.
-                  rw (← shown-entry instant k f (decode second .slots) j g s)
-                  (p .most j (shown-search instant k f (decode second .slots) (also-apart (p .passed .alsoWell)) j g s)),
-            ),
-          )
+      there (Answered.stopped r) h = impossible cc
+      there (Answered.named p (Chosen.inFirst m e l)) h =
+          let z : m ≡ i = cc in
+          let bound = by-search instant k f (decode second .slots) (λ n. n ≤ entryAt (decode first .slots) m .version) (also-apart (p .alsoWell)) l in
+          (checks-pass first second instant .0 (p .clear), rw (← z) (entryAt (decode first .slots) m, search-shown instant k f (decode first .slots) m e, bound))
+      there (Answered.named p (Chosen.inSecond j e l)) h = impossible cc
+      there (Answered.named p (Chosen.inNeither e l)) h = impossible cc
 
-      back : Proper first second instant × ((e : Entry) × LiveNamed instant k f (decode first .slots) i e × AtMost instant k f (decode second .slots) (e .version))
-          → newerIn first second k f instant ≡ First i
-      back q =
-          rw (checks-pass first second instant .1 (q .0), shown-search instant k f (decode first .slots) (apart (q .0 .well)) i (q .1 .0) (q .1 .1))
-          (go (liveSlotOf instant k f (decode second .slots)) refl)
-        where
-          go : (o : Option ℕ) → liveSlotOf instant k f (decode second .slots) ≡ o → newerOf (decode first .slots) (decode second .slots) (some i) o ≡ First i
-          go none r = refl
-          go (some j) r =
-              rw (
-                shown-entry instant k f (decode first .slots) i (q .1 .0) (q .1 .1),
-                le-leb (entryAt (decode second .slots) j .version) (q .1 .0 .version) (q .1 .2 j (entryAt (decode second .slots) j) (search-shown instant k f (decode second .slots) j r)),
-              )
+      back : {w : Which} → Answered first second k f instant w
+          → Proper first second instant × ((e : Entry) × LiveNamed instant k f (decode first .slots) i e × AtMost instant k f (decode second .slots) (e .version)) → w ≡ First i
+      back (Answered.stopped r) q = absurd (refusal-proper first second instant (checks-refuse first second instant _ .0 r) (q .0))
+      back (Answered.named p (Chosen.inFirst m e l)) q =
+          let here : some m ≡ some i = sym e ∙ shown-search instant k f (decode first .slots) (apart (p .well)) i (q .1 .0) (q .1 .1) in
+          let z : m ≡ i = cc in
+          ap First z
+      back (Answered.named p (Chosen.inSecond j e l)) q =
+          let below = by-search instant k f (decode first .slots) (λ n. n < entryAt (decode second .slots) j .version) (apart (p .well)) l i (q .1 .0) (q .1 .1) in
+          absurd (omega (arith, below, q .1 .2 j (entryAt (decode second .slots) j) (search-shown instant k f (decode second .slots) j e)))
+      back (Answered.named p (Chosen.inNeither e l)) q = absurd (search-no-live instant k f (decode first .slots) e i (q .1 .0) (q .1 .1))
 
   pub second-exactly : (j : ℕ) → (newerIn first second k f instant ≡ Second j)
       ↔ (Proper first second instant × ((e : Entry) × LiveNamed instant k f (decode second .slots) j e × Below instant k f (decode first .slots) (e .version)))
-  unfolding newerIn newerSlot newerOf orElse
-  second-exactly j = (there, back)
+  second-exactly j = (there (answered first second k f instant), λ q. back (answered first second k f instant) q)
     where
-      there : newerIn first second k f instant ≡ Second j
+      there : {w : Which} → Answered first second k f instant w → w ≡ Second j
           → Proper first second instant × ((e : Entry) × LiveNamed instant k f (decode second .slots) j e × Below instant k f (decode first .slots) (e .version))
-      there h =
-          let p = in-second first second k f instant j h in (
-            checks-pass first second instant .0 (p .passed .clear),
-            (
-              entryAt (decode second .slots) j,
-              search-shown instant k f (decode second .slots) j (p .live),
-              λ i g s.
-                  rw (← shown-entry instant k f (decode first .slots) i g s)
-                  (p .most i (shown-search instant k f (decode first .slots) (apart (p .passed .well)) i g s)),
-            ),
-          )
+      there (Answered.stopped r) h = impossible cc
+      there (Answered.named p (Chosen.inFirst i e l)) h = impossible cc
+      there (Answered.named p (Chosen.inSecond m e l)) h =
+          let z : m ≡ j = cc in
+          let bound = by-search instant k f (decode first .slots) (λ n. n < entryAt (decode second .slots) m .version) (apart (p .well)) l in
+          (checks-pass first second instant .0 (p .clear), rw (← z) (entryAt (decode second .slots) m, search-shown instant k f (decode second .slots) m e, bound))
+      there (Answered.named p (Chosen.inNeither e l)) h = impossible cc
 
-      back : Proper first second instant × ((e : Entry) × LiveNamed instant k f (decode second .slots) j e × Below instant k f (decode first .slots) (e .version))
-          → newerIn first second k f instant ≡ Second j
-      back q =
-          rw (checks-pass first second instant .1 (q .0), shown-search instant k f (decode second .slots) (also-apart (q .0 .alsoWell)) j (q .1 .0) (q .1 .1))
-          (go (liveSlotOf instant k f (decode first .slots)) refl)
-        where
-          go : (o : Option ℕ) → liveSlotOf instant k f (decode first .slots) ≡ o → newerOf (decode first .slots) (decode second .slots) o (some j) ≡ Second j
-          go none r = refl
-          go (some i) r =
-              rw (
-                shown-entry instant k f (decode second .slots) j (q .1 .0) (q .1 .1),
-                lt-leb (q .1 .0 .version) (entryAt (decode first .slots) i .version) (q .1 .2 i (entryAt (decode first .slots) i) (search-shown instant k f (decode first .slots) i r)),
-              )
+      back : {w : Which} → Answered first second k f instant w
+          → Proper first second instant × ((e : Entry) × LiveNamed instant k f (decode second .slots) j e × Below instant k f (decode first .slots) (e .version)) → w ≡ Second j
+      back (Answered.stopped r) q = absurd (refusal-proper first second instant (checks-refuse first second instant _ .0 r) (q .0))
+      back (Answered.named p (Chosen.inFirst i e l)) q =
+          let most = by-search instant k f (decode second .slots) (λ n. n ≤ entryAt (decode first .slots) i .version) (also-apart (p .alsoWell)) l j (q .1 .0) (q .1 .1) in
+          absurd (omega (arith, most, q .1 .2 i (entryAt (decode first .slots) i) (search-shown instant k f (decode first .slots) i e)))
+      back (Answered.named p (Chosen.inSecond m e l)) q =
+          let here : some m ≡ some j = sym e ∙ shown-search instant k f (decode second .slots) (also-apart (p .alsoWell)) j (q .1 .0) (q .1 .1) in
+          let z : m ≡ j = cc in
+          ap Second z
+      back (Answered.named p (Chosen.inNeither e l)) q = absurd (search-no-live instant k f (decode second .slots) l j (q .1 .0) (q .1 .1))
 
   pub neither-exactly : (newerIn first second k f instant ≡ Neither)
       ↔ (Proper first second instant × NoLive instant k f (decode first .slots) × NoLive instant k f (decode second .slots))
-  unfolding newerIn newerSlot newerOf orElse
-  neither-exactly = (λ h. there (firstApplying (checks first second instant)) refl h, back)
+  neither-exactly = (there (answered first second k f instant), λ q. back (answered first second k f instant) q)
     where
-      none-of : (o p : Option ℕ) → newerOf (decode first .slots) (decode second .slots) o p ≡ Neither → (o ≡ none) × (p ≡ none)
-      none-of none none h = (refl, refl)
-      none-of none (some j) h = impossible cc
-      none-of (some i) none h = impossible cc
-      none-of (some i) (some j) h = go (leb (entryAt (decode second .slots) j .version) (entryAt (decode first .slots) i .version)) h
-        where
-          go : (t : Bool) → cond t (First i) (Second j) ≡ Neither → (some i ≡ none) × (some j ≡ none)
-          go true q = impossible cc
-          go false q = impossible cc
-
-      there : (o : Option ℕ) → firstApplying (checks first second instant) ≡ o → orElse o (newerSlot instant k f (decode first .slots) (decode second .slots)) Refused ≡ Neither
+      there : {w : Which} → Answered first second k f instant w → w ≡ Neither
           → Proper first second instant × NoLive instant k f (decode first .slots) × NoLive instant k f (decode second .slots)
-      there none e h =
-          let q = none-of (liveSlotOf instant k f (decode first .slots)) (liveSlotOf instant k f (decode second .slots)) h in
-          (checks-pass first second instant .0 e, search-no-live instant k f (decode first .slots) (q .0), search-no-live instant k f (decode second .slots) (q .1))
-      there (some n) e h = impossible cc
+      there (Answered.stopped r) h = impossible cc
+      there (Answered.named p (Chosen.inFirst i e l)) h = impossible cc
+      there (Answered.named p (Chosen.inSecond j e l)) h = impossible cc
+      there (Answered.named p (Chosen.inNeither e l)) h =
+          (checks-pass first second instant .0 (p .clear), search-no-live instant k f (decode first .slots) e, search-no-live instant k f (decode second .slots) l)
 
-      back : Proper first second instant × NoLive instant k f (decode first .slots) × NoLive instant k f (decode second .slots) → newerIn first second k f instant ≡ Neither
-      back q = rw (checks-pass first second instant .1 (q .0), no-live-search instant k f (decode first .slots) (q .1), no-live-search instant k f (decode second .slots) (q .2))
+      back : {w : Which} → Answered first second k f instant w
+          → Proper first second instant × NoLive instant k f (decode first .slots) × NoLive instant k f (decode second .slots) → w ≡ Neither
+      back (Answered.stopped r) q = absurd (refusal-proper first second instant (checks-refuse first second instant _ .0 r) (q .0))
+      back (Answered.named p (Chosen.inFirst i e l)) q = absurd (q .1 i (entryAt (decode first .slots) i) (search-shown instant k f (decode first .slots) i e))
+      back (Answered.named p (Chosen.inSecond j e l)) q = absurd (q .2 j (entryAt (decode second .slots) j) (search-shown instant k f (decode second .slots) j e))
+      back (Answered.named p (Chosen.inNeither e l)) q = refl
 
   pub refused-exactly : (n : ℕ) → (newerIn first second k f instant ≡ Refused n) ↔ Refusal first second instant n
-  unfolding newerIn newerSlot newerOf orElse
-  refused-exactly n = (λ h. checks-refuse first second instant n .0 (there (firstApplying (checks first second instant)) refl h), λ r. rw (checks-refuse first second instant n .1 r))
+  refused-exactly n = (there (answered first second k f instant), λ q. back (answered first second k f instant) q)
     where
-      found : (o p : Option ℕ) → newerOf (decode first .slots) (decode second .slots) o p ≡ Refused n → ⊥
-      found none none h = impossible cc
-      found none (some j) h = impossible cc
-      found (some i) none h = impossible cc
-      found (some i) (some j) h = go (leb (entryAt (decode second .slots) j .version) (entryAt (decode first .slots) i .version)) h
-        where
-          go : (t : Bool) → cond t (First i) (Second j) ≡ Refused n → ⊥
-          go true q = impossible cc
-          go false q = impossible cc
+      there : {w : Which} → Answered first second k f instant w → w ≡ Refused n → Refusal first second instant n
+      there (Answered.stopped {m} r) h = let z : m ≡ n = cc in rw z at (checks-refuse first second instant m .0 r)
+      there (Answered.named p (Chosen.inFirst i e l)) h = impossible cc
+      there (Answered.named p (Chosen.inSecond j e l)) h = impossible cc
+      there (Answered.named p (Chosen.inNeither e l)) h = impossible cc
 
-      there : (o : Option ℕ) → firstApplying (checks first second instant) ≡ o → orElse o (newerSlot instant k f (decode first .slots) (decode second .slots)) Refused ≡ Refused n → o ≡ some n
-      there none e h = absurd (found (liveSlotOf instant k f (decode first .slots)) (liveSlotOf instant k f (decode second .slots)) h)
-      there (some m) e h = let z : m ≡ n = cc in ap some z
+      back : {w : Which} → Answered first second k f instant w → Refusal first second instant n → w ≡ Refused n
+      back (Answered.stopped {m} r) q = ap Refused (refusal-once first second instant (checks-refuse first second instant m .0 r) q)
+      back (Answered.named p c) q = absurd (refusal-proper first second instant q (checks-pass first second instant .0 (p .clear)))
 
 -- ---- the part that is shown
 

@@ -1,5 +1,5 @@
 -- The newer value: which store has it, and where.
-use mathlib.Core.Path.{_≡_, refl, sym, ap, _∙_}
+use mathlib.Core.Path.{_≡_, refl, sym, _∙_}
 use mathlib.Core.Bool.{Bool, true, false, cond}
 use mathlib.Core.List.{List}
 use mathlib.Core.Option.{Option, none, some}
@@ -15,7 +15,7 @@ use Rattle.store.specs.Store.{Slot, decode, entryAt}
 use Rattle.store.specs.Promises.{Held, foundFor}
 use Rattle.store.proofs.ReadAt.{value-part}
 use Rattle.compare.specs.declared.Which.{Which}
-use Rattle.compare.specs.declared.Which.the-variants.{First, Second, Refused}
+use Rattle.compare.specs.declared.Which.the-variants.{First, Second, Neither, Refused}
 use Rattle.compare.specs.Listing.{liveSlotOf}
 use Rattle.compare.specs.Newer.{newerOf, newerSlot, placeOf, partAt}
 use Rattle.compare.specs.Calls.{checks, newerIn}
@@ -44,84 +44,63 @@ module _ (first second k f : List ℕ) (instant : ℕ) where
 
 -- ---- what an answer says
 
--- the first store is named, with slot i
-pub record InFirst (first second k f : List ℕ) (instant i : ℕ) : Type 0 where
-  pub passed : Passed first second instant
-  pub live : liveSlotOf instant k f (decode first .slots) ≡ some i
-  pub most : (j : ℕ) → liveSlotOf instant k f (decode second .slots) ≡ some j → entryAt (decode second .slots) j .version ≤ entryAt (decode first .slots) i .version
+-- by the slots in which a name is live: which of them is named, and why
+pub data Chosen (a b : List Slot) (o p : Option ℕ) : Which → Type 0 where
+  inFirst : (i : ℕ) → o ≡ some i → ((j : ℕ) → p ≡ some j → entryAt b j .version ≤ entryAt a i .version) → Chosen a b o p (First i)
+  inSecond : (j : ℕ) → p ≡ some j → ((i : ℕ) → o ≡ some i → entryAt a i .version < entryAt b j .version) → Chosen a b o p (Second j)
+  inNeither : o ≡ none → p ≡ none → Chosen a b o p Neither
 
--- the second store is named, with slot j
-pub record InSecond (first second k f : List ℕ) (instant j : ℕ) : Type 0 where
-  pub passed : Passed first second instant
-  pub live : liveSlotOf instant k f (decode second .slots) ≡ some j
-  pub most : (i : ℕ) → liveSlotOf instant k f (decode first .slots) ≡ some i → entryAt (decode first .slots) i .version < entryAt (decode second .slots) j .version
-
-module _ (a b : List Slot) where
-  -- of two slots the first is named where the second's version is not higher
-  first-of : (o p : Option ℕ) (i : ℕ) → newerOf a b o p ≡ First i → (o ≡ some i) × ((j : ℕ) → p ≡ some j → entryAt b j .version ≤ entryAt a i .version)
-  unfolding newerOf
-  first-of none none i h = impossible cc
-  first-of none (some j) i h = impossible cc
-  first-of (some m) none i h = (cc, λ j e. impossible cc)
-  first-of (some m) (some n) i h = go (leb (entryAt b n .version) (entryAt a m .version)) refl h
-    where
-      go : (t : Bool) → leb (entryAt b n .version) (entryAt a m .version) ≡ t → cond t (First m) (Second n) ≡ First i
-          → (some m ≡ some i) × ((j : ℕ) → some n ≡ some j → entryAt b j .version ≤ entryAt a i .version)
-      go true q r =
-          let e : m ≡ i = cc in
-          (ap some e, λ j s. let z : n ≡ j = cc in rw (← e, ← z) (leb-true (entryAt b n .version) (entryAt a m .version) q))
-      go false q r = impossible cc
-
-  second-of : (o p : Option ℕ) (j : ℕ) → newerOf a b o p ≡ Second j → (p ≡ some j) × ((i : ℕ) → o ≡ some i → entryAt a i .version < entryAt b j .version)
-  unfolding newerOf
-  second-of none none j h = impossible cc
-  second-of none (some n) j h = (cc, λ i e. impossible cc)
-  second-of (some m) none j h = impossible cc
-  second-of (some m) (some n) j h = go (leb (entryAt b n .version) (entryAt a m .version)) refl h
-    where
-      go : (t : Bool) → leb (entryAt b n .version) (entryAt a m .version) ≡ t → cond t (First m) (Second n) ≡ Second j
-          → (some n ≡ some j) × ((i : ℕ) → some m ≡ some i → entryAt a i .version < entryAt b j .version)
-      go true q r = impossible cc
-      go false q r =
-          let e : n ≡ j = cc in
-          (ap some e, λ i s. let z : m ≡ i = cc in rw (← e, ← z) (leb-false (entryAt b n .version) (entryAt a m .version) q))
+chosen : (a b : List Slot) (o p : Option ℕ) → Chosen a b o p (newerOf a b o p)
+unfolding newerOf
+chosen a b none none = Chosen.inNeither refl refl
+chosen a b none (some n) = Chosen.inSecond n refl (λ i e. impossible cc)
+chosen a b (some m) none = Chosen.inFirst m refl (λ j e. impossible cc)
+chosen a b (some m) (some n) = go (leb (entryAt b n .version) (entryAt a m .version)) refl
+  where
+    go : (t : Bool) → leb (entryAt b n .version) (entryAt a m .version) ≡ t → Chosen a b (some m) (some n) (cond t (First m) (Second n))
+    go true q = Chosen.inFirst m refl (λ j e. let z : n ≡ j = cc in rw (← z) (leb-true (entryAt b n .version) (entryAt a m .version) q))
+    go false q = Chosen.inSecond n refl (λ i e. let z : m ≡ i = cc in rw (← z) (leb-false (entryAt b n .version) (entryAt a m .version) q))
 
 module _ (first second k f : List ℕ) (instant : ℕ) where
-  pub in-first : (i : ℕ) → newerIn first second k f instant ≡ First i → InFirst first second k f instant i
-  unfolding newerIn newerSlot orElse
-  in-first i h = go (firstApplying (checks first second instant)) refl h
-    where
-      go : (o : Option ℕ) → firstApplying (checks first second instant) ≡ o
-          → orElse o (newerOf (decode first .slots) (decode second .slots) (liveSlotOf instant k f (decode first .slots)) (liveSlotOf instant k f (decode second .slots))) Refused ≡ First i
-          → InFirst first second k f instant i
-      go none e q =
-          let z = first-of (decode first .slots) (decode second .slots) _ _ i q in
-          record { passed = passed first second instant e; live = z .0; most = z .1 }
-      go (some n) e q = impossible cc
+  -- the call is refused, or one is named
+  pub data Answered : Which → Type 0 where
+    stopped : {m : ℕ} → firstApplying (checks first second instant) ≡ some m → Answered (Refused m)
+    named :
+        {w : Which} → Passed first second instant
+        → Chosen (decode first .slots) (decode second .slots) (liveSlotOf instant k f (decode first .slots)) (liveSlotOf instant k f (decode second .slots)) w → Answered w
 
-  pub in-second : (j : ℕ) → newerIn first second k f instant ≡ Second j → InSecond first second k f instant j
+  pub answered : Answered (newerIn first second k f instant)
   unfolding newerIn newerSlot orElse
-  in-second j h = go (firstApplying (checks first second instant)) refl h
+  answered = go (firstApplying (checks first second instant)) refl
     where
       go : (o : Option ℕ) → firstApplying (checks first second instant) ≡ o
-          → orElse o (newerOf (decode first .slots) (decode second .slots) (liveSlotOf instant k f (decode first .slots)) (liveSlotOf instant k f (decode second .slots))) Refused ≡ Second j
-          → InSecond first second k f instant j
-      go none e q =
-          let z = second-of (decode first .slots) (decode second .slots) _ _ j q in
-          record { passed = passed first second instant e; live = z .0; most = z .1 }
-      go (some n) e q = impossible cc
+          → Answered (orElse o (newerOf (decode first .slots) (decode second .slots) (liveSlotOf instant k f (decode first .slots)) (liveSlotOf instant k f (decode second .slots))) Refused)
+      go none e = Answered.named (passed first second instant e) (chosen (decode first .slots) (decode second .slots) (liveSlotOf instant k f (decode first .slots)) (liveSlotOf instant k f (decode second .slots)))
+      go (some n) e = Answered.stopped e
 
   pub first-held : (i : ℕ) → newerIn first second k f instant ≡ First i → Held first i
   unfolding foundFor
-  first-held i h =
-      let p = in-first i h in
-      live-held first k f instant {found = founds.At i} (p .passed .well) (rw (p .live)) i refl
+  first-held i = go answered
+    where
+      go : {w : Which} → Answered w → w ≡ First i → Held first i
+      go (Answered.stopped r) h = impossible cc
+      go (Answered.named p (Chosen.inFirst m e l)) h =
+          let z : m ≡ i = cc in
+          live-held first k f instant {found = founds.At i} (p .well) (rw (e, z)) i refl
+      go (Answered.named p (Chosen.inSecond j e l)) h = impossible cc
+      go (Answered.named p (Chosen.inNeither e l)) h = impossible cc
 
   pub second-held : (j : ℕ) → newerIn first second k f instant ≡ Second j → Held second j
   unfolding foundFor
-  second-held j h =
-      let p = in-second j h in
-      live-held second k f instant {found = founds.At j} (p .passed .alsoWell) (rw (p .live)) j refl
+  second-held j = go answered
+    where
+      go : {w : Which} → Answered w → w ≡ Second j → Held second j
+      go (Answered.stopped r) h = impossible cc
+      go (Answered.named p (Chosen.inFirst i e l)) h = impossible cc
+      go (Answered.named p (Chosen.inSecond m e l)) h =
+          let z : m ≡ j = cc in
+          live-held second k f instant {found = founds.At j} (p .alsoWell) (rw (e, z)) j refl
+      go (Answered.named p (Chosen.inNeither e l)) h = impossible cc
 
   -- ---- the part that is shown
 
