@@ -31,7 +31,7 @@ def read(path):
 
 
 def is_proof(path):
-    return os.path.basename(path) in ("Proof.antt", "Answers.antt", "Invariants.antt")
+    return os.path.basename(path) in ("Proof.antt", "Answers.antt", "Invariants.antt") and not path.endswith("/proofs/Answers.antt")
 
 
 def declared(texts):

@@ -1,5 +1,7 @@
 // Reads the second implementation's cases from standard input: streams, each with its answers (rust/make_cases has the form). Feeds each stream from a
 // fresh feeder, uncut and in pieces of 7 bytes and of 1, and writes in how many cases replies, skipped bytes, waiting bytes and store are the case's.
+#![tactic(auto)]
+
 ghost use Rattle.std.specs.Prelude.{◌<◌, ◌≤◌};
 
 use commands::execute::BUFFER_LEAST;

@@ -33,14 +33,14 @@ use Rattle.commands.proofs.Replies.{answer_short}
 -- ---- signs
 
 -- An entry without expiry has no time left.
-pub left-never : (now unit : ℕ) {x : Expiry} → x ≡ Never → record { negative = true; magnitude = 1 } ≡ time_left_of now unit x
+pub left_never : (now unit : ℕ) {x : Expiry} → x ≡ Never → record { negative = true; magnitude = 1 } ≡ time_left_of now unit x
 unfolding time_left_of time_left signed_for
-left-never now unit h = rw h refl
+left_never now unit h = rw h refl
 
 -- What is left up to a later instant
-pub left-later : (now unit : ℕ) {x : Expiry} {t : ℕ} → x ≡ At t → record { negative = false; magnitude = (t - now) / unit } ≡ time_left_of now unit x
+pub left_later : (now unit : ℕ) {x : Expiry} {t : ℕ} → x ≡ At t → record { negative = false; magnitude = (t - now) / unit } ≡ time_left_of now unit x
 unfolding time_left_of time_left signed_for
-left-later now unit h = rw h refl
+left_later now unit h = rw h refl
 
 -- and of an instant that is over.
 pub left_over : (now unit : ℕ) {x : Expiry} {t : ℕ} → x ≡ At t → t ≤ now → record { negative = false; magnitude = 0 } ≡ time_left_of now unit x
@@ -50,15 +50,15 @@ left_over now unit {t = t} h l =
     rw (h, none_left, zero-div unit) refl
 
 -- A missing field of a key that exists, and of one that does not.
-pub version-missing : (now : ℕ) (k : List ℕ) (ss : List Slot) {r : Bool} → r ≡ key_exists now k ss → r ≡ true
+pub version_missing : (now : ℕ) (k : List ℕ) (ss : List Slot) {r : Bool} → r ≡ key_exists now k ss → r ≡ true
     → record { negative = true; magnitude = 2 } ≡ no_version_of now k ss
 unfolding no_version_of signed_for
-version-missing now k ss h g = rw (← h, g) refl
+version_missing now k ss h g = rw (← h, g) refl
 
-pub key-missing : (now : ℕ) (k : List ℕ) (ss : List Slot) {r : Bool} → r ≡ key_exists now k ss → r ≡ false
+pub key_missing : (now : ℕ) (k : List ℕ) (ss : List Slot) {r : Bool} → r ≡ key_exists now k ss → r ≡ false
     → record { negative = true; magnitude = 1 } ≡ no_version_of now k ss
 unfolding no_version_of signed_for
-key-missing now k ss h g = rw (← h, g) refl
+key_missing now k ss h g = rw (← h, g) refl
 
 -- ---- the entry of a slot
 
@@ -68,47 +68,47 @@ held_fits {b} {i} h = subst FitsSlot (held_entry (decode b).slots i h.held) ((de
 -- ---- room
 
 -- There is room for what is replied of a slot's entry,
-pub found-room : (time : ℕ) (q : Question) {b x : List ℕ} {i n : ℕ} → Held b i → answer_most ≤ n → reply time [] [] q (some (entry_at (decode b).slots i)) ≡ x → length x ≤ n
-found-room time q {b} {i = i} h l e = rw (← e) (omega (arith, (answer_short time [] [] q (some (entry_at (decode b).slots i)) (held_fits h)).short))
+pub found_room : (time : ℕ) (q : Question) {b x : List ℕ} {i n : ℕ} → Held b i → answer_most ≤ n → reply time [] [] q (some (entry_at (decode b).slots i)) ≡ x → length x ≤ n
+found_room time q {b} {i = i} h l e = rw (← e) (omega (arith, (answer_short time [] [] q (some (entry_at (decode b).slots i)) (held_fits h)).short))
 
 -- and of a missing field.
-pub missing-room : (time : ℕ) (ss : List Slot) (k : List ℕ) (q : Question) {x : List ℕ} {n : ℕ} → answer_most ≤ n → reply time ss k q none ≡ x → length x ≤ n
-missing-room time ss k q l e = rw (← e) (omega (arith, (answer_short time ss k q none tt).short))
+pub missing_room : (time : ℕ) (ss : List Slot) (k : List ℕ) (q : Question) {x : List ℕ} {n : ℕ} → answer_most ≤ n → reply time ss k q none ≡ x → length x ≤ n
+missing_room time ss k q l e = rw (← e) (omega (arith, (answer_short time ss k q none tt).short))
 
 -- What is laid is the reply.
-pub laid-reply : {x y d e : List ℕ} {r : ℕ} → x ≡ y → Laid y d e r → Laid x d e r
-laid-reply h l = rw h l
+pub laid_reply : {x y d e : List ℕ} {r : ℕ} → x ≡ y → Laid y d e r → Laid x d e r
+laid_reply h l = rw h l
 
 -- ---- the reply where the field is there
 
 module _ (time : ℕ) (e : Entry) {q : Question} where
-  pub value-reply : {v : List ℕ} → q ≡ Value → v ≡ e.value → reply time [] [] q (some e) ≡ bulk v
+  pub value_reply : {v : List ℕ} → q ≡ Value → v ≡ e.value → reply time [] [] q (some e) ≡ bulk v
   unfolding reply or_else
-  value-reply h g = rw (h, g) refl
+  value_reply h g = rw (h, g) refl
 
-  pub length-reply : {v : List ℕ} → q ≡ Length → v ≡ e.value → reply time [] [] q (some e) ≡ number (length v)
+  pub length_reply : {v : List ℕ} → q ≡ Length → v ≡ e.value → reply time [] [] q (some e) ≡ number (length v)
   unfolding reply or_else
-  length-reply h g = rw (h, g) refl
+  length_reply h g = rw (h, g) refl
 
-  pub exists-reply : q ≡ Exists → reply time [] [] q (some e) ≡ number 1
+  pub exists_reply : q ≡ Exists → reply time [] [] q (some e) ≡ number 1
   unfolding reply or_else
-  exists-reply h = rw h refl
+  exists_reply h = rw h refl
 
-  pub versioned-reply : q ≡ Versioned → reply time [] [] q (some e) ≡ array (bulk e.value ∷ number e.version ∷ [])
+  pub versioned_reply : q ≡ Versioned → reply time [] [] q (some e) ≡ array (bulk e.value ∷ number e.version ∷ [])
   unfolding reply or_else
-  versioned-reply h = rw h refl
+  versioned_reply h = rw h refl
 
-  pub version-reply : {n : ℕ} → q ≡ Version → n ≡ e.version → reply time [] [] q (some e) ≡ number n
+  pub version_reply : {n : ℕ} → q ≡ Version → n ≡ e.version → reply time [] [] q (some e) ≡ number n
   unfolding reply or_else
-  version-reply h g = rw (h, g) refl
+  version_reply h g = rw (h, g) refl
 
-  pub seconds-reply : {x : Expiry} {s : Signed} → q ≡ Seconds → x ≡ e.expiry → s ≡ time_left_of time 1000 x → reply time [] [] q (some e) ≡ integer (integer_of s)
+  pub seconds_reply : {x : Expiry} {s : Signed} → q ≡ Seconds → x ≡ e.expiry → s ≡ time_left_of time 1000 x → reply time [] [] q (some e) ≡ integer (integer_of s)
   unfolding reply or_else time_left_of
-  seconds-reply h g f = rw (h, f, g, sign_said) refl
+  seconds_reply h g f = rw (h, f, g, sign_said) refl
 
-  pub milliseconds-reply : {x : Expiry} {s : Signed} → q ≡ Milliseconds → x ≡ e.expiry → s ≡ time_left_of time 1 x → reply time [] [] q (some e) ≡ integer (integer_of s)
+  pub milliseconds_reply : {x : Expiry} {s : Signed} → q ≡ Milliseconds → x ≡ e.expiry → s ≡ time_left_of time 1 x → reply time [] [] q (some e) ≡ integer (integer_of s)
   unfolding reply or_else time_left_of
-  milliseconds-reply h g f = rw (h, f, g, sign_said) refl
+  milliseconds_reply h g f = rw (h, f, g, sign_said) refl
 
 -- An array of two elements is its header and the elements.
 pub pair_parts : (x y : List ℕ) → array (x ∷ y ∷ []) ≡ (header 2 ++ x) ++ y
@@ -116,13 +116,13 @@ unfolding array flatten
 pair_parts x y = ap (λ z. header 2 ++ (x ++ z)) (append-nil y) ∙ sym (append_assoc (header 2) x y)
 
 -- An array of value and version
-pub pair-reply : {v w : List ℕ} {m n : ℕ} → v ≡ w → m ≡ n → array (bulk w ∷ number n ∷ []) ≡ (header 2 ++ bulk v) ++ number m
-pair-reply {w = w} {n = n} g f = rw (g, f) (pair_parts (bulk w) (number n))
+pub pair_reply : {v w : List ℕ} {m n : ℕ} → v ≡ w → m ≡ n → array (bulk w ∷ number n ∷ []) ≡ (header 2 ++ bulk v) ++ number m
+pair_reply {w = w} {n = n} g f = rw (g, f) (pair_parts (bulk w) (number n))
 
 -- has room.
-pub pair-room : {b v : List ℕ} {i m n : ℕ} → Held b i → answer_most ≤ n → v ≡ (entry_at (decode b).slots i).value → m ≡ (entry_at (decode b).slots i).version
+pub pair_room : {b v : List ℕ} {i m n : ℕ} → Held b i → answer_most ≤ n → v ≡ (entry_at (decode b).slots i).value → m ≡ (entry_at (decode b).slots i).version
     → length ((header 2 ++ bulk v) ++ number m) ≤ n
-pair-room {b} {i = i} h l g f = found-room 0 Versioned h l (versioned-reply 0 (entry_at (decode b).slots i) refl ∙ pair-reply g f)
+pair_room {b} {i = i} h l g f = found_room 0 Versioned h l (versioned_reply 0 (entry_at (decode b).slots i) refl ∙ pair_reply g f)
 
 -- ---- the reply where the field is missing
 
@@ -131,64 +131,64 @@ module _ (time : ℕ) (ss : List Slot) (k : List ℕ) {q : Question} where
   unfolding reply or_else
   no_value h = rw h refl
 
-  pub no-versioned : q ≡ Versioned → reply time ss k q none ≡ nil
+  pub no_versioned : q ≡ Versioned → reply time ss k q none ≡ nil
   unfolding reply or_else
-  no-versioned h = rw h refl
+  no_versioned h = rw h refl
 
   pub no_length : q ≡ Length → reply time ss k q none ≡ number 0
   unfolding reply or_else
   no_length h = rw h refl
 
-  pub no-exists : q ≡ Exists → reply time ss k q none ≡ number 0
+  pub no_exists : q ≡ Exists → reply time ss k q none ≡ number 0
   unfolding reply or_else
-  no-exists h = rw h refl
+  no_exists h = rw h refl
 
-  pub no-version : {s : Signed} → q ≡ Version → s ≡ no_version_of time k ss → reply time ss k q none ≡ integer (integer_of s)
+  pub no_version : {s : Signed} → q ≡ Version → s ≡ no_version_of time k ss → reply time ss k q none ≡ integer (integer_of s)
   unfolding reply or_else no_version_of
-  no-version h g = rw (h, g, sign_said) refl
+  no_version h g = rw (h, g, sign_said) refl
 
-  pub no-seconds : q ≡ Seconds → reply time ss k q none ≡ integer (integer_of (record { negative = true; magnitude = 2 }))
+  pub no_seconds : q ≡ Seconds → reply time ss k q none ≡ integer (integer_of (record { negative = true; magnitude = 2 }))
   unfolding reply or_else integer_of
-  no-seconds h = rw h refl
+  no_seconds h = rw h refl
 
-  pub no-milliseconds : q ≡ Milliseconds → reply time ss k q none ≡ integer (integer_of (record { negative = true; magnitude = 2 }))
+  pub no_milliseconds : q ≡ Milliseconds → reply time ss k q none ≡ integer (integer_of (record { negative = true; magnitude = 2 }))
   unfolding reply or_else integer_of
-  no-milliseconds h = rw h refl
+  no_milliseconds h = rw h refl
 
 -- ---- the entry that was looked for
 
 -- The reply about an entry does not look at the slots.
-reply-found : (time : ℕ) (ss : List Slot) (k : List ℕ) (q : Question) (e : Entry) → reply time ss k q (some e) ≡ reply time [] [] q (some e)
+reply_found : (time : ℕ) (ss : List Slot) (k : List ℕ) (q : Question) (e : Entry) → reply time ss k q (some e) ≡ reply time [] [] q (some e)
 unfolding reply or_else
-reply-found time ss k Value e = refl
-reply-found time ss k Length e = refl
-reply-found time ss k Exists e = refl
-reply-found time ss k Versioned e = refl
-reply-found time ss k Version e = refl
-reply-found time ss k Seconds e = refl
-reply-found time ss k Milliseconds e = refl
+reply_found time ss k Value e = refl
+reply_found time ss k Length e = refl
+reply_found time ss k Exists e = refl
+reply_found time ss k Versioned e = refl
+reply_found time ss k Version e = refl
+reply_found time ss k Seconds e = refl
+reply_found time ss k Milliseconds e = refl
 
 module _ (b k f : List ℕ) {r : Found} (h : Looked b k f r) where
   -- A slot that was found holds an entry,
-  pub looked-held : {i : ℕ} → well_formed b ≡ true → r ≡ founds.At i → Held b i
-  looked-held {i} w e = named_held (holds k f) b i (holds_none k f) w (sym e ∙ h)
+  pub looked_held : {i : ℕ} → well_formed b ≡ true → r ≡ founds.At i → Held b i
+  looked_held {i} w e = named_held (holds k f) b i (holds_none k f) w (sym e ∙ h)
 
   -- that of the key and the field;
-  pub looked-entry : {i : ℕ} → well_formed b ≡ true → r ≡ founds.At i → entry_of k f (decode b).slots ≡ some (entry_at (decode b).slots i)
-  looked-entry {i} w e =
+  pub looked_entry : {i : ℕ} → well_formed b ≡ true → r ≡ founds.At i → entry_of k f (decode b).slots ≡ some (entry_at (decode b).slots i)
+  looked_entry {i} w e =
       entry_at_lowest k f (decode b).slots i (found_at (lowest_slot (holds k f) (decode b).slots) i (sym e ∙ h))
-      ∙ held_entry (decode b).slots i (looked-held w e).held
+      ∙ held_entry (decode b).slots i (looked_held w e).held
 
   -- where none was found, there is none.
-  pub looked-missing : r ≡ founds.Nothing → entry_of k f (decode b).slots ≡ none
-  looked-missing e = lowest_entry_none k f (decode b).slots (found_nothing (lowest_slot (holds k f) (decode b).slots) (sym e ∙ h))
+  pub looked_missing : r ≡ founds.Nothing → entry_of k f (decode b).slots ≡ none
+  looked_missing e = lowest_entry_none k f (decode b).slots (found_nothing (lowest_slot (holds k f) (decode b).slots) (sym e ∙ h))
 
   -- The answer to a question about the field, in both cases
-  pub found-reply : (time : ℕ) (q : Question) {i : ℕ} → well_formed b ≡ true → r ≡ founds.At i
+  pub found_reply : (time : ℕ) (q : Question) {i : ℕ} → well_formed b ≡ true → r ≡ founds.At i
       → answer_about time b k q f ≡ reply time [] [] q (some (entry_at (decode b).slots i))
   unfolding answer_about
-  found-reply time q {i} w e = rw (looked-entry w e) (reply-found time (decode b).slots k q (entry_at (decode b).slots i))
+  found_reply time q {i} w e = rw (looked_entry w e) (reply_found time (decode b).slots k q (entry_at (decode b).slots i))
 
-  pub missing-reply : (time : ℕ) (q : Question) → r ≡ founds.Nothing → answer_about time b k q f ≡ reply time (decode b).slots k q none
+  pub missing_reply : (time : ℕ) (q : Question) → r ≡ founds.Nothing → answer_about time b k q f ≡ reply time (decode b).slots k q none
   unfolding answer_about
-  missing-reply time q e = ap (reply time (decode b).slots k q) (looked-missing e)
+  missing_reply time q e = ap (reply time (decode b).slots k q) (looked_missing e)

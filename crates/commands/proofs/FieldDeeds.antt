@@ -48,7 +48,7 @@ use Rattle.commands.specs.Effect.{writing, is_stale, next_version, setter_versio
 use Rattle.commands.specs.ParsePromises.{is_refusal}
 use Rattle.commands.specs.Promises.{HeldAt, FoundIn, Sought, Storable, Wrote, Changes, answer_most, entry_for, look_for, slot_after, held_version, held_expiry, versioned, expiring, bounded_sum, incremented, fields_added, write_settled}
 use Rattle.commands.proofs.Replies.{error_short, few_short}
-use Rattle.commands.proofs.Answers.{held_fits, looked-held, looked-entry, looked-missing}
+use Rattle.commands.proofs.Answers.{held_fits, looked_held, looked_entry, looked_missing}
 use Rattle.commands.proofs.Writes.{next_expiry_lem}
 use Rattle.commands.proofs.Acts.{after_look, may_place}
 use Rattle.commands.proofs.VersionPlans.{stale_is, version_is, expiry_is, setter_held}
@@ -73,7 +73,7 @@ may_integer z h l = omega (arith, length_integer64 z h)
 module _ {b k f : List ℕ} {found : Found} (s : Sought b k f found) where
   -- A slot that was found holds an entry,
   pub sought_held : HeldAt b found
-  sought_held i e = looked-held b k f s.looked s.well e
+  sought_held i e = looked_held b k f s.looked s.well e
 
   pub sought_found : FoundIn b found
   sought_found = record { well = s.well; held = sought_held }
@@ -84,8 +84,8 @@ module _ {b k f : List ℕ} {found : Found} (s : Sought b k f found) where
   sought_entry = go found refl
     where
       go : (r : Found) → found ≡ r → entry_of k f (decode b).slots ≡ entry_for (decode b).slots r
-      go (founds.At i) q = looked-entry b k f s.looked s.well q
-      go founds.Nothing q = looked-missing b k f s.looked q
+      go (founds.At i) q = looked_entry b k f s.looked s.well q
+      go founds.Nothing q = looked_missing b k f s.looked q
 
 module _ {b : List ℕ} {found : Found} (h : HeldAt b found) where
   -- It fits its slot,

@@ -1,4 +1,6 @@
 // Commands: what a command asks, and what it says of a version, an expiry and a condition.
+#![tactic(auto)]
+
 mod act;
 mod answer;
 mod counts;

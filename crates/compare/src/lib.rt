@@ -1,4 +1,6 @@
 // Two stores side by side: a listing of what they differ in, and the newer value of one field. Neither store changes.
+#![tactic(auto)]
+
 mod check;
 mod line;
 pub mod listing;

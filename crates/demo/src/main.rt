@@ -9,6 +9,8 @@
 //   %  an instant, a key and a field: shows the newer value, and whose it is
 //   .  says what happened
 // Any other line is written as it stands.
+#![tactic(auto)]
+
 ghost use Rattle.std.specs.Prelude.{◌≡◌, true, ◌≤◌, ◌<◌, length};
 ghost use Rattle.store.specs.Store.{well_formed, slot_count};
 ghost use Rattle.store.specs.Promises.{Held};

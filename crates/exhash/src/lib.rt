@@ -1,4 +1,6 @@
 // The C interface: thin exported functions, no logic. None has a `requires`: each answers and never traps, whatever bytes it gets.
+#![tactic(auto)]
+
 ghost use Rattle.std.specs.Prelude.{◌≡◌, cond};
 ghost use Rattle.store.specs.Store.{well_formed};
 ghost use Rattle.compare.specs.Newer.{place_of};

@@ -1,4 +1,5 @@
 // The feeder: records from a byte stream that arrives in pieces.
+#![tactic(auto)]
 
 mod absorb;
 pub mod feed;

@@ -1,5 +1,7 @@
 // Does the rows of standard input, each on an empty store of two slots, and writes each command with its reply, and then what the store holds. A row is
 // a line that names it and a line for each command: the record's clock, and the words with one space between. An empty line stands between rows.
+#![tactic(auto)]
+
 ghost use Rattle.std.specs.Prelude.{◌≡◌, true, ◌+◌, ◌≤◌, ◌<◌, length};
 ghost use Rattle.store.specs.Store.{well_formed, slot_count};
 ghost use Rattle.store.specs.Promises.{Held};

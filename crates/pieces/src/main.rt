@@ -1,5 +1,7 @@
 // Feeds the stream of standard input uncut, and then in pieces of 1, 2, 7 and 1,000 bytes, each way from a fresh feeder and an empty store of four
 // slots, and writes what each way comes to and whether it comes to the same as uncut.
+#![tactic(auto)]
+
 ghost use Rattle.std.specs.Prelude.{◌<◌, ◌≤◌};
 
 use commands::execute::BUFFER_LEAST;

@@ -1,6 +1,8 @@
 // Reads searches from standard input: a store after its size in 4 bytes, low first, then a key and a field, each after its length in one byte. Writes a
 // line for each: the slot that holds them, or `-`, and how many bytes were compared; `2` where the store is not well formed. At most 400,000
 // bytes are read.
+#![tactic(auto)]
+
 ghost use Rattle.std.specs.Prelude.{◌≤◌, ◌<◌, length};
 
 use libc::{STDIN_FILENO, STDOUT_FILENO};

@@ -1,4 +1,6 @@
 // The store: fields in lent bytes. The crates above see what the bytes mean, never the bytes.
+#![tactic(auto)]
+
 pub mod change;
 pub mod check;
 mod duplicates;

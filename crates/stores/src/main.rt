@@ -1,4 +1,6 @@
 // Reads stores from standard input, each after its size in 4 bytes, low first, and writes a line for each: 1 where it is well formed, else 0.
+#![tactic(auto)]
+
 ghost use Rattle.std.specs.Prelude.{◌≤◌, ◌<◌, length};
 
 use libc::{STDIN_FILENO, STDOUT_FILENO};

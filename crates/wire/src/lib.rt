@@ -1,4 +1,6 @@
 // Numbers and words: what bytes spell.
+#![tactic(auto)]
+
 pub mod bytes;
 pub mod integers;
 pub mod names;

@@ -2,7 +2,7 @@ use mathlib.Core.Path.{sym}
 use native.Mathlib.Omega.{arith}
 use Rattle.wire.proofs.ReplyLaying.{laid_tail, laid_within}
 use Rattle.commands.specs.Promises.{answer_most}
-use Rattle.commands.proofs.Answers.{laid-reply}
+use Rattle.commands.proofs.Answers.{laid_reply}
 use Rattle.wire.proofs.Elements.{tail_spare}
 use Rattle.commands.proofs.FieldLoops.{header_room, header_inside, answers_begin, answers_spare, answers_room}
 use Rattle.commands.proofs.KeyDone.{does_many}
@@ -32,7 +32,7 @@ add-result c =
     omega (arith, laid_within (laid_tail c.before.before.before.before.before.before.before.before.put_header.ensures c.before.before.put_answers.ensures) (answers_room a.time _ a.key.now a.question a.command.now a.fields.now c.before.before.before.before.before.before.before.before.before.before.before.before.sweep_fields.ensures.well start.requires.few start.requires.room))
 
 returns : tie.Need-returns
-returns c = let back2 = c.before.before in let back8 = back2.before.before.before.before.before.before in does_many _ _ _ _ _ back8.before.before.before.before.sweep_fields.ensures (laid-reply (sym (answers_begin _ _ _)) (laid_tail back8.put_header.ensures back2.put_answers.ensures))
+returns c = let back2 = c.before.before in let back8 = back2.before.before.before.before.before.before in does_many _ _ _ _ _ back8.before.before.before.before.sweep_fields.ensures (laid_reply (sym (answers_begin _ _ _)) (laid_tail back8.put_header.ensures back2.put_answers.ensures))
 
 pub get-many-spec : {M : Type 1} → statement M
 get-many-spec =

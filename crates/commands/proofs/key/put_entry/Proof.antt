@@ -1,6 +1,6 @@
 use native.Mathlib.Omega.{arith}
 use Rattle.wire.proofs.ReplyLaying.{laid_tail, laid_within, tail_inside, tail_room}
-use Rattle.commands.proofs.Answers.{laid-reply}
+use Rattle.commands.proofs.Answers.{laid_reply}
 use Rattle.commands.proofs.ListedSlots.{shown_field, shown_value, shown_both, field_room, value_room, first_room, both_room}
 use borrow.Author.Rules.{rules}
 use Rattle.commands.proofs.key.put_entry.Statement.{statement}
@@ -28,13 +28,13 @@ add-result : tie.Need-overflow-add-result
 add-result c = omega (arith, laid_within (laid_tail c.before.before.before.before.before.before.before.put_bulk3.ensures c.before.before.put_bulk4.ensures) (both_room _ c.before.before.before.before.before.before.before.before.before.before.before.before.before.before.requires.1 c.before.before.before.before.before.before.before.before.before.before.enum_told3.given.1 c.before.before.before.before.before.before.before.before.before.field2.ensures c.before.before.before.before.value2.ensures))
 
 returns : tie.Need-returns
-returns c = laid-reply (shown_field _ c.before.before.before.before.before.enum_told.given.1 c.before.before.before.before.field.ensures) c.before.before.put_bulk.ensures
+returns c = laid_reply (shown_field _ c.before.before.before.before.before.enum_told.given.1 c.before.before.before.before.field.ensures) c.before.before.put_bulk.ensures
 
 returns-2 : tie.Need-returns-2
-returns-2 c = laid-reply (shown_value _ c.before.before.before.before.before.enum_told2.given.1 c.before.before.before.before.value.ensures) c.before.before.put_bulk2.ensures
+returns-2 c = laid_reply (shown_value _ c.before.before.before.before.before.enum_told2.given.1 c.before.before.before.before.value.ensures) c.before.before.put_bulk2.ensures
 
 returns-3 : tie.Need-returns-3
-returns-3 c = let back2 = c.before.before in let back4 = back2.before.before in let back7 = back4.before.before.before in let back9 = back7.before.before in laid-reply (shown_both _ back9.before.enum_told3.given.1 back9.field2.ensures back4.value2.ensures) (laid_tail back7.put_bulk3.ensures back2.put_bulk4.ensures)
+returns-3 c = let back2 = c.before.before in let back4 = back2.before.before in let back7 = back4.before.before.before in let back9 = back7.before.before in laid_reply (shown_both _ back9.before.enum_told3.given.1 back9.field2.ensures back4.value2.ensures) (laid_tail back7.put_bulk3.ensures back2.put_bulk4.ensures)
 
 pub put-entry-spec : {M : Type 1} → statement M
 put-entry-spec =

@@ -1,7 +1,7 @@
 use mathlib.Core.Path.{sym}
 use native.Mathlib.Omega.{arith}
 use Rattle.wire.proofs.ReplyLaying.{laid_tail, laid_within, tail_room}
-use Rattle.commands.proofs.Answers.{laid-reply}
+use Rattle.commands.proofs.Answers.{laid_reply}
 use Rattle.commands.proofs.FieldLoops.{header_room, header_inside, entries_begin, entries_room, entries_few}
 use borrow.Author.Rules.{rules}
 use Rattle.commands.proofs.key.put_list.Statement.{statement}
@@ -35,7 +35,7 @@ add-result c =
     omega (arith, laid_within (laid_tail c.before.before.before.before.before.before.put_header.ensures c.before.before.put_listed.ensures) (entries_room _ _ _ _ c.before.before.before.before.before.before.before.before.before.count_live.ensures c.before.before.before.before.before.before.before.before.width.ensures start.requires.0 start.requires.1))
 
 returns : tie.Need-returns
-returns c = let back2 = c.before.before in let back6 = back2.before.before.before.before in let back8 = back6.before.before in laid-reply (sym (entries_begin _ _ _ _ back8.before.count_live.ensures back8.width.ensures)) (laid_tail back6.put_header.ensures back2.put_listed.ensures)
+returns c = let back2 = c.before.before in let back6 = back2.before.before.before.before in let back8 = back6.before.before in laid_reply (sym (entries_begin _ _ _ _ back8.before.count_live.ensures back8.width.ensures)) (laid_tail back6.put_header.ensures back2.put_listed.ensures)
 
 pub put-list-spec : {M : Type 1} → statement M
 put-list-spec =

@@ -1,0 +1,23 @@
+use native.Mathlib.Omega.{arith}
+use Rattle.wire.proofs.IntegerSigns.{integer_empty, plain_value, plain_refused, minus_value, minus_zero, minus_refused}
+use borrow.Author.Rules.{rules}
+use Rattle.wire.proofs.integers.read_integer.Goals as goal
+
+-- With no minus a text is read as a number, and else what follows it. The laws say each return of what `read_natural` answered.
+pub returns-then-s-eq0 : goal.returns-then-s-eq0
+returns-then-s-eq0 c = integer_empty c.args.s.now c.if-s-eq0.true
+
+pub returns-in-Value : goal.returns-in-Value
+returns-in-Value c = plain_value c.args.s.now c.read_natural-read.ensures c.if-s-ne45.true c.in-Value.n c.in-Value.is
+
+pub returns-in-Refused : goal.returns-in-Refused
+returns-in-Refused c = plain_refused c.args.s.now c.read_natural-read.ensures c.if-s-ne45.true c.in-Refused.is
+
+pub returns-then-n-eq0 : goal.returns-then-n-eq0
+returns-then-n-eq0 c = minus_zero c.args.s.now c.read_natural-read-2.ensures (omega arith) c.if-s-ne45.false c.in-Value-read.n c.in-Value-read.is c.if-n-eq0.true
+
+pub returns-else-n-eq0 : goal.returns-else-n-eq0
+returns-else-n-eq0 c = minus_value c.args.s.now c.read_natural-read-2.ensures (omega arith) c.if-s-ne45.false c.in-Value-read.n c.in-Value-read.is c.if-n-eq0.false
+
+pub returns-in-Refused-read : goal.returns-in-Refused-read
+returns-in-Refused-read c = minus_refused c.args.s.now c.read_natural-read-2.ensures (omega arith) c.if-s-ne45.false c.in-Refused-read.is

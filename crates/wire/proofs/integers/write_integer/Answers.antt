@@ -1,0 +1,44 @@
+-- A minus goes before the magnitude, which is written into the tail; with no minus the magnitude is all.
+use mathlib.Core.Path.{◌≡◌, ap, ◌∙◌}
+use mathlib.Core.Logic.{⊎_elim}
+use Prim.Native.Nat.{◌-◌}
+use native.Mathlib.Omega.{arith}
+use borrow.Rule.Slice.PartMut.{same_len_mid}
+use lib.ListN.{length, set, length-set}
+use Rattle.wire.proofs.Lists.{both_ways}
+use Rattle.wire.proofs.ReplyLaying.{laid_first, length_tail}
+use Rattle.wire.proofs.IntegerSigns.{text_minus, text_plain}
+use Rattle.wire.proofs.integers.write_integer.Goals as goal
+
+pub bounds-out-0 : goal.bounds-out-0
+bounds-out-0 c = omega (arith, ap length (text_minus c.args.z c.if-z.true c.if-z-gt0.true))
+
+pub slice_bounds-write_natural-count : goal.slice_bounds-write_natural-count
+slice_bounds-write_natural-count c = simp length-set (omega (arith, ap length (text_minus c.args.z c.if-z.true c.if-z-gt0.true)))
+
+pub slice_bounds-write_natural-start : goal.slice_bounds-write_natural-start
+slice_bounds-write_natural-start c = simp length-set (omega (arith, ap length (text_minus c.args.z c.if-z.true c.if-z-gt0.true)))
+
+pub write_natural-requires : goal.write_natural-requires
+write_natural-requires c =
+    let minus = ap length (text_minus c.args.z c.if-z.true c.if-z-gt0.true) in
+    omega (arith, minus, length_tail 45 c.args.out.now (omega (arith, minus)))
+
+pub overflow_add-result : goal.overflow_add-result
+overflow_add-result c = omega (arith, c.write_natural.ensures.size, ap length (text_minus c.args.z c.if-z.true c.if-z-gt0.true))
+
+pub shape_of-out-then-z-gt0 : goal.shape_of-out-then-z-gt0
+shape_of-out-then-z-gt0 c =
+    same_len_mid 1 (length (set c.args.out.now 0 45) - 1) (set c.args.out.now 0 45) c.write_natural.new.out c.write_natural.auto.out
+    ∙ length-set c.args.out.now 0 45
+
+pub returns-then-z-gt0 : goal.returns-then-z-gt0
+returns-then-z-gt0 c =
+    let minus = text_minus c.args.z c.if-z.true c.if-z-gt0.true in
+    rw minus (laid_first 45 (omega (arith, ap length minus)) c.write_natural.ensures)
+
+pub write_natural-requires-2 : goal.write_natural-requires-2
+write_natural-requires-2 c = rw (text_plain c.args.z (⊎_elim (λ w n. omega (arith, w.1)) (λ w n. both_ways n w) c.else-z.either)) at c.requires
+
+pub returns : goal.returns
+returns c = rw (text_plain c.args.z (⊎_elim (λ w n. omega (arith, w.1)) (λ w n. both_ways n w) c.else-z.either)) c.write_natural-2.ensures

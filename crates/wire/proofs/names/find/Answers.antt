@@ -1,0 +1,33 @@
+use mathlib.Core.Path.{◌≡◌, sym, ap, ◌∙◌}
+use Prim.Native.Nat.{◌≤◌, ◌-◌, ◌/◌}
+use native.Mathlib.Nat.{sub-zero}
+use native.Mathlib.Omega.{arith}
+use borrow.Author.Rules.{rules}
+use lib.ListN.{length}
+use Rattle.wire.specs.Promises.{row_size, row_for, row_from, row_named}
+use Rattle.wire.proofs.NameRows.{row_hit, row_skip, row_end}
+use Rattle.wire.proofs.names.find.Goals as goal
+
+pub loop-i-init : goal.loop-i-init
+unfolding row_named
+loop-i-init c = (omega arith, rw (sub-zero (length c.args.table.now / row_size)))
+
+pub overflow_cast-end : goal.overflow_cast-end
+overflow_cast-end c = omega (arith, c.requires.short c.loop-i.i)
+
+pub overflow_add-end : goal.overflow_add-end
+overflow_add-end c = omega (arith, c.requires.short c.loop-i.i)
+
+pub slice_bounds-spells-end : goal.slice_bounds-spells-end
+slice_bounds-spells-end c = omega (arith, c.requires.short c.loop-i.i)
+
+pub returns-then-spells : goal.returns-then-spells
+unfolding row_for
+returns-then-spells c = ap row_for (sym (row_hit _ _ _ _ c.loop-i-test.true _ c.spells.ensures c.if-spells.true) ∙ c.loop-i.invariant.1)
+
+pub loop-i-preserved : goal.loop-i-preserved
+loop-i-preserved c = (omega arith, sym (row_skip _ _ _ _ c.loop-i-test.true _ c.spells.ensures c.if-spells.false) ∙ c.loop-i.invariant.1)
+
+pub returns : goal.returns
+unfolding row_for
+returns c = ap row_for (sym (row_end _ _ _ _ c.loop-i-test.false) ∙ c.loop-i.invariant.1)

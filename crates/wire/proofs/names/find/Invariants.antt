@@ -1,0 +1,16 @@
+use mathlib.Core.Path.{◌≡◌, sym, ap, ◌∙◌}
+use Prim.Native.Nat.{◌≤◌, ◌-◌, ◌/◌}
+use native.Mathlib.Nat.{sub-zero}
+use native.Mathlib.Omega.{arith}
+use borrow.Author.Rules.{rules}
+use lib.ListN.{length}
+use Rattle.wire.specs.Promises.{row_size, row_for, row_from, row_named}
+use Rattle.wire.proofs.NameRows.{row_hit, row_skip, row_end}
+use Rattle.wire.proofs.names.find.Given as goal
+
+-- The rows from row i on do the same as all rows. The measure is how many are left.
+abbrev pub invariant-loop-i : goal.invariant-loop-i
+invariant-loop-i l = (l.i ≤ l.rows) × (row_from (l.rows - l.i) l.i l.table l.word ≡ row_named l.table l.word)
+
+abbrev pub decreases-loop-i : goal.decreases-loop-i
+decreases-loop-i l = l.rows - l.i

@@ -1,0 +1,19 @@
+use mathlib.Core.Path.{◌≡◌, refl, sym, ◌∙◌}
+use Prim.Native.Nat.{◌+◌, ◌-◌}
+use borrow.Author.Rules.{rules}
+use lib.ListN.{length, drop}
+use Rattle.wire.specs.Words.{before_cr}
+use Rattle.wire.proofs.WordPlaces.{line_here, line_on, line_past}
+use Rattle.wire.proofs.words.line_end.Goals as goal
+
+pub loop-i-init : goal.loop-i-init
+loop-i-init c = refl
+
+pub returns-then-s-i-eq13 : goal.returns-then-s-i-eq13
+returns-then-s-i-eq13 c = line_here _ _ c.loop-i-test.true c.if-s-i-eq13.true ∙ c.loop-i.invariant
+
+pub loop-i-preserved : goal.loop-i-preserved
+loop-i-preserved c = sym (line_on _ _ c.loop-i-test.true c.if-s-i-eq13.false) ∙ c.loop-i.invariant
+
+pub returns : goal.returns
+returns c = line_past _ _ c.loop-i-test.false ∙ c.loop-i.invariant

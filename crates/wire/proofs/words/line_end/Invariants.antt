@@ -1,0 +1,14 @@
+use mathlib.Core.Path.{◌≡◌, refl, sym, ◌∙◌}
+use Prim.Native.Nat.{◌+◌, ◌-◌}
+use borrow.Author.Rules.{rules}
+use lib.ListN.{length, drop}
+use Rattle.wire.specs.Words.{before_cr}
+use Rattle.wire.proofs.WordPlaces.{line_here, line_on, line_past}
+use Rattle.wire.proofs.words.line_end.Given as goal
+
+-- From place i on the first CR is the same as from the start. The measure is what is left of the bytes.
+abbrev pub invariant-loop-i : goal.invariant-loop-i
+invariant-loop-i l = l.i + length (before_cr (drop l.i l.s)) ≡ l.from + length (before_cr (drop l.from l.s))
+
+abbrev pub decreases-loop-i : goal.decreases-loop-i
+decreases-loop-i l = length l.s - l.i

@@ -1,0 +1,39 @@
+use mathlib.Core.Path.{◌≡◌, refl, sym, ◌∙◌}
+use Prim.Native.Nat.{◌-◌}
+use native.Mathlib.Omega.{arith}
+use borrow.Author.Rules.{rules}
+use lib.ListN.{length, length-set}
+use Rattle.wire.proofs.WordPlaces.{Progress, progress_begins, progress_goes_on, progress_damaged, progress_after, places_headless, places_none, places_all}
+use Rattle.wire.proofs.words.split.Goals as goal
+
+pub returns-in_default : goal.returns-in_default
+returns-in_default c = places_headless (sym c.in_default.is ∙ c.read_count-head.ensures)
+
+pub loop-i-init : goal.loop-i-init
+loop-i-init c = (progress_begins (sym c.in-Count.is ∙ c.read_count-head.ensures), refl)
+
+pub read_word-word-requires : goal.read_word-word-requires
+read_word-word-requires c = c.loop-i.invariant.0.within
+
+pub shape_of-places-in_default-word : goal.shape_of-places-in_default-word
+shape_of-places-in_default-word c = c.loop-i.invariant.1
+
+pub returns-in_default-word : goal.returns-in_default-word
+returns-in_default-word c =
+        places_none (sym c.in-Count.is ∙ c.read_count-head.ensures)
+    (progress_damaged c.loop-i.invariant.0 c.loop-i-test.true (sym c.in_default-word.is ∙ c.read_word-word.ensures))
+
+pub loop-i-preserved : goal.loop-i-preserved
+loop-i-preserved c = let inv = c.loop-i.invariant in (progress_goes_on inv.0 c.loop-i-test.true (omega arith) (sym c.in-Word.is ∙ c.read_word-word.ensures), rw length-set inv.1)
+
+pub shape_of-places-then-at-s : goal.shape_of-places-then-at-s
+shape_of-places-then-at-s c = c.loop-i.invariant.1
+
+pub returns-then-at-s : goal.returns-then-at-s
+returns-then-at-s c = places_none (sym c.in-Count.is ∙ c.read_count-head.ensures) (progress_after c.loop-i.invariant.0 c.loop-i-test.false c.if-at-s.true)
+
+pub shape_of-places : goal.shape_of-places
+shape_of-places c = c.loop-i.invariant.1
+
+pub returns : goal.returns
+returns c = places_all (sym c.in-Count.is ∙ c.read_count-head.ensures) c.loop-i.invariant.0 (omega (arith, c.loop-i.invariant.1)) c.loop-i-test.false c.if-at-s.false

@@ -1,0 +1,14 @@
+use mathlib.Core.Path.{◌≡◌, refl, sym, ◌∙◌}
+use Prim.Native.Nat.{◌-◌}
+use native.Mathlib.Omega.{arith}
+use borrow.Author.Rules.{rules}
+use lib.ListN.{length, length-set}
+use Rattle.wire.proofs.WordPlaces.{Progress, progress_begins, progress_goes_on, progress_damaged, progress_after, places_headless, places_none, places_all}
+use Rattle.wire.proofs.words.split.Given as goal
+
+-- The words found so far and the words left are the command's words. The measure is how many are left.
+abbrev pub invariant-loop-i : goal.invariant-loop-i
+invariant-loop-i l = Progress l.s l.places l.count l.first l.at l.i × (length l.places ≡ length l.initial.places)
+
+abbrev pub decreases-loop-i : goal.decreases-loop-i
+decreases-loop-i l = l.count - l.i
