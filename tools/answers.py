@@ -140,6 +140,60 @@ class Names:
         return []
 
 
+def opening(text):
+    """Where the bracket opens that the text ends with."""
+    depth = 0
+    for i in range(len(text) - 1, -1, -1):
+        if text[i] in ")}]":
+            depth += 1
+        elif text[i] in "({[":
+            depth -= 1
+            if depth == 0:
+                return i
+    return -1
+
+
+def parts_of(text):
+    """The parts of a tuple, or None."""
+    text = text.strip()
+    if not text.startswith("(") or opening(text) != 0 or not text.endswith(")"):
+        return None
+    out, depth, cur = [], 0, ""
+    for ch in text[1:-1]:
+        if ch in "({[":
+            depth += 1
+        if ch in ")}]":
+            depth -= 1
+        if ch == "," and depth == 0:
+            out.append(cur.strip())
+            cur = ""
+        else:
+            cur += ch
+    if cur.strip():
+        out.append(cur.strip())
+    return out if len(out) > 1 else None
+
+
+def as_record(text, labels):
+    """An answer to several clauses, which the older form had as nested pairs."""
+    text = text.rstrip()
+    lets = re.match(r"(\s*(let .*? in\s+)*)", text, re.S)
+    at = opening(text) if text.endswith(")") else -1
+    if at >= 0 and re.search(r"(^|\bin)\s*$", text[:at]) and parts_of(text[at:]):
+        parts = parts_of(text[at:])
+        while len(parts) < len(labels):
+            more = parts_of(parts[-1])
+            if not more:
+                break
+            parts = parts[:-1] + more
+        if len(parts) == len(labels):
+            return text[:at] + "record { " + "; ".join(f"{l} = {p}" for l, p in zip(labels, parts)) + " }"
+    head = text.rfind(" in ")
+    head = head + 4 if re.match(r"\s*let ", text) and head >= 0 else 0
+    paths = [".".join(["h"] + ["1"] * i + (["0"] if i < len(labels) - 1 else [])) for i in range(len(labels))]
+    return text[:head] + " let h = " + text[head:].strip() + " in record { " + "; ".join(f"{l} = {p}" for l, p in zip(labels, paths)) + " }"
+
+
 PATH = re.compile(rf"(?<![^\s(){{}},;@])([A-Za-z][^\s(){{}}.;,@\"«»`]*)((?:\.{TOKEN})*)")
 
 
@@ -317,6 +371,18 @@ def turn_file(folder, path, one, clauses, crate):
         if params != ["c"]:
             said.append(f"{name} takes {params}")
         text = turn_body(body[m2.end() :], names, place, said)
+        labels = []
+        if re.search(r"-requires(-|$)", new):
+            callee = new.split("-")[0]
+            near = [f for f in clauses if f.split("::")[-1] == callee and (f.startswith(crate + "::") or True)]
+            same = [f for f in near if f.rsplit("::", 1)[0] == function.rsplit("::", 1)[0]] or [f for f in near if f.startswith(crate + "::")] or near
+            labels = clauses[same[0]]["requires"] if same else []
+            if len(same) > 1 and len({tuple(clauses[f]["requires"]) for f in same}) > 1:
+                said.append(f"{new}: which of {same}")
+        elif re.match(r"returns(-|$)", new):
+            labels = clauses[function]["ensures"]
+        if len(labels) > 1:
+            text = as_record(text, labels)
         answers.append((new, "\n".join([*comment, f"pub {new} : goal.{new}", *unfolding, f"{new} c ={m2[2]}{text}"])))
     base = f"Rattle.{crate}.proofs.{rel.replace('/', '.')}"
     where = os.path.dirname(path)

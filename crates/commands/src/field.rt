@@ -27,14 +27,14 @@ use wire::integers::{Integer, Signed, add, at_most, read_integer, write_integer}
 use wire::replies::put_integer;
 
 // An entry was written in its place, or the number of its refusal.
-#[derive(Drop)]
+#[derive(Clone, Copy)]
 pub enum WriteOutcome {
     Done,
     Refused(u32),
 }
 
 // How a deed settled: the integer that it replies, the number of its refusal, or a question that is still to be answered.
-#[derive(Drop)]
+#[derive(Clone, Copy)]
 pub enum Settled {
     Replied(Signed),
     Refused(u32),

@@ -19,7 +19,7 @@ use store::Found;
 use wire::integers::Signed;
 
 // What decides an entry's version: nothing is given, VER v, ABS v, GT v.
-#[derive(Drop)]
+#[derive(Clone, Copy)]
 pub enum Versioning {
     Next,
     Match(u64),
@@ -28,7 +28,7 @@ pub enum Versioning {
 }
 
 // What becomes of an entry's expiry: it is cleared, kept (KEEPTTL) or set to an instant in ms.
-#[derive(Drop)]
+#[derive(Clone, Copy)]
 pub enum Lifetime {
     Clear,
     Keep,
@@ -36,7 +36,7 @@ pub enum Lifetime {
 }
 
 // Where EXHSET may write: anywhere, on a missing field (NX), on a live one (XX).
-#[derive(Drop)]
+#[derive(Clone, Copy)]
 pub enum Condition {
     Always,
     Missing,
@@ -44,7 +44,7 @@ pub enum Condition {
 }
 
 // What is asked of one field: EXHGET, EXHSTRLEN, EXHEXISTS, EXHGETWITHVER, EXHVER, EXHTTL, EXHPTTL.
-#[derive(Drop)]
+#[derive(Clone, Copy)]
 pub enum Question {
     Value,
     Length,
@@ -56,7 +56,7 @@ pub enum Question {
 }
 
 // What is listed of a key: EXHKEYS, EXHVALS, EXHGETALL.
-#[derive(Drop)]
+#[derive(Clone, Copy)]
 pub enum Listing {
     Fields,
     Values,
@@ -64,7 +64,7 @@ pub enum Listing {
 }
 
 // What EXHINCRBY adds, and the least and the greatest sum that it allows.
-#[derive(Drop)]
+#[derive(Clone, Copy)]
 pub struct Sum {
     pub amount: Signed,
     pub least: Signed,
@@ -72,28 +72,28 @@ pub struct Sum {
 }
 
 // What decides the version and the expiry of an entry that is written.
-#[derive(Drop)]
+#[derive(Clone, Copy)]
 pub struct Stamping {
     pub versioning: Versioning,
     pub lifetime: Lifetime,
 }
 
 // What a look for a field found, and the time of the look.
-#[derive(Drop)]
+#[derive(Clone, Copy)]
 pub struct Sight {
     pub found: Found,
     pub time: u64,
 }
 
 // What is asked about fields, and the time of the asking.
-#[derive(Drop)]
+#[derive(Clone, Copy)]
 pub struct Asking {
     pub question: Question,
     pub time: u64,
 }
 
 // What is done with one field; key and field are words 1 and 2 of the command, the value is word 3.
-#[derive(Drop)]
+#[derive(Clone, Copy)]
 pub enum FieldDeed {
     Assign(Condition, Versioning, Lifetime),
     Increment(Sum, Versioning, Lifetime),
@@ -104,7 +104,7 @@ pub enum FieldDeed {
 }
 
 // What is done with the fields of a key; the key is word 1, the fields or pairs follow it.
-#[derive(Drop)]
+#[derive(Clone, Copy)]
 pub enum KeyDeed {
     SetMany,
     GetMany(Question),
@@ -115,7 +115,7 @@ pub enum KeyDeed {
 }
 
 // A parsed command, or the number of its refusal.
-#[derive(Drop)]
+#[derive(Clone, Copy)]
 pub enum Parsed {
     Refused(u32),
     OnField(FieldDeed),
@@ -123,7 +123,7 @@ pub enum Parsed {
 }
 
 // What doing a command answers: the reply's length.
-#[derive(Drop)]
+#[derive(Clone, Copy)]
 pub struct Executed {
     pub replied: usize,
 }

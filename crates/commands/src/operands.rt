@@ -18,28 +18,28 @@ use wire::integers::{Integer, Natural, Signed, read_integer, read_natural};
 use wire::words::word;
 
 // A lifetime, or that its number is refused (16).
-#[derive(Drop)]
+#[derive(Clone, Copy)]
 pub enum Timed {
     Value(Lifetime),
     Refused,
 }
 
 // A versioning, or that its number is refused (16).
-#[derive(Drop)]
+#[derive(Clone, Copy)]
 pub enum Versioned {
     Value(Versioning),
     Refused,
 }
 
 // A versioning and a lifetime, or the number of the refusal (16 to 18).
-#[derive(Drop)]
+#[derive(Clone, Copy)]
 pub enum Terms {
     Value(Versioning, Lifetime),
     Refused(u32),
 }
 
 // What EXHINCRBY adds and its bounds, or that one of the numbers is refused (16).
-#[derive(Drop)]
+#[derive(Clone, Copy)]
 pub enum Added {
     Value(Sum),
     Refused,

@@ -16,7 +16,7 @@ const WITH_OPERAND: usize = 2;
 
 // The options that were given, by group: what the option says, and the number of its last word, its operand if it takes one.
 // The refusal is 0 where there is none.
-#[derive(Drop)]
+#[derive(Clone, Copy)]
 pub struct ScannedOptions {
     pub refusal: u32,
     pub said: [usize; GROUP_COUNT],
@@ -24,7 +24,7 @@ pub struct ScannedOptions {
 }
 
 // The option at a word of a command: its group, what it says there, and the number of its last word; or the number of its refusal.
-#[derive(Drop)]
+#[derive(Clone, Copy)]
 enum OptionFound {
     At(usize, usize, usize),
     Refused(u32),

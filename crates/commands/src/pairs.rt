@@ -19,7 +19,7 @@ use wire::replies::put_line;
 use wire::words::{WORDS_MOST, word};
 
 // What the pairs would do: pass the largest version (23), or add so many fields.
-#[derive(Drop)]
+#[derive(Clone, Copy)]
 pub enum Survey {
     Overflow,
     Added(usize),

@@ -9,14 +9,14 @@ pub mod newer;
 
 // What the listing's call answers: 0 or a refusal, and the listing's length.
 #[repr(C)]
-#[derive(Drop)]
+#[derive(Clone, Copy)]
 pub struct Compared {
     pub refusal: u32,
     pub written: usize,
 }
 
 // Which store has the newer value, in which of its slots; neither; or the number of the refusal.
-#[derive(Drop)]
+#[derive(Clone, Copy)]
 pub enum Which {
     First(usize),
     Second(usize),
@@ -26,7 +26,7 @@ pub enum Which {
 
 // The same as numbers, and the place of the value in that store's bytes: 0 neither, 1 the first store, 2 the second.
 #[repr(C)]
-#[derive(Drop)]
+#[derive(Clone, Copy)]
 pub struct Place {
     pub refusal: u32,
     pub which: u32,
@@ -35,7 +35,7 @@ pub struct Place {
 }
 
 // Whose slots are listed: the first store's, or the second's.
-#[derive(Drop)]
+#[derive(Clone, Copy)]
 pub enum Pass {
     First,
     Second,

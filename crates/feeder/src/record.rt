@@ -24,7 +24,7 @@ pub const RECORD_MOST: usize = COMMAND_AT + COMMAND_MOST;
 const LENGTH_HIGH_AT: usize = LENGTH_AT + 1;
 
 // A byte to skip, a record with a command of so many bytes, or too few bytes to tell.
-#[derive(Drop)]
+#[derive(Clone, Copy)]
 pub enum Head {
     Skip,
     Whole(usize),

@@ -5,7 +5,7 @@ ghost use Rattle.feeder.specs.Promises.{block_size, UnmarkedPairs, UnmarkedUpTo,
 use crate::record::{FIRST_MARK, Head, SECOND_MARK, head_at};
 
 // The first record, by its place and its command's size, or where the rest that waits starts.
-#[derive(Drop)]
+#[derive(Clone, Copy)]
 pub enum Stop {
     Record(usize, usize),
     Rest(usize),

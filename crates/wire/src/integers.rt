@@ -9,21 +9,21 @@ ghost use Rattle.wire.specs.Promises.{natural_for, integer_for, integer_of, Laid
 const LOWEST: u64 = 9223372036854775808;
 
 // A natural number that was read, or a refusal.
-#[derive(Drop)]
+#[derive(Clone, Copy)]
 pub enum Natural {
     Value(u64),
     Refused,
 }
 
 // An integer as sign and magnitude; 0 has no sign.
-#[derive(Drop)]
+#[derive(Clone, Copy)]
 pub struct Signed {
     pub negative: bool,
     pub magnitude: u64,
 }
 
 // An integer of signed 64 bits, or a refusal.
-#[derive(Drop)]
+#[derive(Clone, Copy)]
 pub enum Integer {
     Value(Signed),
     Refused,

@@ -7,7 +7,7 @@ ghost use Rattle.wire.specs.Promises.{Table, row_named, row_for};
 pub const ROW_SIZE: usize = 16;
 
 // The row of a name, or that there is none.
-#[derive(Drop)]
+#[derive(Clone, Copy)]
 pub enum RowFound {
     At(usize),
     Nothing,

@@ -8,7 +8,7 @@ ghost use Rattle.wire.specs.Promises.{words_in, Inside, Places, next_of, counted
 pub const WORDS_MOST: usize = 64;
 
 // The next word of a command, by its number, or the end of its words.
-#[derive(Drop)]
+#[derive(Clone, Copy)]
 pub enum Next {
     Word(usize),
     End,
@@ -21,14 +21,14 @@ pub fn next_word(count: usize, i: usize) -> Next
 }
 
 // What reading a count found: the count and the place after it.
-#[derive(Drop)]
+#[derive(Clone, Copy)]
 enum Counted {
     Count(usize, usize),
     Damaged,
 }
 
 // What reading a word found: where it starts, its size and the place after it.
-#[derive(Drop)]
+#[derive(Clone, Copy)]
 enum Placed {
     Word(usize, usize, usize),
     Damaged,

@@ -14,10 +14,10 @@ loop-i-preserved c = rw c.copy_word.ensures (fill_part _ _ _ _ 8 _ c.loop-i.inva
 
 pub shape_of-to : goal.shape_of-to
 shape_of-to c =
-        ap length c.copy_word-2.ensures
+    ap length c.copy_word-2.ensures
     ∙ fill_last_size c.args.from.now c.args.to.now c.loop-i.i 8 c.loop-i.to c.loop-i.invariant c.if-size-lt-WORD.false c.loop-i-test.false
 
 pub returns : goal.returns
 returns c =
-        c.copy_word-2.ensures
+    c.copy_word-2.ensures
     ∙ fill_last c.args.from.now c.args.to.now c.loop-i.i 8 c.loop-i.to c.loop-i.invariant c.if-size-lt-WORD.false c.loop-i-test.false

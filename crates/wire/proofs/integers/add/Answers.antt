@@ -9,7 +9,7 @@ use Rattle.wire.proofs.integers.add.Goals.{then-a-gt-LOWEST-via-then-a-gt-LOWEST
 -- Each return is one law of sums of signs and magnitudes.
 pub returns-then-a-gt-LOWEST : goal.returns-then-a-gt-LOWEST
 returns-then-a-gt-LOWEST c =
-        add_outside c.args.a c.args.b (signs_same c.args.a.negative c.args.b.negative c.if-a-b.true)
+    add_outside c.args.a c.args.b (signs_same c.args.a.negative c.args.b.negative c.if-a-b.true)
     (elim c.then-a-gt-LOWEST.branch [ then-a-gt-LOWEST-via-then-a-gt-LOWEST w ↦ omega arith | then-a-gt-LOWEST-via-else-a-gt-LOWEST+then-a-b-2 w ↦ omega arith ])
 
 pub overflow_add-a : goal.overflow_add-a
@@ -17,7 +17,7 @@ overflow_add-a c = omega (arith, ltb-false)
 
 pub returns-then-a-b : goal.returns-then-a-b
 returns-then-a-b c =
-        rw (add_same c.args.a c.args.b (signs_same c.args.a.negative c.args.b.negative c.if-a-b.true)) c.bounded.ensures
+    rw (add_same c.args.a c.args.b (signs_same c.args.a.negative c.args.b.negative c.if-a-b.true)) c.bounded.ensures
 
 pub returns-then-b-a : goal.returns-then-b-a
 returns-then-b-a c = rw (add_first c.args.a c.args.b (signs_other c.args.a.negative c.args.b.negative c.if-a-b.false) c.if-b-a.true) c.bounded-then-b-a.ensures

@@ -23,7 +23,7 @@ bounds-s-i c = c.loop-i-test.true
 
 pub returns-then-c-lt48 : goal.returns-then-c-lt48
 returns-then-c-lt48 c =
-        reading_other c.loop-i.invariant c.loop-i-test.true
+    reading_other c.loop-i.invariant c.loop-i-test.true
     (⊎_elim (λ w. digit_below (get_or c.args.s.now c.loop-i.i 0) w) (λ w. digit_over (get_or c.args.s.now c.loop-i.i 0) (omega arith)) c.then-c-lt48.either)
 
 pub overflow_cast-d : goal.overflow_cast-d
@@ -42,7 +42,7 @@ overflow_add-n c = omega (arith, ltb-false)
 
 pub loop-i-preserved : goal.loop-i-preserved
 loop-i-preserved c =
-        reading_digit c.loop-i.invariant c.loop-i-test.true
+    reading_digit c.loop-i.invariant c.loop-i-test.true
     (digit_between (get_or c.args.s.now c.loop-i.i 0) (omega (arith, ltb-false)) (omega (arith, ltb-false)))
     (omega (arith, ltb-false))
 

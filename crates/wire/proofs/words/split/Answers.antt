@@ -20,7 +20,7 @@ shape_of-places-in_default-word c = c.loop-i.invariant.1
 
 pub returns-in_default-word : goal.returns-in_default-word
 returns-in_default-word c =
-        places_none (sym c.in-Count.is ∙ c.read_count-head.ensures)
+    places_none (sym c.in-Count.is ∙ c.read_count-head.ensures)
     (progress_damaged c.loop-i.invariant.0 c.loop-i-test.true (sym c.in_default-word.is ∙ c.read_word-word.ensures))
 
 pub loop-i-preserved : goal.loop-i-preserved

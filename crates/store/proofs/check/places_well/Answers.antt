@@ -1,0 +1,25 @@
+use native.Mathlib.Omega.{arith}
+use Rattle.store.proofs.SlotChecks.{key_fits, field_fits, value_fits, places_bits}
+use borrow.Author.Rules.{rules}
+use Rattle.store.proofs.check.places_well.Goals as goal
+
+pub overflow_cast-key_length : goal.overflow_cast-key_length
+overflow_cast-key_length c = omega (arith, c.type_inv.t 1)
+
+pub overflow_cast-field_length : goal.overflow_cast-field_length
+overflow_cast-field_length c = omega (arith, c.type_inv.t 2)
+
+pub overflow_cast-value_length : goal.overflow_cast-value_length
+overflow_cast-value_length c = omega (arith, c.type_inv.t 3)
+
+pub padding_of_16-key-requires : goal.padding_of_16-key-requires
+padding_of_16-key-requires c = record { t_len = c.requires.t_len; at_bound = omega arith; used_bound = key_fits c.args.t.now c.requires.t_value }
+
+pub padding_of_32-field-requires : goal.padding_of_32-field-requires
+padding_of_32-field-requires c = record { t_len = c.requires.t_len; at_bound = omega arith; used_bound = field_fits c.args.t.now c.requires.t_value }
+
+pub padding_of_64-value-requires : goal.padding_of_64-value-requires
+padding_of_64-value-requires c = record { t_len = c.requires.t_len; at_bound = omega arith; used_bound = value_fits c.args.t.now c.requires.t_value }
+
+pub returns : goal.returns
+returns c = places_bits c.args.t.now c.padding_of_16-key.result c.padding_of_32-field.result c.padding_of_64-value.result c.padding_of_16-key.ensures c.padding_of_32-field.ensures c.padding_of_64-value.ensures

@@ -1,0 +1,13 @@
+use Prim.Native.Nat.{◌-◌}
+use native.Mathlib.Omega.{arith}
+use borrow.Author.Rules.{rules}
+use Rattle.store.specs.Store.{decode}
+use Rattle.store.specs.Time.{dead_slot, lowest_slot}
+use Rattle.store.proofs.Finding.{Seek, seek_begins, walk_inside, walk_bytes, seek_finds, seek_goes_on, seek_ends}
+use Rattle.store.proofs.find.dead.Given as goal
+
+abbrev pub invariant-loop-i : goal.invariant-loop-i
+invariant-loop-i l = Seek (dead_slot l.time) l.store l.count l.i (lowest_slot (dead_slot l.time) (decode l.store).slots)
+
+abbrev pub decreases-loop-i : goal.decreases-loop-i
+decreases-loop-i l = l.count - l.i

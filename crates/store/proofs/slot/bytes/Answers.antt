@@ -1,0 +1,7 @@
+use Prim.Native.Nat.{◌+◌, ◌*◌}
+use Rattle.store.proofs.SlotParts.{part_of}
+use borrow.Author.Rules.{rules}
+use Rattle.store.proofs.slot.bytes.Goals as goal
+
+pub returns : goal.returns
+returns c = part_of (16 + 128 * c.args.i) 128 c.args.store.now

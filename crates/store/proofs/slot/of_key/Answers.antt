@@ -1,0 +1,12 @@
+use Rattle.wire.specs.Lists.{or_else}
+use Rattle.store.specs.Time.{of_key}
+use Rattle.store.proofs.SlotParts.{state_empty, key_held}
+use borrow.Author.Rules.{rules}
+use Rattle.store.proofs.slot.of_key.Goals as goal
+
+pub returns-then-t-eq-EMPTY_STATE : goal.returns-then-t-eq-EMPTY_STATE
+unfolding of_key or_else
+returns-then-t-eq-EMPTY_STATE c = rw (state_empty c.args.t.now c.if-t-eq-EMPTY_STATE.true)
+
+pub returns : goal.returns
+returns c = rw (key_held c.args.t.now c.args.k.now c.if-t-eq-EMPTY_STATE.false, ← c.key.ensures) c.equal.ensures

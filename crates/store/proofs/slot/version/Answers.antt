@@ -1,0 +1,8 @@
+use Rattle.wire.specs.Bytes.{part}
+use Rattle.store.specs.Store.{decode_entry}
+use borrow.Author.Rules.{rules}
+use Rattle.store.proofs.slot.version.Goals as goal
+
+pub returns : goal.returns
+unfolding decode_entry part
+returns c = c.read_le.ensures
