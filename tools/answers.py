@@ -13,6 +13,8 @@ import re
 import sys
 
 TOKEN = r'[^\s(){}.;,@"«»`]+'
+SEEN = ("wire", "store", "compare", "commands", "feeder")
+START = ("args", "requires", "ranges", "well_formed", "lifetimes", "type_inv")
 TRIVIAL = re.compile(r"λ c( κs)?\. (search rules|omega arith|tt|search \(rules\)|omega \(arith\))$")
 
 
@@ -71,7 +73,7 @@ class Names:
             arm = one["arms"][i] if i < len(one["arms"]) else None
             if arm:
                 for field, old, path in arm[2]:
-                    self.arms.setdefault(norm(old), {})[(field, tuple(path))] = arm[0]
+                    self.arms.setdefault(name, []).append((field, norm(old), tuple(path), arm[0]))
             for var, old in one["typed"][i] if i < len(one["typed"]) else []:
                 self.typed[norm(old)] = var
         self.needs = {}
@@ -83,39 +85,53 @@ class Names:
         for (names, variables), changed in zip(one["loops"], one["changed"]):
             self.loops[norm(names[0])] = (names[1], variables, changed)
 
+    def chain(self, place):
+        while place is not None:
+            yield place
+            place = self.places[place][0]
+
     def resolve(self, place, steps, said):
-        """A path from a place: ('place', p) or ('text', path)."""
-        steps = list(steps)
-        while steps and steps[0] == "before":
-            parent = self.places[place][0] if place in self.places else None
-            if parent is None:
-                said.append(f"before of {place}")
-                return "text", "c.before"
-            place = parent
-            steps.pop(0)
+        """A path from a place: ('place', p) or ('text', path). How many steps back a field stands is not asked: the chain has it once."""
+        steps = [s for s in steps if s != "before"]
         if not steps:
             return "place", place
-        parent, old, new, callee, fields, _ = self.places[place]
         first, rest = steps[0], steps[1:]
-        if parent is None:
+        key = norm(first)
+        chain = list(self.chain(place))
+        found = [p for p in chain[:-1] if self.places[p][1] == key]
+        if not found and first in START:
             if first == "requires":
                 rest = labelled("requires", self.clauses.get(self.function, {}).get("requires", []), rest)[1:]
             return "text", ".".join(["c", first, *rest])
-        key = norm(first)
-        if key in self.arms:
-            best = None
-            for (field, path), arm in self.arms[key].items():
-                if tuple(rest[: len(path)]) == path and (best is None or len(path) > len(best[1])):
-                    best = (field, path, arm)
-            if best and (best[1] or not rest):
-                tail = rest[len(best[1]) :]
-                if best[0] == "ensures":
-                    tail = labelled("ensures", self.ensures_of(place), tail)[1:]
-                return "text", ".".join(["c", best[2], best[0], *tail])
+        in_arms = [(field, path, arm) for p in chain for (field, old, path, arm) in self.arms.get(p, []) if old == key]
+        if not found and not in_arms:
+            stem = key.rstrip("0123456789")
+            near = [p for p in chain[:-1] if self.places[p][1].rstrip("0123456789") == stem]
+            wanted = [p for p in near if int(self.places[p][1][len(stem) :] or 1) == int(key[len(stem) :] or 1) + 1]
+            if key == "well_formed" or key.startswith("well_formed"):
+                found = wanted
+            elif len(near) == 1:
+                found = near
+            if found:
+                key = self.places[found[0]][1]
+            near_arms = [(field, path, arm, old) for p in chain for (field, old, path, arm) in self.arms.get(p, []) if old.rstrip("0123456789") == stem]
+            if not found and len({it[3] for it in near_arms}) == 1:
+                in_arms = [it[:3] for it in near_arms]
+        best = None
+        for field, path, arm in in_arms:
+            if tuple(rest[: len(path)]) == path and (best is None or len(path) > len(best[1])):
+                best = (field, path, arm)
+        if best and (best[1] or not rest):
+            tail = rest[len(best[1]) :]
+            if best[0] == "ensures":
+                tail = labelled("ensures", self.ensures_of(place), tail)[1:]
+            return "text", ".".join(["c", best[2], best[0], *tail])
         if key in self.typed and rest[:1] == ["given"]:
             return "text", ".".join(["c", "type_inv", self.typed[key], *rest[1:]])
-        if key != old:
-            said.append(f"{first} at {place}, which has {old}")
+        if not found:
+            said.append(f"{first} is not behind {place}")
+            return "text", ".".join(["c", first, *rest])
+        parent, old, new, callee, fields, _ = self.places[found[0]]
         if rest and rest[0] in fields:
             rest[0] = fields[rest[0]]
         if callee and len(rest) > 1 and rest[0] in ("new", "auto") and rest[1] in ("0", "1"):
@@ -129,7 +145,7 @@ class Names:
                 said.append(f"{'.'.join(rest)} at {place}")
         if rest and rest[0] == "ensures" and callee:
             rest = labelled("ensures", self.clauses.get(callee, {}).get("ensures", []), rest[1:])
-        return "text", ".".join(["c", new if key == old else first, *rest])
+        return "text", ".".join(["c", new, *rest])
 
     def ensures_of(self, place):
         while place:
@@ -375,6 +391,7 @@ def turn_file(folder, path, one, clauses, crate):
         if re.search(r"-requires(-|$)", new):
             callee = new.split("-")[0]
             near = [f for f in clauses if f.split("::")[-1] == callee and (f.startswith(crate + "::") or True)]
+            near = [f for f in near if f.split("::")[0] in SEEN]
             same = [f for f in near if f.rsplit("::", 1)[0] == function.rsplit("::", 1)[0]] or [f for f in near if f.startswith(crate + "::")] or near
             labels = clauses[same[0]]["requires"] if same else []
             if len(same) > 1 and len({tuple(clauses[f]["requires"]) for f in same}) > 1:

@@ -1,0 +1,13 @@
+use mathlib.Core.Path.{sym, ◌∙◌}
+use Rattle.commands.proofs.Acts.{after_look, places_nothing, may_place, places}
+use borrow.Author.Rules.{rules}
+use Rattle.commands.proofs.act.place.Goals as goal
+
+pub returns-in-Nothing : goal.returns-in-Nothing
+returns-in-Nothing c = places_nothing c.args.bytes.now c.args.time _ c.requires.1 (after_look c.args.time c.args.bytes.now c.args.key.now c.args.field.now c.requires.0 (sym c.in-Nothing.is ∙ c.slot_for-found.ensures))
+
+pub put-requires : goal.put-requires
+put-requires c = may_place c.args.bytes.now c.args.time _ c.requires.1 c.in-At.i (after_look c.args.time c.args.bytes.now c.args.key.now c.args.field.now c.requires.0 (sym c.in-At.is ∙ c.slot_for-found.ensures)) c.requires.2
+
+pub returns-in-At : goal.returns-in-At
+returns-in-At c = places c.args.bytes.now c.args.time _ c.requires.1 c.in-At.i (after_look c.args.time c.args.bytes.now c.args.key.now c.args.field.now c.requires.0 (sym c.in-At.is ∙ c.slot_for-found.ensures)) c.put.ensures

@@ -1,0 +1,15 @@
+use mathlib.Core.Path.{sym, ◌∙◌}
+use Rattle.store.specs.Store.{decode}
+use Rattle.commands.proofs.Acts.{after_own, after_empty, after_dead}
+use borrow.Author.Rules.{rules}
+use Rattle.commands.proofs.act.slot_for.Goals as goal
+
+pub returns-in-At : goal.returns-in-At
+returns-in-At c = after_own c.args.time (decode c.args.bytes.now).slots c.in-At.is
+
+pub returns-in-At-empty : goal.returns-in-At-empty
+returns-in-At-empty c =
+    let empty2 = c.empty-1.given in after_empty c.args.time (decode c.args.bytes.now).slots c.in_default.is empty2.0.0 (sym empty2.1 ∙ c.empty-empty.ensures)
+
+pub returns : goal.returns
+returns c = after_dead c.args.time (decode c.args.bytes.now).slots c.in_default.is (sym c.in_default-empty.is ∙ c.empty-empty.ensures) c.dead.ensures

@@ -1,0 +1,12 @@
+use Rattle.commands.proofs.Answers.{left_never, left_later, left_over}
+use borrow.Author.Rules.{rules}
+use Rattle.commands.proofs.answer.time_left.Goals as goal
+
+pub returns-then-time-instant : goal.returns-then-time-instant
+returns-then-time-instant c = left_later c.args.time c.args.unit c.in-At.is
+
+pub returns-in-Never : goal.returns-in-Never
+returns-in-Never c = left_never c.args.time c.args.unit c.in-Never.is
+
+pub returns-else-time-instant : goal.returns-else-time-instant
+returns-else-time-instant c = left_over c.args.time c.args.unit c.in-At.is c.if-time-instant.false

@@ -1,0 +1,29 @@
+use mathlib.Core.Path.{◌≡◌, refl}
+use Prim.Native.Nat.{◌-◌}
+use lib.Dec.{ltb}
+use lib.ListN.{length, drop}
+use native.Mathlib.Omega.{arith}
+use Rattle.wire.specs.Lists.{any}
+use Rattle.wire.specs.Promises.{words_in}
+use Rattle.wire.proofs.WordPlaces.{length_words}
+use Rattle.store.specs.Layout.{field_most}
+use Rattle.commands.specs.ParsePromises.{any_over}
+use Rattle.commands.proofs.CountTallies.{over_found, over_on, over_ends}
+use borrow.Author.Rules.{rules}
+use Rattle.commands.proofs.counts.any_over.Goals as goal
+
+pub loop-i-init : goal.loop-i-init
+unfolding any_over
+loop-i-init c = refl
+
+pub word-requires : goal.word-requires
+word-requires c = c.requires
+
+pub returns-then-word-gt-FIELD_MOST : goal.returns-then-word-gt-FIELD_MOST
+returns-then-word-gt-FIELD_MOST c = over_found _ (length_words _ _) c.loop-i.i c.loop-i.invariant c.loop-i-test.true c.word.ensures c.if-word-gt-FIELD_MOST.true
+
+pub loop-i-preserved : goal.loop-i-preserved
+loop-i-preserved c = over_on _ (length_words _ _) c.loop-i.i c.loop-i.invariant c.loop-i-test.true c.word.ensures c.if-word-gt-FIELD_MOST.false
+
+pub returns : goal.returns
+returns c = over_ends _ (length_words _ _) c.loop-i.i c.loop-i.invariant c.loop-i-test.false

@@ -1,0 +1,20 @@
+use mathlib.Core.Path.{◌≡◌, refl}
+use Prim.Native.Nat.{◌-◌}
+use lib.Dec.{ltb}
+use lib.ListN.{length, drop}
+use native.Mathlib.Omega.{arith}
+use Rattle.wire.specs.Lists.{any}
+use Rattle.wire.specs.Promises.{words_in}
+use Rattle.wire.proofs.WordPlaces.{length_words}
+use Rattle.store.specs.Layout.{field_most}
+use Rattle.commands.specs.ParsePromises.{any_over}
+use Rattle.commands.proofs.CountTallies.{over_found, over_on, over_ends}
+use borrow.Author.Rules.{rules}
+use Rattle.commands.proofs.counts.any_over.Given as goal
+
+-- What is left does the same; the measure is how many words are left.
+abbrev pub invariant-loop-i : goal.invariant-loop-i
+invariant-loop-i l = any_over (words_in l.command l.places) ≡ any (λ f. ltb field_most (length f)) (drop l.i (words_in l.command l.places))
+
+abbrev pub decreases-loop-i : goal.decreases-loop-i
+decreases-loop-i l = length l.places - l.i

@@ -1,0 +1,18 @@
+use Rattle.wire.specs.Promises.{integer_of}
+use Rattle.commands.proofs.FieldDeeds.{sum_outside, sum_below, sum_above, sum_inside}
+use borrow.Author.Rules.{rules}
+use Rattle.commands.proofs.field.bounded_sum.Goals as goal
+
+pub returns-in_default : goal.returns-in_default
+returns-in_default c = sum_outside (integer_of c.args.start) c.args.sum c.add-total.ensures c.in_default.is
+
+pub returns-then-not-at_most : goal.returns-then-not-at_most
+returns-then-not-at_most c = sum_below (integer_of c.args.start) c.args.sum c.add-total.ensures c.in-Value.is c.at_most.ensures c.if-not-at_most.true-raw
+
+pub returns-then-not-at_most-2 : goal.returns-then-not-at_most-2
+returns-then-not-at_most-2 c =
+    sum_above (integer_of c.args.start) c.args.sum c.add-total.ensures c.in-Value.is c.at_most.ensures c.if-not-at_most.false-raw c.at_most-2.ensures c.if-not-at_most-2.true-raw
+
+pub returns : goal.returns
+returns c =
+    sum_inside (integer_of c.args.start) c.args.sum c.add-total.ensures c.in-Value.is c.at_most.ensures c.if-not-at_most.false-raw c.at_most-2.ensures c.if-not-at_most-2.false-raw

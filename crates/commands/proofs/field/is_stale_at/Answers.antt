@@ -1,0 +1,18 @@
+use Rattle.store.specs.Store.{decode}
+use Rattle.commands.specs.Effect.{is_stale}
+use Rattle.commands.proofs.FieldDeeds.{entry_found, entry_none}
+use Rattle.commands.proofs.VersionPlans.{stale_is, missing_fresh}
+use borrow.Author.Rules.{rules}
+use Rattle.commands.proofs.field.is_stale_at.Goals as goal
+
+pub version-requires : goal.version-requires
+version-requires c = c.requires _ c.in-At.is
+
+pub returns-in-At : goal.returns-in-At
+returns-in-At c =
+    entry_found (decode c.args.bytes.now).slots (is_stale c.args.versioning) c.in-At.is
+    (stale_is _ c.args.versioning c.version.ensures c.is_stale.ensures)
+
+pub returns-in-Nothing : goal.returns-in-Nothing
+returns-in-Nothing c =
+    entry_none (decode c.args.bytes.now).slots (is_stale c.args.versioning) c.in-Nothing.is (missing_fresh c.args.versioning)

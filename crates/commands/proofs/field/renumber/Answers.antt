@@ -1,0 +1,15 @@
+use Rattle.commands.proofs.FieldDeeds.{held_expiry_most, renumber_missing, renumber_done}
+use borrow.Author.Rules.{rules}
+use Rattle.commands.proofs.field.renumber.Goals as goal
+
+pub returns-in_default : goal.returns-in_default
+returns-in_default c = renumber_missing c.requires c.args.version c.in_default.is
+
+pub expiry-requires : goal.expiry-requires
+expiry-requires c = c.requires.held _ c.in-At.is
+
+pub stamp-requires : goal.stamp-requires
+stamp-requires c = let found = c.found-1.given in (c.requires.held _ found.1, held_expiry_most (c.requires.held _ found.1) c.expiry.ensures)
+
+pub returns : goal.returns
+returns c = renumber_done c.requires c.in-At.is c.args.version c.expiry.ensures c.stamp.ensures

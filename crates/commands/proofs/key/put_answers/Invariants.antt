@@ -1,0 +1,20 @@
+use mathlib.Core.Path.{refl}
+use mathlib.Core.List.{flatten}
+use Prim.Native.Nat.{◌-◌}
+use native.Mathlib.Omega.{arith}
+use lib.ListN.{length}
+use Rattle.wire.specs.Promises.{words_in}
+use Rattle.wire.proofs.ReplyLaying.{laid_none}
+use Rattle.commands.specs.Promises.{answer_most, answer_about, answers_of}
+use Rattle.wire.proofs.Elements.{Going, going_begins, going_on_lem, going_within, going_ends, going_length, going_start, going_spare}
+use Rattle.commands.proofs.FieldLoops.{words_from, answers_from, answers_next, answers_over}
+use borrow.Author.Rules.{rules}
+use Rattle.commands.proofs.key.put_answers.Given as goal
+
+-- What is left does the same; the measure is how many words are left.
+abbrev pub invariant-loop-i : goal.invariant-loop-i
+invariant-loop-i l =
+    Going (flatten (answers_of l.asking.time l.bytes l.key l.asking.question (words_in l.command l.fields))) (answers_from (answer_about l.asking.time l.bytes l.key l.asking.question) l.command l.fields l.i) l.initial.out l.out l.at
+
+abbrev pub decreases-loop-i : goal.decreases-loop-i
+decreases-loop-i l = length l.fields - l.i

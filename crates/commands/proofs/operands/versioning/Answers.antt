@@ -1,0 +1,22 @@
+use Rattle.store.specs.Layout.{version_most}
+use Rattle.commands.proofs.OperandWords.{natural_value, natural_refused, versioning_none, versioning_refused, versioning_match, versioning_exactly, versioning_above}
+use borrow.Author.Rules.{rules}
+use Rattle.commands.proofs.operands.versioning.Goals as goal
+
+pub returns-then-said-ge-NOT_GIVEN : goal.returns-then-said-ge-NOT_GIVEN
+returns-then-said-ge-NOT_GIVEN c = versioning_none _ c.args.said c.args.operand c.if-said-ge-NOT_GIVEN.true
+
+pub returns-in_default : goal.returns-in_default
+returns-in_default c = versioning_refused _ c.args.said c.args.operand c.if-said-ge-NOT_GIVEN.false (natural_refused version_most c.word.ensures c.read_natural-read.ensures c.in_default.is)
+
+pub returns-in-0 : goal.returns-in-0
+returns-in-0 c =
+    versioning_match _ c.args.said c.args.operand c.if-said-ge-NOT_GIVEN.false c.in-Value.n (natural_value version_most c.word.ensures c.read_natural-read.ensures c.in-Value.n c.in-Value.is).0 c.in-0.is
+
+pub returns-in-1 : goal.returns-in-1
+returns-in-1 c =
+    versioning_exactly _ c.args.said c.args.operand c.if-said-ge-NOT_GIVEN.false c.in-Value.n (natural_value version_most c.word.ensures c.read_natural-read.ensures c.in-Value.n c.in-Value.is).0 c.in-1.is
+
+pub returns-in_default-said : goal.returns-in_default-said
+returns-in_default-said c =
+    versioning_above _ c.args.said c.args.operand c.if-said-ge-NOT_GIVEN.false c.in-Value.n (natural_value version_most c.word.ensures c.read_natural-read.ensures c.in-Value.n c.in-Value.is).0 c.in_default-said.rest.0.1 c.in_default-said.rest.1

@@ -1,0 +1,15 @@
+use Prim.Native.Nat.{◌-◌}
+use native.Mathlib.Omega.{arith}
+use lib.ListN.{length}
+use Rattle.wire.specs.Promises.{words_in}
+use Rattle.wire.proofs.WordPlaces.{length_words}
+use Rattle.commands.proofs.OptionScanning.{Scanning, scanning_begins, scanning_fails, scanning_again, scanning_on, scanning_ends}
+use borrow.Author.Rules.{rules}
+use Rattle.commands.proofs.options.scan.Given as goal
+
+-- What is left does the same; the measure is how many words are left.
+abbrev pub invariant-loop-i : goal.invariant-loop-i
+invariant-loop-i l = Scanning (words_in l.command l.places) l.allowed l.from l.i l.given
+
+abbrev pub decreases-loop-i : goal.decreases-loop-i
+decreases-loop-i l = length l.places - l.i

@@ -1,0 +1,19 @@
+use mathlib.Core.Path.{◌≡◌, refl}
+use Prim.Native.Nat.{◌-◌, ◌≤◌}
+use native.Mathlib.Omega.{arith}
+use lib.ListN.{length}
+use Rattle.wire.specs.Words.{words_most}
+use Rattle.wire.specs.Promises.{words_in}
+use Rattle.commands.specs.Parse.{pairs_of}
+use Rattle.commands.proofs.FieldLoops.{words_from}
+use Rattle.commands.proofs.PairLoops.{pairs_from, next_pair, no_pair, Writing, writing_next, writing_on, writing_ends}
+use borrow.Author.Rules.{rules}
+use Rattle.commands.proofs.pairs.place_pairs.Given as goal
+
+-- What is left does the same; the measure is how many words are left.
+abbrev pub invariant-loop-i : goal.invariant-loop-i
+invariant-loop-i l =
+    Writing l.time l.key (pairs_of (words_in l.command l.pairs)) (pairs_from l.command l.pairs l.i) l.initial.bytes l.bytes × (l.i ≤ words_most) × (length l.bytes ≡ length l.initial.bytes)
+
+abbrev pub decreases-loop-i : goal.decreases-loop-i
+decreases-loop-i l = length l.pairs - l.i

@@ -1,0 +1,73 @@
+use mathlib.Core.Path.{refl}
+use Prim.Native.Nat.{◌-◌, ◌≤◌}
+use native.Mathlib.Omega.{arith}
+use lib.ListN.{length}
+use Rattle.wire.specs.Words.{words_most}
+use Rattle.wire.specs.Promises.{words_in}
+use Rattle.store.specs.Store.{decode}
+use Rattle.commands.specs.Promises.{fields_in}
+use Rattle.commands.proofs.FieldDeeds.{sought_held, held_at_most}
+use Rattle.commands.proofs.FieldLoops.{words_from}
+use Rattle.commands.proofs.PairLoops.{named_from, next_named, none_named_lem, few_fields, times_few, telling_is, version_sought, Surveying, surveying_few, surveying_ends, surveying_over, surveying_on}
+use Rattle.commands.proofs.pairs.survey_pairs.Goals as goal
+
+pub loop-i-init : goal.loop-i-init
+unfolding words_from named_from
+loop-i-init c = (record { sum = omega arith; same = refl }, omega arith)
+
+-- the hint's place is that of a word
+pub bounds-hints-i : goal.bounds-hints-i
+bounds-hints-i c = omega (arith, c.loop-i-test.true, c.requires.0.most)
+
+pub held_version-held-requires : goal.held_version-held-requires
+held_version-held-requires c = sought_held (record { well = c.requires.1; looked = c.named_near-found.ensures })
+
+pub relevant_repeats-again-requires : goal.relevant_repeats-again-requires
+relevant_repeats-again-requires c = (c.requires.0, c.loop-i-test.true)
+
+pub overflow_add-again : goal.overflow_add-again
+overflow_add-again c =
+    omega (arith, c.relevant_repeats-again.ensures.most, times_few c.args.command.now c.args.pairs.now c.loop-i.i c.requires.0)
+
+pub overflow_add-held : goal.overflow_add-held
+overflow_add-held c =
+    omega (arith, c.relevant_repeats-again.ensures.most, times_few c.args.command.now c.args.pairs.now c.loop-i.i c.requires.0, held_at_most (sought_held (record { well = c.requires.1; looked = c.named_near-found.ensures })) c.held_version-held.ensures)
+
+pub returns-then-held-again-gt-VERSION_MOST : goal.returns-then-held-again-gt-VERSION_MOST
+returns-then-held-again-gt-VERSION_MOST c =
+    let next = next_named _ _ _ c.loop-i-test.true c.word.ensures in
+    let held = version_sought (record { well = c.requires.1; looked = c.named_near-found.ensures }) c.held_version-held.ensures in
+    let again = telling_is _ _ _ c.word.ensures c.relevant_repeats-again.ensures in
+    surveying_over c.loop-i.invariant.0 next held again c.if-held-again-gt-VERSION_MOST.true
+
+pub overflow_add-n : goal.overflow_add-n
+overflow_add-n c =
+    let next = next_named _ _ _ c.loop-i-test.true c.word.ensures in
+    let held = version_sought (record { well = c.requires.1; looked = c.named_near-found.ensures }) c.held_version-held.ensures in
+    let again = telling_is _ _ _ c.word.ensures c.relevant_repeats-again.ensures in
+    omega (arith, surveying_few (surveying_on c.loop-i.invariant.0 next held again c.if-held-again-gt-VERSION_MOST.false c.named_near-found.ensures c.new_field-n.ensures), few_fields c.args.command.now c.args.pairs.now c.requires.0)
+
+pub loop-i-preserved : goal.loop-i-preserved
+loop-i-preserved c =
+    let next = next_named _ _ _ c.loop-i-test.true c.word.ensures in
+    let held = version_sought (record { well = c.requires.1; looked = c.named_near-found.ensures }) c.held_version-held.ensures in
+    let again = telling_is _ _ _ c.word.ensures c.relevant_repeats-again.ensures in
+    (surveying_on c.loop-i.invariant.0 next held again c.if-held-again-gt-VERSION_MOST.false c.named_near-found.ensures c.new_field-n.ensures, omega (arith, c.loop-i-test.true, c.requires.0.most))
+
+pub returns : goal.returns
+returns c = surveying_ends c.loop-i.invariant.0 (none_named_lem _ _ _ c.loop-i-test.false)
+
+pub overflow_add-i : goal.overflow_add-i
+overflow_add-i c = omega (arith, c.loop-i.invariant.1)
+
+pub word-requires : goal.word-requires
+word-requires c = c.requires.0
+
+pub offset_bounds-hints-i : goal.offset_bounds-hints-i
+offset_bounds-hints-i c = omega (arith, c.loop-i.invariant.1)
+
+pub named_near-found-requires : goal.named_near-found-requires
+named_near-found-requires c = c.requires.1
+
+pub overflow_add-i-in-loop-i : goal.overflow_add-i-in-loop-i
+overflow_add-i-in-loop-i c = omega (arith, c.loop-i.invariant.1)

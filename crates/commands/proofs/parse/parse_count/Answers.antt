@@ -1,0 +1,13 @@
+use Rattle.commands.proofs.Parsing.{not_clean, ready}
+use Rattle.commands.proofs.ParseFamilies.{count_takes, count_live, count_held}
+use borrow.Author.Rules.{rules}
+use Rattle.commands.proofs.parse.parse_count.Goals as goal
+
+pub returns-then-given-ne0 : goal.returns-then-given-ne0
+returns-then-given-ne0 c = λ time. not_clean count_takes c.scan-given.ensures time c.if-given-ne0.true
+
+pub returns-then-given-lt-NOT_GIVEN : goal.returns-then-given-lt-NOT_GIVEN
+returns-then-given-lt-NOT_GIVEN c = λ time. count_live time (ready count_takes c.scan-given.ensures c.if-given-ne0.false) c.if-given-lt-NOT_GIVEN.true
+
+pub returns : goal.returns
+returns c = λ time. count_held time (ready count_takes c.scan-given.ensures c.if-given-ne0.false) c.if-given-lt-NOT_GIVEN.false

@@ -1,0 +1,33 @@
+use Rattle.store.specs.Layout.{time_limit}
+use Rattle.commands.proofs.OperandWords.{natural_value, natural_refused}
+use Rattle.commands.proofs.Parsing.{not_clean, ready}
+use Rattle.commands.proofs.ParseFamilies.{expire_takes, expire_unread, expire_unversioned, expire_zero, expire_beyond, expire_done}
+use borrow.Author.Rules.{rules}
+use Rattle.commands.proofs.parse.parse_expire.Goals as goal
+
+pub returns-then-given-ne0 : goal.returns-then-given-ne0
+returns-then-given-ne0 c = not_clean (expire_takes c.args.unit) c.scan-given.ensures c.args.time c.if-given-ne0.true
+
+pub returns-in_default : goal.returns-in_default
+returns-in_default c =
+    expire_unread c.args.time c.args.unit (ready (expire_takes c.args.unit) c.scan-given.ensures c.if-given-ne0.false) (natural_refused time_limit c.word.ensures c.read_natural-read.ensures c.in_default.is)
+
+pub returns-in_default-versioned : goal.returns-in_default-versioned
+returns-in_default-versioned c =
+    expire_unversioned c.args.time c.args.unit (ready (expire_takes c.args.unit) c.scan-given.ensures c.if-given-ne0.false) c.versioning-versioned.ensures c.in_default-versioned.is
+
+pub returns-then-is_zero : goal.returns-then-is_zero
+returns-then-is_zero c =
+    expire_zero c.args.time c.args.unit (ready (expire_takes c.args.unit) c.scan-given.ensures c.if-given-ne0.false) c.versioning-versioned.ensures (natural_value time_limit c.word.ensures c.read_natural-read.ensures c.in-Value.n c.in-Value.is).0 c.in-Value-versioned.is c.is_zero.ensures c.if-is_zero.true
+
+pub instant-instant-requires : goal.instant-instant-requires
+instant-instant-requires c =
+    ((natural_value time_limit c.word.ensures c.read_natural-read.ensures c.in-Value.n c.in-Value.is).1, c.requires.1)
+
+pub returns-then-instant-gt-TIME_LIMIT : goal.returns-then-instant-gt-TIME_LIMIT
+returns-then-instant-gt-TIME_LIMIT c =
+    expire_beyond c.args.time c.args.unit (ready (expire_takes c.args.unit) c.scan-given.ensures c.if-given-ne0.false) c.versioning-versioned.ensures (natural_value time_limit c.word.ensures c.read_natural-read.ensures c.in-Value.n c.in-Value.is).0 c.in-Value-versioned.is c.is_zero.ensures c.if-is_zero.false c.instant-instant.ensures c.if-instant-gt-TIME_LIMIT.true
+
+pub returns : goal.returns
+returns c =
+    expire_done c.args.time c.args.unit (ready (expire_takes c.args.unit) c.scan-given.ensures c.if-given-ne0.false) c.versioning-versioned.ensures (natural_value time_limit c.word.ensures c.read_natural-read.ensures c.in-Value.n c.in-Value.is).0 c.in-Value-versioned.is c.is_zero.ensures c.if-is_zero.false c.instant-instant.ensures c.if-instant-gt-TIME_LIMIT.false

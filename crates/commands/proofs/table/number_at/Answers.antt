@@ -1,0 +1,6 @@
+use mathlib.Core.Path.{refl}
+use borrow.Author.Rules.{rules}
+use Rattle.commands.proofs.table.number_at.Goals as goal
+
+pub returns : goal.returns
+returns c = refl

@@ -1,0 +1,19 @@
+use mathlib.Core.Path.{◌≡◌}
+use Prim.Native.Nat.{◌-◌}
+use native.Mathlib.Omega.{arith}
+use lib.ListN.{length}
+use Rattle.wire.proofs.ReplyLaying.{laid_none}
+use Rattle.wire.proofs.Elements.{Going, going_begins, going_on_lem, going_within, going_ends, going_length, going_start, going_room}
+use Rattle.store.specs.Store.{decode}
+use Rattle.compare.specs.Promises.{pass_text}
+use Rattle.compare.proofs.LineTexts.{rest_text, rest_begins, rest_next, rest_ends}
+use borrow.Author.Rules.{rules}
+use Rattle.compare.proofs.listing.put_lines.Given as goal
+
+-- What is left does the same; the measure is how many slots are left.
+abbrev pub invariant-loop-i : goal.invariant-loop-i
+invariant-loop-i l =
+    Going (pass_text l.pass l.instant l.store l.other) (rest_text l.pass l.instant l.store l.other l.i) l.initial.out l.out l.at × (l.count ≡ length (decode l.store).slots)
+
+abbrev pub decreases-loop-i : goal.decreases-loop-i
+decreases-loop-i l = l.count - l.i
