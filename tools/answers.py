@@ -121,7 +121,9 @@ class Names:
         for field, path, arm in in_arms:
             if tuple(rest[: len(path)]) == path and (best is None or len(path) > len(best[1])):
                 best = (field, path, arm)
-        if best and (best[1] or not rest):
+        if best and not best[1] and rest:
+            return "text", ".".join(["c", best[2], best[0], *rest])
+        if best:
             tail = rest[len(best[1]) :]
             if best[0] == "ensures":
                 tail = labelled("ensures", self.ensures_of(place), tail)[1:]
@@ -249,7 +251,7 @@ def turn_body(body, names, place, said):
         out.append(turned(body[at : m.start()]))
         if k == "place":
             env[name] = ("place", v)
-        elif v.count(".") <= 1:
+        elif v.count(".") <= 1 or steps[-1:] == ["given"] or steps[-2:] == ["given", "0"]:
             env[name] = ("step", (base, steps))
         else:
             out.append(f"let {name} = {v} in ")
@@ -368,7 +370,7 @@ def turn_file(folder, path, one, clauses, crate):
                 elif not TRIVIAL.match(bare) and exact:
                     m3 = re.match(r"λ c(?: κs)?\. (.*)$", bare, re.S)
                     if m3:
-                        positions[f"at {i}"] = ([], [], f"it c = {m3[1]}", names.order[i])
+                        positions[f"at {i}"] = ([], unfolding, f"it c = {m3[1]}", names.order[i])
                     else:
                         said.append(f"argument {bare[:50]}")
                 elif not TRIVIAL.match(bare):

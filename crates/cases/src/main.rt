@@ -22,14 +22,14 @@ const NUMBER: usize = 8;
 const REPLY: usize = BUFFER_LEAST;
 
 // A part of the input: where it starts and ends.
-#[derive(Drop)]
+#[derive(Clone, Copy)]
 struct Part {
     start: usize,
     end: usize,
 }
 
 // A case: the store before, the stream, and the answers.
-#[derive(Drop)]
+#[derive(Clone, Copy)]
 struct Case {
     store: Part,
     stream: Part,
@@ -40,7 +40,7 @@ struct Case {
 }
 
 // What the calls so far come to: whether each was taken and replied as expected, the replies' length, the bytes skipped, and the state.
-#[derive(Drop)]
+#[derive(Clone, Copy)]
 struct Run {
     agrees: bool,
     replied: usize,
@@ -49,7 +49,7 @@ struct Run {
 }
 
 // How many cases there are, and how many agree each way.
-#[derive(Drop)]
+#[derive(Clone, Copy)]
 struct Score {
     cases: u64,
     uncut: u64,

@@ -138,18 +138,18 @@ module _ (clock : ℕ) (command b : List ℕ) (w : well_formed b ≡ true) (ws :
     abbrev field_command : Command
     field_command = on_field (word_at 1 ws) (word_at 2 ws) (deed_of (word_at 3 ws) d)
 
-    on_field : parse time clock command ≡ accepted field_command
+    on_field_lem : parse time clock command ≡ accepted field_command
     unfolding meant
-    on_field = sym m ∙ ap (meant ws) q
+    on_field_lem = sym m ∙ ap (meant ws) q
 
     pub field_limits : WithinLimits field_command
-    field_limits = accepted_limits clock command b w t field_command on_field
+    field_limits = accepted_limits clock command b w t field_command on_field_lem
 
     pub field_opened : {o : List ℕ} → buffer_least ≤ length o → Opened time b o
-    field_opened l = record { well = w; soon = accepted_time clock command b w t field_command on_field; room = l }
+    field_opened l = record { well = w; soon = accepted_time clock command b w t field_command on_field_lem; room = l }
 
     pub field_done : {after o x : List ℕ} {r : ℕ} → Does (run time field_command (decode b)) after o x r → Does (exec clock command (decode b)) after o x r
-    field_done h = accepted_done clock command b w t field_command on_field h
+    field_done h = accepted_done clock command b w t field_command on_field_lem h
 
   module _ {d : KeyDeed} (q : p ≡ parses.OnKey d) where
     abbrev key_command : Command

@@ -287,13 +287,13 @@ module _ (time : ℕ) {ws : List Word} {r : ScannedOptions} (y : Ready count_for
       no_deed test true = refl
       no_deed test false = refl
 
-  pub count_live : get_or r.said no_exp_group 0 < not_given → meant ws (parses.OnKey keyDeeds.CountLive) ≡ parse_rest time count_form ws
+  pub count_live_lem : get_or r.said no_exp_group 0 < not_given → meant ws (parses.OnKey keyDeeds.CountLive) ≡ parse_rest time count_form ws
   unfolding meant command_for is_some
-  count_live l = count_said true (rw (y.given no_exp_group (omega arith), option_some ws no_exp_group _ _ l))
+  count_live_lem l = count_said true (rw (y.given no_exp_group (omega arith), option_some ws no_exp_group _ _ l))
 
-  pub count_held : not_given ≤ get_or r.said no_exp_group 0 → meant ws (parses.OnKey keyDeeds.CountHeld) ≡ parse_rest time count_form ws
+  pub count_held_lem : not_given ≤ get_or r.said no_exp_group 0 → meant ws (parses.OnKey keyDeeds.CountHeld) ≡ parse_rest time count_form ws
   unfolding meant command_for is_some
-  count_held l = count_said false (rw (y.given no_exp_group (omega arith), option_none ws no_exp_group _ _ l))
+  count_held_lem l = count_said false (rw (y.given no_exp_group (omega arith), option_none ws no_exp_group _ _ l))
 
 -- ---- commands of fixed words with no number among them
 
@@ -334,9 +334,9 @@ module _ (time : ℕ) (ws : List Word) where
 -- ---- a row
 
 -- the family behind all others
-pub list_form : (family n : ℕ) → list_family ≤ family → form_of family n ≡ list_form (listing_of n)
+pub list_form_lem : (family n : ℕ) → list_family ≤ family → form_of family n ≡ list_form (listing_of n)
 unfolding form_of
-list_form family n l = get_or-eq_default (first_forms n) (list_form (listing_of n)) l
+list_form_lem family n l = get_or-eq_default (first_forms n) (list_form (listing_of n)) l
 
 -- a command of row i is parsed as its family and its argument say
 pub row_parsed : (time i : ℕ) (ws : List Word) {family argument : ℕ} → family ≡ get_or (command_data (command_of i)) family_at 0 → argument ≡ get_or (command_data (command_of i)) argument_at 0

@@ -47,7 +47,7 @@ const MARK: u64 = 0x5745;
 const WORD: usize = 99;
 
 // The feeder, and the size of pieces, 0 where records come whole.
-#[derive(Drop)]
+#[derive(Clone, Copy)]
 struct Stage {
     feeder: Feeder,
     cut: usize,

@@ -11,7 +11,7 @@ use crate::state::WAITING_MOST;
 
 // The bytes that wait for the rest of a record, and how many they are; the places after them are zero.
 #[repr(C)]
-#[derive(Drop)]
+#[derive(Clone, Copy)]
 pub struct Feeder {
     pub waiting: [u8; WAITING_MOST],
     pub count: usize,
@@ -19,7 +19,7 @@ pub struct Feeder {
 
 // What a feeding call answers: 0 or a refusal, bytes of its piece used, bytes skipped, the reply's length and the new state.
 #[repr(C)]
-#[derive(Drop)]
+#[derive(Clone, Copy)]
 pub struct Fed {
     pub refusal: u32,
     pub used: usize,
@@ -29,7 +29,7 @@ pub struct Fed {
 }
 
 // The same where the places of the waiting bytes are lent: of the state only how many then wait.
-#[derive(Drop)]
+#[derive(Clone, Copy)]
 pub struct Absorbed {
     pub refusal: u32,
     pub used: usize,

@@ -20,7 +20,7 @@ const REPLY: usize = BUFFER_LEAST;
 const MODULUS: u64 = 4294967291;
 
 // What the calls so far come to: the joined replies' length and checksum, the bytes skipped, and the state.
-#[derive(Drop)]
+#[derive(Clone, Copy)]
 struct Totals {
     replied: u64,
     checksum: u64,
@@ -29,7 +29,7 @@ struct Totals {
 }
 
 // What a stream comes to.
-#[derive(Drop)]
+#[derive(Clone, Copy)]
 struct Outcome {
     replied: u64,
     replies: u64,

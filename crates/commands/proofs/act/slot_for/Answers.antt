@@ -9,7 +9,7 @@ returns-in-At c = after_own c.args.time (decode c.args.bytes.now).slots c.in-At.
 
 pub returns-in-At-empty : goal.returns-in-At-empty
 returns-in-At-empty c =
-    let empty2 = c.empty-1.given in after_empty c.args.time (decode c.args.bytes.now).slots c.in_default.is empty2.0.0 (sym empty2.1 ∙ c.empty-empty.ensures)
+    after_empty c.args.time (decode c.args.bytes.now).slots c.in_default.is c.in-At-empty.i (sym c.in-At-empty.is ∙ c.empty-empty.ensures)
 
 pub returns : goal.returns
 returns c = after_dead c.args.time (decode c.args.bytes.now).slots c.in_default.is (sym c.in_default-empty.is ∙ c.empty-empty.ensures) c.dead.ensures

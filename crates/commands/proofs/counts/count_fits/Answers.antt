@@ -12,4 +12,4 @@ pub returns-in-1 : goal.returns-in-1
 returns-in-1 c = row_enough c.args.row c.args.count c.command_datum-least.ensures c.command_datum-more.ensures c.if-count-least.false c.in-1.is
 
 pub returns-in_default : goal.returns-in_default
-returns-in_default c = row_paired c.args.row c.args.count c.command_datum-least.ensures c.command_datum-more.ensures c.if-count-least.false c.in_default.rest.0.1 c.in_default.rest.1
+returns-in_default c = row_paired c.args.row c.args.count c.command_datum-least.ensures c.command_datum-more.ensures c.if-count-least.false c.in_default.in_default-own.rest.0.1 c.in_default.in_default-own.rest.1

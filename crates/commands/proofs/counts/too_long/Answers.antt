@@ -6,7 +6,7 @@ pub returns-then-word-gt-KEY_MOST : goal.returns-then-word-gt-KEY_MOST
 returns-then-word-gt-KEY_MOST c = λ time gs. key_long _ c.args.row time gs (rw c.word.ensures at c.if-word-gt-KEY_MOST.true)
 
 pub returns-then-word-gt-FIELD_MOST : goal.returns-then-word-gt-FIELD_MOST
-returns-then-word-gt-FIELD_MOST c = λ time gs. field_long _ c.args.row time gs (rw c.word.ensures at c.if-word-gt-KEY_MOST.false) c.command_datum-names.ensures c.in_default.rest.0.0.0.1 c.in_default.rest.0.0.1 c.in_default.rest.0.1 (rw c.word-in_default.ensures at c.if-word-gt-FIELD_MOST.true)
+returns-then-word-gt-FIELD_MOST c = λ time gs. field_long _ c.args.row time gs (rw c.word.ensures at c.if-word-gt-KEY_MOST.false) c.command_datum-names.ensures c.in_default.in_default-own.rest.0.0.0.1 c.in_default.in_default-own.rest.0.0.1 c.in_default.in_default-own.rest.0.1 (rw c.word-in_default.ensures at c.if-word-gt-FIELD_MOST.true)
 
 pub returns-in-0 : goal.returns-in-0
 returns-in-0 c = λ time gs. key_only _ c.args.row time gs (rw c.word.ensures at c.if-word-gt-KEY_MOST.false) c.command_datum-names.ensures c.in-0.is
@@ -21,4 +21,4 @@ pub returns-in-3 : goal.returns-in-3
 returns-in-3 c = λ time gs. rw c.word-in-3.ensures (field_only _ c.args.row time gs (rw c.word.ensures at c.if-word-gt-KEY_MOST.false) c.command_datum-names.ensures c.in-3.is)
 
 pub returns-else-word-gt-FIELD_MOST : goal.returns-else-word-gt-FIELD_MOST
-returns-else-word-gt-FIELD_MOST c = λ time gs. rw c.word-in_default-2.ensures (value_long _ c.args.row time gs (rw c.word.ensures at c.if-word-gt-KEY_MOST.false) c.command_datum-names.ensures c.in_default.rest.0.0.0.1 c.in_default.rest.0.0.1 c.in_default.rest.0.1 (rw c.word-in_default.ensures at c.if-word-gt-FIELD_MOST.false) c.in_default.rest.1)
+returns-else-word-gt-FIELD_MOST c = λ time gs. rw c.word-in_default-2.ensures (value_long _ c.args.row time gs (rw c.word.ensures at c.if-word-gt-KEY_MOST.false) c.command_datum-names.ensures c.in_default.in_default-own.rest.0.0.0.1 c.in_default.in_default-own.rest.0.0.1 c.in_default.in_default-own.rest.0.1 (rw c.word-in_default.ensures at c.if-word-gt-FIELD_MOST.false) c.in_default.in_default-own.rest.1)

@@ -13,11 +13,11 @@ put_error-requires c =
 
 pub run_on_field-requires : goal.run_on_field-requires
 run_on_field-requires c =
-    let now-at = c.now_at-time.ensures in let parse = c.parse-parsed.ensures in let parsed2 = c.parsed-in-OnField-1.given in (c.requires.0.within, field_opened c.args.clock c.args.command.now c.args.store.now c.requires.1 _ now-at parse parsed2.1 c.requires.2, field_limits c.args.clock c.args.command.now c.args.store.now c.requires.1 _ now-at parse parsed2.1)
+    let now-at = c.now_at-time.ensures in let parse = c.parse-parsed.ensures in (c.requires.0.within, field_opened c.args.clock c.args.command.now c.args.store.now c.requires.1 _ now-at parse c.in-OnField.is c.requires.2, field_limits c.args.clock c.args.command.now c.args.store.now c.requires.1 _ now-at parse c.in-OnField.is)
 
 pub run_on_key-requires : goal.run_on_key-requires
 run_on_key-requires c =
-    let now-at = c.now_at-time.ensures in let parse = c.parse-parsed.ensures in let parsed3 = c.parsed-in-OnKey-1.given in (c.requires.0.within, key_words c.args.clock c.args.command.now c.args.store.now c.requires.1 _ now-at parse parsed3.1 c.args.places.now c.requires.0, key_opened c.args.clock c.args.command.now c.args.store.now c.requires.1 _ now-at parse parsed3.1 c.requires.2, key_limits c.args.clock c.args.command.now c.args.store.now c.requires.1 _ now-at parse parsed3.1)
+    let now-at = c.now_at-time.ensures in let parse = c.parse-parsed.ensures in (c.requires.0.within, key_words c.args.clock c.args.command.now c.args.store.now c.requires.1 _ now-at parse c.in-OnKey.is c.args.places.now c.requires.0, key_opened c.args.clock c.args.command.now c.args.store.now c.requires.1 _ now-at parse c.in-OnKey.is c.requires.2, key_limits c.args.clock c.args.command.now c.args.store.now c.requires.1 _ now-at parse c.in-OnKey.is)
 
 pub returns-in-Refused : goal.returns-in-Refused
 returns-in-Refused c =

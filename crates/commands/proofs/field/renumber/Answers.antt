@@ -9,7 +9,7 @@ pub expiry-requires : goal.expiry-requires
 expiry-requires c = c.requires.held _ c.in-At.is
 
 pub stamp-requires : goal.stamp-requires
-stamp-requires c = let found = c.found-1.given in (c.requires.held _ found.1, held_expiry_most (c.requires.held _ found.1) c.expiry.ensures)
+stamp-requires c = (c.requires.held _ c.in-At.is, held_expiry_most (c.requires.held _ c.in-At.is) c.expiry.ensures)
 
 pub returns : goal.returns
 returns c = renumber_done c.requires c.in-At.is c.args.version c.expiry.ensures c.stamp.ensures

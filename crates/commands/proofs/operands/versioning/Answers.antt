@@ -19,4 +19,4 @@ returns-in-1 c =
 
 pub returns-in_default-said : goal.returns-in_default-said
 returns-in_default-said c =
-    versioning_above _ c.args.said c.args.operand c.if-said-ge-NOT_GIVEN.false c.in-Value.n (natural_value version_most c.word.ensures c.read_natural-read.ensures c.in-Value.n c.in-Value.is).0 c.in_default-said.rest.0.1 c.in_default-said.rest.1
+    versioning_above _ c.args.said c.args.operand c.if-said-ge-NOT_GIVEN.false c.in-Value.n (natural_value version_most c.word.ensures c.read_natural-read.ensures c.in-Value.n c.in-Value.is).0 c.in_default-said.in_default-said-own.rest.0.1 c.in_default-said.in_default-said-own.rest.1

@@ -1,5 +1,4 @@
 use mathlib.Core.Path.{◌≡◌}
-use mathlib.Core.Logic.{⊎_elim}
 use Prim.Native.Nat.{◌+◌, ◌-◌, ◌≤◌}
 use native.Mathlib.Omega.{arith}
 use lib.ListN.{length}
@@ -8,6 +7,7 @@ use Rattle.wire.specs.Promises.{words_in}
 use Rattle.commands.proofs.FieldLoops.{words_from}
 use Rattle.commands.proofs.PairLoops.{named_from, next_named, none_named_lem, few_named, Repeating, repeating_few, repeating_hit, repeating_skip, repeating_ends}
 use Rattle.commands.proofs.pairs.repeats.Goals as goal
+use Rattle.commands.proofs.pairs.repeats.Goals.{then-equal, else-equal}
 
 pub overflow_add-j : goal.overflow_add-j
 overflow_add-j c = omega (arith, c.requires.1, c.requires.0.most)
@@ -22,10 +22,10 @@ pub loop-j-preserved : goal.loop-j-preserved
 loop-j-preserved c =
     let now = c.loop-j.invariant in let next = next_named _ _ _ c.loop-j-test.true c.word.ensures in
     let near : c.loop-j.j + 2 ≤ words_most = omega (arith, c.loop-j-test.true, c.requires.0.most) in
-    ⊎_elim
-    (λ w. rw w.1 (repeating_hit now.0 next c.equal.ensures w.0.taken, near, now.2))
-    (λ w. rw w.1 (repeating_skip now.0 next c.equal.ensures w.0.left, near, now.2))
-    c.if-equal.branch
+    elim c.if-equal.branch [
+      | then-equal w ↦ rw w.n-is (repeating_hit now.0 next c.equal.ensures w.if-equal.true, near, now.2)
+      | else-equal w ↦ rw w.n-is (repeating_skip now.0 next c.equal.ensures w.if-equal.false, near, now.2)
+    ]
 
 pub returns : goal.returns
 unfolding words_from named_from

@@ -16,4 +16,4 @@ returns-in-1 c = rw c.in-1.is
 
 pub returns-in_default : goal.returns-in_default
 unfolding listing_of
-returns-in_default c = let past : 2 ≤ c.args.n = omega (arith, c.in_default.rest) in sym (get_or-eq_default first_listings Both past)
+returns-in_default c = let past : 2 ≤ c.args.n = omega (arith, c.in_default.in_default-own.rest) in sym (get_or-eq_default first_listings Both past)

@@ -1,5 +1,5 @@
 use Rattle.commands.proofs.Parsing.{not_clean, ready}
-use Rattle.commands.proofs.ParseFamilies.{count_takes, count_live, count_held}
+use Rattle.commands.proofs.ParseFamilies.{count_takes, count_live_lem, count_held_lem}
 use borrow.Author.Rules.{rules}
 use Rattle.commands.proofs.parse.parse_count.Goals as goal
 
@@ -7,7 +7,7 @@ pub returns-then-given-ne0 : goal.returns-then-given-ne0
 returns-then-given-ne0 c = λ time. not_clean count_takes c.scan-given.ensures time c.if-given-ne0.true
 
 pub returns-then-given-lt-NOT_GIVEN : goal.returns-then-given-lt-NOT_GIVEN
-returns-then-given-lt-NOT_GIVEN c = λ time. count_live time (ready count_takes c.scan-given.ensures c.if-given-ne0.false) c.if-given-lt-NOT_GIVEN.true
+returns-then-given-lt-NOT_GIVEN c = λ time. count_live_lem time (ready count_takes c.scan-given.ensures c.if-given-ne0.false) c.if-given-lt-NOT_GIVEN.true
 
 pub returns : goal.returns
-returns c = λ time. count_held time (ready count_takes c.scan-given.ensures c.if-given-ne0.false) c.if-given-lt-NOT_GIVEN.false
+returns c = λ time. count_held_lem time (ready count_takes c.scan-given.ensures c.if-given-ne0.false) c.if-given-lt-NOT_GIVEN.false

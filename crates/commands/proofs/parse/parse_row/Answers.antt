@@ -1,7 +1,7 @@
 use mathlib.Core.Path.{sym, ap, ◌∙◌}
 use Rattle.commands.specs.Parse.Form.{set_form, set_many_form, increment_form, expire_form, persist_form, renumber_form, ask_form, get_many_form, delete_form, count_form, list_form}
 use Rattle.commands.specs.TablePromises.{list_family, unit_of, form_of}
-use Rattle.commands.proofs.ParseFamilies.{fixed_pairs, fixed_persist, fixed_ask, fixed_many, fixed_delete, fixed_list, list_form, row_parsed}
+use Rattle.commands.proofs.ParseFamilies.{fixed_pairs, fixed_persist, fixed_ask, fixed_many, fixed_delete, fixed_list, list_form_lem, row_parsed}
 use Rattle.commands.proofs.TableRows.{NoneOf, none_of}
 use borrow.Author.Rules.{rules}
 use Rattle.commands.proofs.parse.parse_row.Goals as goal
@@ -48,4 +48,4 @@ returns-in-9 c = row_parsed c.args.time c.args.row _ c.command_datum-family.ensu
 
 pub returns-in_default : goal.returns-in_default
 unfolding NoneOf
-returns-in_default c = row_parsed c.args.time c.args.row _ c.command_datum-family.ensures c.command_datum-argument.ensures (list_form c.listing.result) (list_form c.command_datum-family.result c.command_datum-argument.result (none_of list_family c.command_datum-family.result c.in_default.rest) ∙ ap list_form (sym c.listing.ensures)) _ (fixed_list c.args.time _ c.listing.result)
+returns-in_default c = row_parsed c.args.time c.args.row _ c.command_datum-family.ensures c.command_datum-argument.ensures (list_form c.listing.result) (list_form_lem c.command_datum-family.result c.command_datum-argument.result (none_of list_family c.command_datum-family.result c.in_default.in_default-own.rest) ∙ ap list_form (sym c.listing.ensures)) _ (fixed_list c.args.time _ c.listing.result)

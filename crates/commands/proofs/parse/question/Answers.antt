@@ -32,4 +32,4 @@ returns-in-5 c = rw c.in-5.is
 
 pub returns-in_default : goal.returns-in_default
 unfolding question_of
-returns-in_default c = let past : 6 ≤ c.args.n = omega (arith, c.in_default.rest) in sym (get_or-eq_default first_questions Milliseconds past)
+returns-in_default c = let past : 6 ≤ c.args.n = omega (arith, c.in_default.in_default-own.rest) in sym (get_or-eq_default first_questions Milliseconds past)
