@@ -65,6 +65,9 @@ class Names:
     def __init__(self, one, clauses, function):
         self.clauses, self.function = clauses, function
         self.params = one["params"]
+        parts = function.split("::")
+        inside = [f for f in clauses if f.split("::")[0] == parts[0] and f.split("::")[-1] == parts[-1]]
+        self.own = clauses.get(function) or (clauses[inside[0]] if inside else {})
         self.places = {}
         self.arms = {}
         self.typed = {}
@@ -101,7 +104,7 @@ class Names:
         found = [p for p in chain[:-1] if self.places[p][1] == key]
         if not found and first in START:
             if first == "requires":
-                rest = labelled("requires", self.clauses.get(self.function, {}).get("requires", []), rest)[1:]
+                rest = labelled("requires", self.own.get("requires", []), rest)[1:]
             return "text", ".".join(["c", first, *rest])
         in_arms = [(field, path, arm) for p in chain for (field, old, path, arm) in self.arms.get(p, []) if old == key]
         if not found and not in_arms:
@@ -399,7 +402,7 @@ def turn_file(folder, path, one, clauses, crate):
             if len(same) > 1 and len({tuple(clauses[f]["requires"]) for f in same}) > 1:
                 said.append(f"{new}: which of {same}")
         elif re.match(r"returns(-|$)", new):
-            labels = clauses[function]["ensures"]
+            labels = names.own.get("ensures", [])
         if len(labels) > 1:
             text = as_record(text, labels)
         answers.append((new, "\n".join([*comment, f"pub {new} : goal.{new}", *unfolding, f"{new} c ={m2[2]}{text}"])))

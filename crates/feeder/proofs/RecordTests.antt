@@ -58,21 +58,21 @@ module _ (w p : List ℕ) (at : ℕ) {a : ℕ} (ea : a ≡ get_or (w ++ p) at 0)
   alone first l = rw (zeroth, eq-eqb a first_mark first, left_is, lt-ltb left 2 l)
 
   module _ (first : a ≡ first_mark) (two : 2 ≤ left) {b : ℕ} (eb : b ≡ get_or (w ++ p) (at + 1) 0) where
-    after_first : head_of s ≡ after_first s
+    after_first_lem : head_of s ≡ after_first s
     unfolding head_of after_first after_mark last_tests
-    after_first = rw (zeroth, eq-eqb a first_mark first, left_is, le-ltb left 2 two)
+    after_first_lem = rw (zeroth, eq-eqb a first_mark first, left_is, le-ltb left 2 two)
 
     second : get_or s 1 0 ≡ b
     second = get_or-drop at (w ++ p) 1 0 ∙ sym eb
 
     pub no_second : (b ≡ second_mark → ⊥) → heads.Skip ≡ head_for (head_of s)
     unfolding head_for after_first
-    no_second h = rw (after_first, second, ne_eqb b second_mark h)
+    no_second h = rw (after_first_lem, second, ne_eqb b second_mark h)
 
     module _ (mark : b ≡ second_mark) where
       after_mark_lem : head_of s ≡ after_mark s
       unfolding after_first
-      after_mark_lem = after_first ∙ rw (second, eq-eqb b second_mark mark)
+      after_mark_lem = after_first_lem ∙ rw (second, eq-eqb b second_mark mark)
 
       -- the mark stands, and its command's length is not there
       pub no_length : left < command_at → heads.Wait ≡ head_for (head_of s)

@@ -1,0 +1,7 @@
+use native.Mathlib.Omega.{arith}
+use Rattle.feeder.proofs.Absorbing.{appended}
+use borrow.Author.Rules.{rules}
+use Rattle.feeder.proofs.absorb.append.Goals as goal
+
+pub returns : goal.returns
+returns c = appended c.args.out.now c.args.piece.now c.copy.new.to c.args.count (omega arith) c.copy.ensures

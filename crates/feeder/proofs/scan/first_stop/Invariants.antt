@@ -1,0 +1,14 @@
+use mathlib.Core.Path.{sym, ◌∙◌}
+use Prim.Native.Nat.{◌+◌, ◌-◌}
+use native.Mathlib.Omega.{arith}
+use borrow.Author.Rules.{rules}
+use lib.ListN.{length}
+use Rattle.feeder.proofs.ScanStops.{Scanning, scan_begins, scan_whole, scan_waits, scan_goes_on, scan_ends}
+use Rattle.feeder.proofs.scan.first_stop.Given as goal
+
+-- From `at` on reading stops where it stops from the start. The measure is what is left of the bytes.
+abbrev pub invariant-loop-at : goal.invariant-loop-at
+invariant-loop-at l = Scanning l.waiting l.piece l.at
+
+abbrev pub decreases-loop-at : goal.decreases-loop-at
+decreases-loop-at l = length l.waiting + length l.piece - l.at
