@@ -20,7 +20,6 @@ use compare::Which;
 use compare::listing::compare;
 use compare::newer::{newer, newer_in};
 use feeder::{Fed, Feeder};
-use libc::{STDIN_FILENO, STDOUT_FILENO};
 use store::check::well_formed;
 use store::layout::{HEADER_SIZE, SLOT_SIZE, TIME_LIMIT};
 use store::{Expiry, read};

@@ -7,7 +7,6 @@ ghost use Rattle.store.specs.Store.{well_formed, slot_count};
 ghost use Rattle.store.specs.Promises.{Held};
 
 use commands::execute::{BUFFER_LEAST, execute};
-use libc::{STDIN_FILENO, STDOUT_FILENO};
 use store::check::well_formed;
 use store::layout::{HEADER_SIZE, SLOT_SIZE};
 use store::{Expiry, read};

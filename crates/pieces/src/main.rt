@@ -6,7 +6,6 @@ ghost use Rattle.std.specs.Prelude.{◌<◌, ◌≤◌};
 
 use commands::execute::BUFFER_LEAST;
 use feeder::{Fed, Feeder};
-use libc::{STDIN_FILENO, STDOUT_FILENO};
 use std::num::wrapping_add_u64;
 use store::layout::{HEADER_SIZE, SLOT_SIZE};
 

@@ -1,0 +1,7 @@
+use Rattle.feeder.specs.Promises.{answer_for}
+use borrow.Author.Rules.{rules}
+use Rattle.exhash.proofs.exh_feed.Goals as goal
+
+pub returns : goal.returns
+unfolding answer_for
+returns c = c.feed_lent-taken.ensures
