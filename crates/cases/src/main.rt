@@ -9,6 +9,11 @@ use feeder::{Fed, Feeder};
 use std::num::{wrapping_add_u64, wrapping_add_usize};
 use wire::bytes::{copy, equal, read_le};
 
+// The descriptors of the standard streams.
+const STDIN: i32 = 0;
+
+const STDOUT: i32 = 1;
+
 const INPUT: usize = 400000;
 
 // The bytes of a part's size, and the most that a part has.
@@ -232,9 +237,9 @@ fn agrees(input: &[u8], case: Case, cut: usize) -> bool {
 }
 
 fn say(name: &[u8], n: u64, end: &[u8]) {
-    io::write_all(STDOUT_FILENO, name);
-    io::print_decimal(STDOUT_FILENO, n);
-    io::write_all(STDOUT_FILENO, end);
+    io::write_all(STDOUT, name);
+    io::print_decimal(STDOUT, n);
+    io::write_all(STDOUT, end);
 }
 
 // 1 where a case agrees; else 0, and it says which case differs.
@@ -244,7 +249,7 @@ fn try_cut(input: &[u8], case: Case, number: u64, cut: usize) -> u64 {
     }
     say(b"case ", number, b" differs ");
     if cut == 0 {
-        io::write_all(STDOUT_FILENO, b"uncut\n");
+        io::write_all(STDOUT, b"uncut\n");
         return 0;
     }
     say(b"in pieces of ", cut as u64, b"\n");
@@ -298,7 +303,7 @@ fn try_all(input: &[u8]) -> Score {
 
 fn main() {
     let mut space = [0u8; INPUT];
-    let n = io::read_full(STDIN_FILENO, &mut space);
+    let n = io::read_full(STDIN, &mut space);
     let score = try_all(&space[..n]);
     say(b"", score.cases, b" cases: ");
     say(b"", score.uncut, b" agree uncut, ");

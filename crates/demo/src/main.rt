@@ -27,6 +27,11 @@ use wire::bytes::{clear, copy, equal, write_le};
 use wire::integers::{Natural, read_natural};
 use wire::replies::{put_bulk, put_header};
 
+// The descriptors of the standard streams.
+const STDIN: i32 = 0;
+
+const STDOUT: i32 = 1;
+
 const SCRIPT: usize = 16384;
 
 // A store of two slots.
@@ -55,7 +60,7 @@ struct Stage {
 // ---- text
 
 fn put(text: &[u8]) {
-    io::write_all(STDOUT_FILENO, text);
+    io::write_all(STDOUT, text);
 }
 
 // A line.
@@ -66,7 +71,7 @@ fn say(before: &[u8], text: &[u8]) {
 }
 
 fn put_number(n: u64, end: &[u8]) {
-    io::print_decimal(STDOUT_FILENO, n);
+    io::print_decimal(STDOUT, n);
     put(end);
 }
 
@@ -434,7 +439,7 @@ fn send(stage: Stage, line: &[u8], store: &mut [u8], reply: &mut [u8]) -> Stage 
 
 fn show_byte(byte: u8) {
     put(b" ");
-    io::print_hex(STDOUT_FILENO, byte as u64, 2);
+    io::print_hex(STDOUT, byte as u64, 2);
 }
 
 // Writes bytes in hexadecimal.
@@ -548,6 +553,6 @@ fn main() {
     let mut store = [0u8; STORE];
     let mut other = [0u8; STORE];
     let mut reply = [0u8; REPLY];
-    let n = io::read_full(STDIN_FILENO, &mut space);
+    let n = io::read_full(STDIN, &mut space);
     play(&space[..n], &mut store, &mut other, &mut reply);
 }

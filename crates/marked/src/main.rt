@@ -14,6 +14,11 @@ use wire::bytes::clear;
 use wire::integers::{Natural, read_natural};
 use wire::replies::{put_bulk, put_header};
 
+// The descriptors of the standard streams.
+const STDIN: i32 = 0;
+
+const STDOUT: i32 = 1;
+
 const INPUT: usize = 8192;
 
 // A store of two slots.
@@ -35,12 +40,12 @@ const RETURN: u8 = 13;
 const SPACE: u8 = 32;
 
 fn write(s: &[u8]) {
-    io::write_all(STDOUT_FILENO, s);
+    io::write_all(STDOUT, s);
 }
 
 fn say(before: &[u8], n: u64, after: &[u8]) {
     write(before);
-    io::print_decimal(STDOUT_FILENO, n);
+    io::print_decimal(STDOUT, n);
     write(after);
 }
 
@@ -213,7 +218,7 @@ fn take_lines(input: &[u8], store: &mut [u8]) {
 
 fn main() {
     let mut input = [0u8; INPUT];
-    let n = io::read_full(STDIN_FILENO, &mut input);
+    let n = io::read_full(STDIN, &mut input);
     let mut store = [0u8; STORE];
     take_lines(&input[..n], &mut store);
     show_store(&store);

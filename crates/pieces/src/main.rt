@@ -9,6 +9,11 @@ use feeder::{Fed, Feeder};
 use std::num::wrapping_add_u64;
 use store::layout::{HEADER_SIZE, SLOT_SIZE};
 
+// The descriptors of the standard streams.
+const STDIN: i32 = 0;
+
+const STDOUT: i32 = 1;
+
 const STREAM: usize = 100000;
 
 // A store of four slots.
@@ -145,9 +150,9 @@ fn same(a: Outcome, b: Outcome) -> bool {
 }
 
 fn say(name: &[u8], n: u64, end: &[u8]) {
-    io::write_all(STDOUT_FILENO, name);
-    io::print_decimal(STDOUT_FILENO, n);
-    io::write_all(STDOUT_FILENO, end);
+    io::write_all(STDOUT, name);
+    io::print_decimal(STDOUT, n);
+    io::write_all(STDOUT, end);
 }
 
 fn show(o: Outcome) {
@@ -164,18 +169,18 @@ fn try_cut(stream: &[u8], cut: usize, uncut: Outcome) {
     say(b"in pieces of ", cut as u64, b"\n");
     show(o);
     if same(o, uncut) {
-        io::write_all(STDOUT_FILENO, b"as uncut\n");
+        io::write_all(STDOUT, b"as uncut\n");
     } else {
-        io::write_all(STDOUT_FILENO, b"not as uncut\n");
+        io::write_all(STDOUT, b"not as uncut\n");
     }
 }
 
 fn main() {
     let mut space = [0u8; STREAM];
-    let n = io::read_full(STDIN_FILENO, &mut space);
+    let n = io::read_full(STDIN, &mut space);
     let stream = &space[..n];
     let uncut = feed_way(stream, 0);
-    io::write_all(STDOUT_FILENO, b"uncut\n");
+    io::write_all(STDOUT, b"uncut\n");
     show(uncut);
     try_cut(stream, 1, uncut);
     try_cut(stream, 2, uncut);

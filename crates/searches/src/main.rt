@@ -7,18 +7,23 @@ ghost use Rattle.std.specs.Prelude.{◌≤◌, ◌<◌, length};
 
 use store::Found;
 
+// The descriptors of the standard streams.
+const STDIN: i32 = 0;
+
+const STDOUT: i32 = 1;
+
 const SIZE: usize = 4;
 
 const LENGTH: usize = 1;
 
 fn put(text: &[u8]) {
-    io::write_all(STDOUT_FILENO, text);
+    io::write_all(STDOUT, text);
 }
 
 fn put_slot(found: Found) {
     match found {
         Found::At(i) => {
-            io::print_decimal(STDOUT_FILENO, i as u64);
+            io::print_decimal(STDOUT, i as u64);
         }
         Found::Nothing => {
             put(b"-");
@@ -35,7 +40,7 @@ fn show(bytes: &[u8], key: &[u8], field: &[u8]) {
     let found = searched.found;
     put_slot(found);
     put(b" ");
-    io::print_decimal(STDOUT_FILENO, searched.compared as u64);
+    io::print_decimal(STDOUT, searched.compared as u64);
     put(b"\n");
 }
 
@@ -95,6 +100,6 @@ fn search_all(input: &[u8]) {
 
 fn main() {
     let mut space = [0u8; 400000];
-    let n = io::read_full(STDIN_FILENO, &mut space);
+    let n = io::read_full(STDIN, &mut space);
     search_all(&space[..n]);
 }

@@ -3,14 +3,18 @@
 
 ghost use Rattle.std.specs.Prelude.{◌≤◌, ◌<◌, length};
 
+// The descriptors of the standard streams.
+const STDIN: i32 = 0;
+
+const STDOUT: i32 = 1;
 
 const SIZE: usize = 4;
 
 fn judge(bytes: &[u8]) {
     if store::check::well_formed(bytes) {
-        io::write_all(STDOUT_FILENO, b"1\n");
+        io::write_all(STDOUT, b"1\n");
     } else {
-        io::write_all(STDOUT_FILENO, b"0\n");
+        io::write_all(STDOUT, b"0\n");
     }
 }
 
@@ -41,6 +45,6 @@ fn judge_all(input: &[u8]) {
 
 fn main() {
     let mut space = [0u8; 400000];
-    let n = io::read_full(STDIN_FILENO, &mut space);
+    let n = io::read_full(STDIN, &mut space);
     judge_all(&space[..n]);
 }

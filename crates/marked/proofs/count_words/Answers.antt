@@ -1,0 +1,17 @@
+use Prim.Native.Nat.{◌+◌, ◌-◌, ◌≤◌}
+use native.Mathlib.Omega.{arith}
+use lib.ListN.{length}
+use borrow.Author.Rules.{rules}
+use Rattle.marked.proofs.count_words.Goals as goal
+
+pub overflow_add-from : goal.overflow_add-from
+overflow_add-from c = omega (arith, c.find_byte-from.ensures)
+
+pub overflow_add-n : goal.overflow_add-n
+overflow_add-n c = omega (arith, c.find_byte-from.ensures)
+
+pub loop-from-smaller : goal.loop-from-smaller
+loop-from-smaller c = omega (arith, c.find_byte-from.ensures)
+
+pub loop-from-preserved : goal.loop-from-preserved
+loop-from-preserved c = omega (arith, c.find_byte-from.ensures)
