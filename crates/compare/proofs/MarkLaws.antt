@@ -8,7 +8,6 @@ use borrow.Author.Tests.{eq-eqb, ne_eqb}
 use Rattle.wire.specs.Lists.{every, only_if, or_else}
 use Rattle.wire.specs.Bytes.{same}
 use Rattle.store.specs.declared.Found.{Found}
-use Rattle.store.specs.declared.Found.TheVariants as founds
 use Rattle.store.specs.Store.{Entry, Slot, decode, well_formed, entry_at}
 use Rattle.store.specs.Promises.{found_for}
 use Rattle.store.proofs.Finding.{named_held}

@@ -30,7 +30,7 @@ use Rattle.feeder.proofs.StreamDivide.{rest_short}
 use Rattle.feeder.proofs.FirstRecord.{First, NoFirst, first_found, none_found, first_fits, first_most, none_rest, none_skipped}
 use Rattle.feeder.proofs.OneAbsorbing.{beyond}
 use Rattle.feeder.proofs.ScanStops.{stop_record, stop_rest}
-use Rattle.feeder.proofs.StateLeft.{tail_part, waiting_back, left_state}
+use Rattle.feeder.proofs.StateLeft.{tail_part, left_state}
 
 -- ---- the bytes of a piece that a call looks at
 

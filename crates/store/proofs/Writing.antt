@@ -3,13 +3,12 @@ use mathlib.Core.Path.{◌≡◌, refl, sym, ap, ◌∙◌}
 use mathlib.Core.List.{List, [], ◌∷◌, ◌++◌, flatten, append_assoc, append-nil}
 use Prim.Native.Nat.{ℕ, zero, suc, ◌+◌, ◌-◌, ◌%◌, ◌≤◌}
 use native.Mathlib.Omega.{arith}
-use lib.ListN.{length, take, drop, set, replicate, length-append, length-set, length-drop, drop_of_length-le}
+use lib.ListN.{length, take, drop, set, replicate, length-append, length-set, length-drop}
 use lib.Seq.{take_all, take-append_seam, drop-drop, length-take-le}
 use borrow.Rule.Slice.PartMut.{mid_of, put_mid, same_len_mid}
 use Rattle.wire.specs.Bytes.{to_le, part, padded}
 use Rattle.wire.specs.Replies.{laid_over}
 use Rattle.wire.proofs.ByteLaws.{length_padded}
-use Rattle.wire.proofs.ReplyLaying.{take_laid, length_laid}
 use Rattle.store.specs.declared.Expiry.{Expiry}
 use Rattle.store.specs.Layout.{slot_size, key_length_at, field_length_at, value_length_at, version_size, expiry_size, key_at, key_most, field_at, field_most, value_at, value_most}
 use Rattle.store.specs.Store.{Entry, encode_entry, state_of, instant_of}

@@ -1,7 +1,5 @@
 use Prim.Native.Nat.{◌+◌, ◌-◌, ◌≤◌}
-use native.Mathlib.Omega.{arith}
 use lib.ListN.{length}
-use borrow.Author.Rules.{rules}
 use Rattle.demo.proofs.count_words.Given as goal
 
 -- There are no more words than bytes. The measure is what is left of the text.

@@ -1,5 +1,4 @@
 use native.Mathlib.Omega.{arith}
-use borrow.Author.Rules.{rules}
 use Rattle.wire.proofs.ReplyLaws.{length_header}
 use Rattle.demo.proofs.put_command.Goals as goal
 

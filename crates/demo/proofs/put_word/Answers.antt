@@ -1,6 +1,5 @@
 use native.Mathlib.Omega.{arith}
 use Rattle.wire.proofs.ReplyLaws.{length_bulk}
-use borrow.Author.Rules.{rules}
 use Rattle.demo.proofs.put_word.Goals as goal
 
 -- A word of two digits of length takes at most seven bytes more.

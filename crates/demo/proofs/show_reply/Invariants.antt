@@ -1,7 +1,5 @@
 use Prim.Native.Nat.{◌+◌, ◌-◌, ◌≤◌}
-use native.Mathlib.Omega.{arith}
 use lib.ListN.{length}
-use borrow.Author.Rules.{rules}
 use Rattle.demo.proofs.show_reply.Given as goal
 
 -- The measure is what is left of the reply.

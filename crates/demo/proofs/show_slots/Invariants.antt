@@ -1,10 +1,7 @@
-use mathlib.Core.Path.{◌≡◌, ◌∙◌}
+use mathlib.Core.Path.{◌≡◌}
 use mathlib.Core.Bool.{true}
 use Prim.Native.Nat.{◌-◌}
-use native.Mathlib.Omega.{arith}
-use borrow.Author.Rules.{rules}
 use Rattle.store.specs.Store.{slot_count, well_formed}
-use Rattle.store.proofs.Encode.{length_decode}
 use Rattle.demo.proofs.show_slots.Given as goal
 
 abbrev pub invariant-loop-i : goal.invariant-loop-i

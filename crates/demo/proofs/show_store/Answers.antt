@@ -1,6 +1,5 @@
 use mathlib.Core.Path.{sym, ◌∙◌}
 use borrow.Author.Tests.{not-false}
-use borrow.Author.Rules.{rules}
 use Rattle.demo.proofs.show_store.Goals as goal
 
 pub clock-requires : goal.clock-requires

@@ -1,5 +1,4 @@
 use Rattle.feeder.specs.Promises.{answer_for}
-use borrow.Author.Rules.{rules}
 use Rattle.exhash.proofs.exh_feed.Goals as goal
 
 pub returns : goal.returns

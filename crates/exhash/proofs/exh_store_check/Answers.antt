@@ -1,4 +1,3 @@
-use borrow.Author.Rules.{rules}
 use Rattle.exhash.proofs.exh_store_check.Goals as goal
 
 pub returns-then-well_formed : goal.returns-then-well_formed

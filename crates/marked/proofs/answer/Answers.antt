@@ -4,7 +4,6 @@ use native.Mathlib.Omega.{arith}
 use lib.Seq.{length-take-le}
 use lib.ListN.{length-replicate}
 use borrow.Author.Tests.{not-false}
-use borrow.Author.Rules.{rules}
 use Rattle.commands.specs.Refusal.{buffer_least}
 use Rattle.marked.proofs.Rows.{reply_inside}
 use Rattle.marked.proofs.answer.Goals as goal

@@ -1,5 +1,4 @@
 use native.Mathlib.Omega.{arith}
-use borrow.Author.Rules.{rules}
 use Rattle.marked.proofs.Rows.{word_room, word_size}
 use Rattle.marked.proofs.put_word.Goals as goal
 

@@ -1,9 +1,6 @@
 use mathlib.Core.Path.{◌≡◌}
 use Prim.Native.Nat.{◌+◌, ◌-◌, ◌*◌, ◌≤◌}
-use native.Mathlib.Omega.{arith}
 use lib.ListN.{length}
-use borrow.Author.Rules.{rules}
-use Rattle.wire.proofs.ReplyLaws.{length_header}
 use Rattle.marked.proofs.put_words.Given as goal
 
 abbrev pub invariant-loop-from : goal.invariant-loop-from

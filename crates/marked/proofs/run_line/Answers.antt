@@ -1,6 +1,5 @@
 use mathlib.Core.Path.{sym}
 use lib.Seq.{length-take-le}
-use borrow.Author.Rules.{rules}
 use Rattle.marked.proofs.run_line.Goals as goal
 
 pub slice_bounds-answer-end : goal.slice_bounds-answer-end

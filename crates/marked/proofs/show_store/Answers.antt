@@ -1,10 +1,6 @@
-use mathlib.Core.Bool.{true}
-use mathlib.Core.Path.{◌≡◌, sym, ◌∙◌}
-use Prim.Native.Nat.{◌-◌, ◌≤◌}
+use mathlib.Core.Path.{sym, ◌∙◌}
 use native.Mathlib.Omega.{arith}
-use borrow.Author.Rules.{rules}
 use borrow.Author.Tests.{not-false}
-use Rattle.store.specs.Store.{well_formed, slot_count}
 use Rattle.store.proofs.Encode.{length_decode}
 use Rattle.marked.proofs.show_store.Goals as goal
 

@@ -1,11 +1,7 @@
 use mathlib.Core.Bool.{true}
-use mathlib.Core.Path.{◌≡◌, sym, ◌∙◌}
+use mathlib.Core.Path.{◌≡◌}
 use Prim.Native.Nat.{◌-◌, ◌≤◌}
-use native.Mathlib.Omega.{arith}
-use borrow.Author.Rules.{rules}
-use borrow.Author.Tests.{not-false}
 use Rattle.store.specs.Store.{well_formed, slot_count}
-use Rattle.store.proofs.Encode.{length_decode}
 use Rattle.marked.proofs.show_store.Given as goal
 
 abbrev pub invariant-loop-i : goal.invariant-loop-i

@@ -1,7 +1,6 @@
 use mathlib.Core.Path.{◌≡◌}
 use Prim.Native.Nat.{◌-◌}
 use lib.ListN.{length}
-use borrow.Author.Rules.{rules}
 use Rattle.marked.proofs.take_lines.Given as goal
 
 abbrev pub invariant-loop-from : goal.invariant-loop-from

@@ -1,4 +1,4 @@
-use Rattle.std.proofs.Common.{◌-◌, ◌<◌, length, arith}
+use Rattle.std.proofs.Common.{arith}
 use Rattle.pieces.proofs.checksum.Goals as goal
 
 pub overflow_cast-sum : goal.overflow_cast-sum

@@ -1,4 +1,4 @@
-use Rattle.std.proofs.Common.{◌-◌, ◌<◌, length, arith}
+use Rattle.std.proofs.Common.{◌-◌, ◌<◌, length}
 use Rattle.pieces.proofs.checksum.Given as goal
 
 -- The sum stays below the modulus. The measure is what is left of the bytes.

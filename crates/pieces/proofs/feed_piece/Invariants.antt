@@ -1,4 +1,4 @@
-use Rattle.std.proofs.Common.{◌≡◌, ◌-◌, ◌≤◌, length, arith, rules}
+use Rattle.std.proofs.Common.{◌≡◌, ◌-◌, ◌≤◌, length}
 use Rattle.pieces.proofs.feed_piece.Given as goal
 
 -- Store and buffer keep their lengths. The measure is what is left of the piece.

@@ -1,4 +1,4 @@
-use Rattle.std.proofs.Common.{sym, length-take-le, rules}
+use Rattle.std.proofs.Common.{sym, length-take-le}
 use Rattle.pieces.proofs.tally.Goals as goal
 
 pub slice_bounds-checksum-end : goal.slice_bounds-checksum-end

@@ -1,6 +1,5 @@
 use mathlib.Core.Path.{refl}
 use Rattle.commands.specs.Promises.{hint_for}
-use borrow.Author.Rules.{rules}
 use Rattle.commands.proofs.act.hint_for.Goals as goal
 
 pub returns-in_default : goal.returns-in_default

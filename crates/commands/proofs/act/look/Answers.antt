@@ -1,6 +1,5 @@
 use mathlib.Core.Path.{sym, ◌∙◌}
 use Rattle.commands.proofs.Acts.{sweeps_nothing, found_slot, sweeps_live, sweeps_dead, looked_gone}
-use borrow.Author.Rules.{rules}
 use Rattle.commands.proofs.act.look.Goals as goal
 
 pub returns-in_default : goal.returns-in_default

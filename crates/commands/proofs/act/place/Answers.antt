@@ -1,6 +1,5 @@
 use mathlib.Core.Path.{sym, ◌∙◌}
 use Rattle.commands.proofs.Acts.{after_look, places_nothing, may_place, places}
-use borrow.Author.Rules.{rules}
 use Rattle.commands.proofs.act.place.Goals as goal
 
 pub returns-in-Nothing : goal.returns-in-Nothing

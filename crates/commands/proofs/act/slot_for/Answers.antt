@@ -1,7 +1,6 @@
 use mathlib.Core.Path.{sym, ◌∙◌}
 use Rattle.store.specs.Store.{decode}
 use Rattle.commands.proofs.Acts.{after_own, after_empty, after_dead}
-use borrow.Author.Rules.{rules}
 use Rattle.commands.proofs.act.slot_for.Goals as goal
 
 pub returns-in-At : goal.returns-in-At

@@ -1,6 +1,5 @@
 use Rattle.store.specs.Store.{decode}
 use Rattle.commands.proofs.Answers.{version_missing, key_missing}
-use borrow.Author.Rules.{rules}
 use Rattle.commands.proofs.answer.no_version.Goals as goal
 
 pub returns-then-key_exists : goal.returns-then-key_exists

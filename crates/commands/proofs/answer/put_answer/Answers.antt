@@ -1,5 +1,4 @@
 use Rattle.commands.proofs.Answers.{laid_reply, looked_held, found_reply, missing_reply}
-use borrow.Author.Rules.{rules}
 use Rattle.commands.proofs.answer.put_answer.Goals as goal
 
 pub put_found-requires : goal.put_found-requires

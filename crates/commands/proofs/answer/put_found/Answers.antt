@@ -1,6 +1,5 @@
 use Rattle.store.specs.Store.{decode, entry_at}
 use Rattle.commands.proofs.Answers.{found_room, laid_reply, value_reply, length_reply, exists_reply, versioned_reply, version_reply, seconds_reply, milliseconds_reply}
-use borrow.Author.Rules.{rules}
 use Rattle.commands.proofs.answer.put_found.Goals as goal
 
 pub put_bulk-requires : goal.put_bulk-requires

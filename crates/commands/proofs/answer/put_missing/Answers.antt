@@ -1,6 +1,5 @@
 use Rattle.store.specs.Store.{decode}
 use Rattle.commands.proofs.Answers.{missing_room, laid_reply, no_value, no_versioned, no_length, no_exists, no_version, no_seconds, no_milliseconds}
-use borrow.Author.Rules.{rules}
 use Rattle.commands.proofs.answer.put_missing.Goals as goal
 
 pub put_nil-requires : goal.put_nil-requires

@@ -5,7 +5,6 @@ use Rattle.wire.specs.Replies.{header, bulk, number}
 use Rattle.wire.proofs.ReplyLaying.{laid_tail, laid_within, tail_inside, tail_room, front_room}
 use Rattle.store.specs.Store.{decode, entry_at}
 use Rattle.commands.proofs.Answers.{laid_reply, pair_reply, pair_room}
-use borrow.Author.Rules.{rules}
 use Rattle.commands.proofs.answer.put_versioned.Goals as goal
 
 pub put_header-first-requires : goal.put_header-first-requires

@@ -1,5 +1,4 @@
 use Rattle.commands.proofs.Answers.{left_never, left_later, left_over}
-use borrow.Author.Rules.{rules}
 use Rattle.commands.proofs.answer.time_left.Goals as goal
 
 pub returns-then-time-instant : goal.returns-then-time-instant

@@ -1,15 +1,7 @@
-use mathlib.Core.Path.{◌≡◌, refl}
-use Prim.Native.Nat.{◌-◌}
-use lib.Dec.{ltb}
-use lib.ListN.{length, drop}
-use native.Mathlib.Omega.{arith}
-use Rattle.wire.specs.Lists.{any}
-use Rattle.wire.specs.Promises.{words_in}
+use mathlib.Core.Path.{refl}
 use Rattle.wire.proofs.WordPlaces.{length_words}
-use Rattle.store.specs.Layout.{field_most}
 use Rattle.commands.specs.ParsePromises.{any_over}
 use Rattle.commands.proofs.CountTallies.{over_found, over_on, over_ends}
-use borrow.Author.Rules.{rules}
 use Rattle.commands.proofs.counts.any_over.Goals as goal
 
 pub loop-i-init : goal.loop-i-init

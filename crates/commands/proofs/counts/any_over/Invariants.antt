@@ -1,15 +1,11 @@
-use mathlib.Core.Path.{◌≡◌, refl}
+use mathlib.Core.Path.{◌≡◌}
 use Prim.Native.Nat.{◌-◌}
 use lib.Dec.{ltb}
 use lib.ListN.{length, drop}
-use native.Mathlib.Omega.{arith}
 use Rattle.wire.specs.Lists.{any}
 use Rattle.wire.specs.Promises.{words_in}
-use Rattle.wire.proofs.WordPlaces.{length_words}
 use Rattle.store.specs.Layout.{field_most}
 use Rattle.commands.specs.ParsePromises.{any_over}
-use Rattle.commands.proofs.CountTallies.{over_found, over_on, over_ends}
-use borrow.Author.Rules.{rules}
 use Rattle.commands.proofs.counts.any_over.Given as goal
 
 -- What is left does the same; the measure is how many words are left.

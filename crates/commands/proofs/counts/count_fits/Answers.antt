@@ -1,5 +1,4 @@
 use Rattle.commands.proofs.CountTallies.{row_few, row_just, row_enough, row_paired}
-use borrow.Author.Rules.{rules}
 use Rattle.commands.proofs.counts.count_fits.Goals as goal
 
 pub returns-then-count-least : goal.returns-then-count-least

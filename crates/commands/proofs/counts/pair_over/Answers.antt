@@ -1,18 +1,8 @@
-use mathlib.Core.Path.{◌≡◌, refl}
-use mathlib.Core.Bool.{◌||◌}
-use Prim.Native.Nat.{◌+◌, ◌-◌, ◌≤◌}
-use lib.Dec.{ltb}
-use lib.ListN.{length, drop}
+use mathlib.Core.Path.{refl}
 use native.Mathlib.Omega.{arith}
-use Rattle.wire.specs.Lists.{any}
-use Rattle.wire.specs.Words.{words_most}
-use Rattle.wire.specs.Promises.{words_in}
 use Rattle.wire.proofs.WordPlaces.{length_words}
-use Rattle.store.specs.Layout.{field_most, value_most}
-use Rattle.commands.specs.Parse.{pairs_of}
 use Rattle.commands.specs.ParsePromises.{pair_over}
 use Rattle.commands.proofs.CountTallies.{pair_field, pair_value, pair_on, pair_ends}
-use borrow.Author.Rules.{rules}
 use Rattle.commands.proofs.counts.pair_over.Goals as goal
 
 pub loop-i-init : goal.loop-i-init

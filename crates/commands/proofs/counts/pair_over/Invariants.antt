@@ -1,18 +1,14 @@
-use mathlib.Core.Path.{◌≡◌, refl}
+use mathlib.Core.Path.{◌≡◌}
 use mathlib.Core.Bool.{◌||◌}
 use Prim.Native.Nat.{◌+◌, ◌-◌, ◌≤◌}
 use lib.Dec.{ltb}
 use lib.ListN.{length, drop}
-use native.Mathlib.Omega.{arith}
 use Rattle.wire.specs.Lists.{any}
 use Rattle.wire.specs.Words.{words_most}
 use Rattle.wire.specs.Promises.{words_in}
-use Rattle.wire.proofs.WordPlaces.{length_words}
 use Rattle.store.specs.Layout.{field_most, value_most}
 use Rattle.commands.specs.Parse.{pairs_of}
 use Rattle.commands.specs.ParsePromises.{pair_over}
-use Rattle.commands.proofs.CountTallies.{pair_field, pair_value, pair_on, pair_ends}
-use borrow.Author.Rules.{rules}
 use Rattle.commands.proofs.counts.pair_over.Given as goal
 
 -- What is left does the same; the measure is how many words are left.

@@ -1,5 +1,4 @@
 use Rattle.commands.proofs.CountTallies.{key_long, key_only, fields_long, pair_long_lem, field_only, field_long, value_long}
-use borrow.Author.Rules.{rules}
 use Rattle.commands.proofs.counts.too_long.Goals as goal
 
 pub returns-then-word-gt-KEY_MOST : goal.returns-then-word-gt-KEY_MOST

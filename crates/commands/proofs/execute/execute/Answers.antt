@@ -1,5 +1,4 @@
 use Rattle.commands.proofs.ExecuteDone.{places_size, places_divided, does_exec}
-use borrow.Author.Rules.{rules}
 use Rattle.commands.proofs.execute.execute.Goals as goal
 
 pub slice_bounds-run_words-end : goal.slice_bounds-run_words-end

@@ -1,6 +1,5 @@
 use Rattle.store.specs.Store.{decode}
 use Rattle.commands.proofs.ExecuteDone.{field_requires, field_does}
-use borrow.Author.Rules.{rules}
 use Rattle.commands.proofs.execute.run_on_field.Goals as goal
 
 pub on_field-requires : goal.on_field-requires

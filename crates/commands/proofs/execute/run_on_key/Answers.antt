@@ -3,7 +3,6 @@ use Rattle.store.specs.Store.{decode}
 use Rattle.commands.proofs.FieldLoops.{from_length, from_inside}
 use Rattle.commands.proofs.KeyDone.{does_words, words_within}
 use Rattle.commands.proofs.ExecuteDone.{clock_does}
-use borrow.Author.Rules.{rules}
 use Rattle.commands.proofs.execute.run_on_key.Goals as goal
 
 pub on_key-requires : goal.on_key-requires

@@ -1,7 +1,6 @@
 use Rattle.commands.proofs.FieldDeeds.{may_refuse}
 use Rattle.commands.proofs.OneField.{reply_room}
 use Rattle.commands.proofs.ExecuteDone.{now_soon, refusal_known, refusal_done, field_opened, field_limits, field_done, key_opened, key_words, key_limits, key_done}
-use borrow.Author.Rules.{rules}
 use Rattle.commands.proofs.execute.run_words.Goals as goal
 
 pub parse-parsed-requires : goal.parse-parsed-requires

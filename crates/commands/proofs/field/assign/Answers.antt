@@ -1,5 +1,4 @@
 use Rattle.commands.proofs.FieldDeeds.{sought_held, assign_stale, assign_done}
-use borrow.Author.Rules.{rules}
 use Rattle.commands.proofs.field.assign.Goals as goal
 
 pub is_stale_at-requires : goal.is_stale_at-requires

@@ -1,6 +1,5 @@
 use Rattle.wire.specs.Promises.{integer_of}
 use Rattle.commands.proofs.FieldDeeds.{sum_outside, sum_below, sum_above, sum_inside}
-use borrow.Author.Rules.{rules}
 use Rattle.commands.proofs.field.bounded_sum.Goals as goal
 
 pub returns-in_default : goal.returns-in_default

@@ -1,5 +1,4 @@
 use Rattle.commands.proofs.FieldDeeds.{held_version_most, at_most, expire_missing, expire_stale, expire_done}
-use borrow.Author.Rules.{rules}
 use Rattle.commands.proofs.field.expire.Goals as goal
 
 pub returns-in_default : goal.returns-in_default

@@ -1,6 +1,5 @@
 use Rattle.commands.specs.Promises.{fields_added}
 use mathlib.Core.Path.{refl}
-use borrow.Author.Rules.{rules}
 use Rattle.commands.proofs.field.fields_added.Goals as goal
 
 pub returns-in-At : goal.returns-in-At

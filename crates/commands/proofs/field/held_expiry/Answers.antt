@@ -4,7 +4,6 @@ use Rattle.commands.proofs.FieldDeeds.{entry_found, entry_none}
 use Rattle.wire.specs.Lists.{or_else}
 use Rattle.commands.specs.Promises.{held_expiry}
 use Rattle.store.specs.declared.Expiry.TheVariants.{Never}
-use borrow.Author.Rules.{rules}
 use Rattle.commands.proofs.field.held_expiry.Goals as goal
 
 pub expiry-requires : goal.expiry-requires

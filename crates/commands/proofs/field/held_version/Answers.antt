@@ -3,7 +3,6 @@ use Rattle.store.specs.Store.{decode}
 use Rattle.commands.proofs.FieldDeeds.{entry_found, entry_none}
 use Rattle.wire.specs.Lists.{or_else}
 use Rattle.commands.specs.Promises.{held_version}
-use borrow.Author.Rules.{rules}
 use Rattle.commands.proofs.field.held_version.Goals as goal
 
 pub version-requires : goal.version-requires

@@ -1,5 +1,4 @@
 use Rattle.commands.proofs.FieldDeeds.{sought_held, increment_stale, increment_unread, increment_overflow, increment_within, increment_done}
-use borrow.Author.Rules.{rules}
 use Rattle.commands.proofs.field.increment.Goals as goal
 
 pub is_stale_at-requires : goal.is_stale_at-requires

@@ -2,7 +2,6 @@ use Rattle.store.specs.Store.{decode}
 use Rattle.commands.specs.Effect.{is_stale}
 use Rattle.commands.proofs.FieldDeeds.{entry_found, entry_none}
 use Rattle.commands.proofs.VersionPlans.{stale_is, missing_fresh}
-use borrow.Author.Rules.{rules}
 use Rattle.commands.proofs.field.is_stale_at.Goals as goal
 
 pub version-requires : goal.version-requires

@@ -1,6 +1,5 @@
 use Rattle.store.specs.Store.{decode}
 use Rattle.commands.proofs.OneField.{reply_room, looked_sought, still_sought, field_settled}
-use borrow.Author.Rules.{rules}
 use Rattle.commands.proofs.field.on_field.Goals as goal
 
 pub settle_deed-settled-requires : goal.settle_deed-settled-requires

@@ -1,5 +1,4 @@
 use Rattle.commands.proofs.FieldDeeds.{never_most, persist_missing, persist_never, persist_done}
-use borrow.Author.Rules.{rules}
 use Rattle.commands.proofs.field.persist.Goals as goal
 
 pub returns-in_default : goal.returns-in_default

@@ -1,6 +1,5 @@
 use Rattle.commands.specs.Promises.{answers_about}
 use Rattle.commands.proofs.OneField.{room_replied, room_refused, laid_replied, laid_refused, laid_asked}
-use borrow.Author.Rules.{rules}
 use Rattle.commands.proofs.field.put_settled.Goals as goal
 
 pub put_integer-requires : goal.put_integer-requires

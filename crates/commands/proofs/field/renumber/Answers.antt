@@ -1,5 +1,4 @@
 use Rattle.commands.proofs.FieldDeeds.{held_expiry_most, renumber_missing, renumber_done}
-use borrow.Author.Rules.{rules}
 use Rattle.commands.proofs.field.renumber.Goals as goal
 
 pub returns-in_default : goal.returns-in_default

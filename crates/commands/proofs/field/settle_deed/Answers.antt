@@ -1,6 +1,5 @@
 use Rattle.commands.proofs.FieldDeeds.{sought_found}
 use Rattle.commands.proofs.OneField.{limits_assign, limits_increment, limits_expire, settled_barred, settled_assign, settled_increment, settled_expire, settled_persist, settled_renumber, settled_ask}
-use borrow.Author.Rules.{rules}
 use Rattle.commands.proofs.field.settle_deed.Goals as goal
 
 pub returns-then-is_barred : goal.returns-then-is_barred

@@ -1,5 +1,4 @@
 use Rattle.commands.proofs.FieldDeeds.{stamp_passes, stamp_done}
-use borrow.Author.Rules.{rules}
 use Rattle.commands.proofs.field.stamp.Goals as goal
 
 pub returns-then-version-gt-VERSION_MOST : goal.returns-then-version-gt-VERSION_MOST

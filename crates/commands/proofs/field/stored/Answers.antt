@@ -1,6 +1,5 @@
 use Rattle.store.specs.Store.{decode}
 use Rattle.commands.proofs.FieldDeeds.{stored_found, stored_none}
-use borrow.Author.Rules.{rules}
 use Rattle.commands.proofs.field.stored.Goals as goal
 
 pub value-requires : goal.value-requires

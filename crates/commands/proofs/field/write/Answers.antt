@@ -1,6 +1,5 @@
 use Rattle.wire.proofs.ByteLaws.{bytes_intro}
 use Rattle.commands.proofs.FieldDeeds.{sought_held, held_at_most, write_passes, write_full, write_may, write_done}
-use borrow.Author.Rules.{rules}
 use Rattle.commands.proofs.field.write.Goals as goal
 
 pub held_version-held-requires : goal.held_version-held-requires

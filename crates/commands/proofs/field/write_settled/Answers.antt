@@ -1,6 +1,5 @@
 use Rattle.commands.specs.Promises.{write_settled}
 use mathlib.Core.Path.{refl}
-use borrow.Author.Rules.{rules}
 use Rattle.commands.proofs.field.write_settled.Goals as goal
 
 pub returns-in-Done : goal.returns-in-Done

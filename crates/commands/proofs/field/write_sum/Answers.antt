@@ -2,7 +2,6 @@ use Rattle.wire.specs.Promises.{integer_of}
 use Rattle.store.specs.Store.{decode}
 use Rattle.commands.specs.Promises.{entry_for}
 use Rattle.commands.proofs.FieldDeeds.{laid_inside, laid_taken, laid_size, text_room, text_storable, sum_settles}
-use borrow.Author.Rules.{rules}
 use Rattle.commands.proofs.field.write_sum.Goals as goal
 
 pub write_integer-size-requires : goal.write_integer-size-requires

@@ -1,7 +1,6 @@
 use native.Mathlib.Omega.{arith}
 use Rattle.commands.proofs.FieldDeeds.{may_count}
 use Rattle.commands.proofs.KeyDone.{few_deleted, does_delete}
-use borrow.Author.Rules.{rules}
 use Rattle.commands.proofs.key.delete.Goals as goal
 
 pub put_number-requires : goal.put_number-requires

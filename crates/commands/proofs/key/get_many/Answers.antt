@@ -6,7 +6,6 @@ use Rattle.commands.proofs.Answers.{laid_reply}
 use Rattle.wire.proofs.Elements.{tail_spare}
 use Rattle.commands.proofs.FieldLoops.{header_room, header_inside, answers_begin, answers_spare, answers_room}
 use Rattle.commands.proofs.KeyDone.{does_many}
-use borrow.Author.Rules.{rules}
 use Rattle.commands.proofs.key.get_many.Goals as goal
 
 pub put_header-at-requires : goal.put_header-at-requires

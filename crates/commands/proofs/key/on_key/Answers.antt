@@ -2,7 +2,6 @@ use native.Mathlib.Omega.{arith}
 use Rattle.commands.specs.ParsePromises.{command_for}
 use Rattle.commands.proofs.FieldDeeds.{may_count}
 use Rattle.commands.proofs.KeyDone.{does_deed, deed_within, does_held, does_live, does_list, few_counted}
-use borrow.Author.Rules.{rules}
 use Rattle.commands.proofs.key.on_key.Goals as goal
 
 pub set_many-requires : goal.set_many-requires

@@ -1,14 +1,10 @@
-use mathlib.Core.Path.{refl}
 use mathlib.Core.List.{flatten}
 use Prim.Native.Nat.{◌-◌}
-use native.Mathlib.Omega.{arith}
 use lib.ListN.{length}
 use Rattle.wire.specs.Promises.{words_in}
-use Rattle.wire.proofs.ReplyLaying.{laid_none}
-use Rattle.commands.specs.Promises.{answer_most, answer_about, answers_of}
-use Rattle.wire.proofs.Elements.{Going, going_begins, going_on_lem, going_within, going_ends, going_length, going_start, going_spare}
-use Rattle.commands.proofs.FieldLoops.{words_from, answers_from, answers_next, answers_over}
-use borrow.Author.Rules.{rules}
+use Rattle.commands.specs.Promises.{answer_about, answers_of}
+use Rattle.wire.proofs.Elements.{Going}
+use Rattle.commands.proofs.FieldLoops.{answers_from}
 use Rattle.commands.proofs.key.put_answers.Given as goal
 
 -- What is left does the same; the measure is how many words are left.

@@ -2,7 +2,6 @@ use native.Mathlib.Omega.{arith}
 use Rattle.wire.proofs.ReplyLaying.{laid_tail, laid_within, tail_inside, tail_room}
 use Rattle.commands.proofs.Answers.{laid_reply}
 use Rattle.commands.proofs.ListedSlots.{shown_field, shown_value, shown_both, field_room, value_room, first_room, both_room}
-use borrow.Author.Rules.{rules}
 use Rattle.commands.proofs.key.put_entry.Goals as goal
 
 pub put_bulk-requires : goal.put_bulk-requires

@@ -1,5 +1,4 @@
 use Rattle.commands.specs.Promises.{answer_about}
-use borrow.Author.Rules.{rules}
 use Rattle.commands.proofs.key.put_field.Goals as goal
 
 pub returns : goal.returns

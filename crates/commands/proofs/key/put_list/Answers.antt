@@ -3,7 +3,6 @@ use native.Mathlib.Omega.{arith}
 use Rattle.wire.proofs.ReplyLaying.{laid_tail, laid_within, tail_room}
 use Rattle.commands.proofs.Answers.{laid_reply}
 use Rattle.commands.proofs.FieldLoops.{header_room, header_inside, entries_begin, entries_room, entries_few}
-use borrow.Author.Rules.{rules}
 use Rattle.commands.proofs.key.put_list.Goals as goal
 
 pub overflow_mul-count : goal.overflow_mul-count

@@ -1,14 +1,9 @@
-use mathlib.Core.Path.{◌≡◌, refl}
-use mathlib.Core.List.{flatten}
-use Prim.Native.Nat.{◌-◌}
+use mathlib.Core.Path.{refl}
 use native.Mathlib.Omega.{arith}
-use lib.ListN.{length}
 use Rattle.wire.proofs.ReplyLaying.{laid_none}
-use Rattle.store.specs.Store.{decode}
 use Rattle.commands.specs.Promises.{listed_of}
-use Rattle.wire.proofs.Elements.{Going, going_begins, going_on_lem, going_within, going_ends, going_length, going_start, going_room}
+use Rattle.wire.proofs.Elements.{going_begins, going_on_lem, going_within, going_ends, going_length, going_start, going_room}
 use Rattle.commands.proofs.ListedSlots.{shown_from, live_next, live_held, live_few, live_later, shown_next, shown_end, shown_over}
-use borrow.Author.Rules.{rules}
 use Rattle.commands.proofs.key.put_listed.Goals as goal
 
 pub loop-from-init : goal.loop-from-init

@@ -1,14 +1,11 @@
-use mathlib.Core.Path.{◌≡◌, refl}
+use mathlib.Core.Path.{◌≡◌}
 use mathlib.Core.List.{flatten}
 use Prim.Native.Nat.{◌-◌}
-use native.Mathlib.Omega.{arith}
 use lib.ListN.{length}
-use Rattle.wire.proofs.ReplyLaying.{laid_none}
 use Rattle.store.specs.Store.{decode}
 use Rattle.commands.specs.Promises.{listed_of}
-use Rattle.wire.proofs.Elements.{Going, going_begins, going_on_lem, going_within, going_ends, going_length, going_start, going_room}
-use Rattle.commands.proofs.ListedSlots.{shown_from, live_next, live_held, live_few, live_later, shown_next, shown_end, shown_over}
-use borrow.Author.Rules.{rules}
+use Rattle.wire.proofs.Elements.{Going}
+use Rattle.commands.proofs.ListedSlots.{shown_from}
 use Rattle.commands.proofs.key.put_listed.Given as goal
 
 -- What is left does the same; the measure is how many slots are left.

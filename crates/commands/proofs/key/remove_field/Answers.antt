@@ -1,7 +1,6 @@
 use mathlib.Core.Path.{sym, ◌∙◌}
 use Rattle.commands.proofs.Acts.{found_slot}
 use Rattle.commands.proofs.ListedSlots.{removes_nothing, removes_one}
-use borrow.Author.Rules.{rules}
 use Rattle.commands.proofs.key.remove_field.Goals as goal
 
 pub returns-in_default : goal.returns-in_default

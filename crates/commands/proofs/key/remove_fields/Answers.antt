@@ -1,9 +1,6 @@
-use mathlib.Core.Path.{◌≡◌, refl}
-use Prim.Native.Nat.{◌-◌}
+use mathlib.Core.Path.{refl}
 use native.Mathlib.Omega.{arith}
-use lib.ListN.{length}
-use Rattle.wire.specs.Promises.{words_in}
-use Rattle.commands.proofs.FieldLoops.{Deleting, deleting_begins, deleting_few, deleting_on, deleting_ends, words_from, next_word, no_word}
+use Rattle.commands.proofs.FieldLoops.{deleting_begins, deleting_few, deleting_on, deleting_ends, words_from, next_word, no_word}
 use borrow.Author.Rules.{rules}
 use Rattle.commands.proofs.key.remove_fields.Goals as goal
 

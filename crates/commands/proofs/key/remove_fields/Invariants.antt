@@ -1,10 +1,8 @@
-use mathlib.Core.Path.{◌≡◌, refl}
+use mathlib.Core.Path.{◌≡◌}
 use Prim.Native.Nat.{◌-◌}
-use native.Mathlib.Omega.{arith}
 use lib.ListN.{length}
 use Rattle.wire.specs.Promises.{words_in}
-use Rattle.commands.proofs.FieldLoops.{Deleting, deleting_begins, deleting_few, deleting_on, deleting_ends, words_from, next_word, no_word}
-use borrow.Author.Rules.{rules}
+use Rattle.commands.proofs.FieldLoops.{Deleting, words_from}
 use Rattle.commands.proofs.key.remove_fields.Given as goal
 
 -- What is left does the same; the measure is how many words are left.

@@ -1,9 +1,6 @@
-use mathlib.Core.Path.{◌≡◌, refl}
-use Prim.Native.Nat.{◌-◌}
+use mathlib.Core.Path.{refl}
 use native.Mathlib.Omega.{arith}
-use lib.ListN.{length}
-use Rattle.wire.specs.Promises.{words_in}
-use Rattle.commands.proofs.FieldLoops.{Sweeping, sweeping_on, sweeping_ends, words_from, next_word, no_word}
+use Rattle.commands.proofs.FieldLoops.{sweeping_on, sweeping_ends, words_from, next_word, no_word}
 use borrow.Author.Rules.{rules}
 use Rattle.commands.proofs.key.sweep_fields.Goals as goal
 

@@ -1,10 +1,8 @@
-use mathlib.Core.Path.{◌≡◌, refl}
+use mathlib.Core.Path.{◌≡◌}
 use Prim.Native.Nat.{◌-◌}
-use native.Mathlib.Omega.{arith}
 use lib.ListN.{length}
 use Rattle.wire.specs.Promises.{words_in}
-use Rattle.commands.proofs.FieldLoops.{Sweeping, sweeping_on, sweeping_ends, words_from, next_word, no_word}
-use borrow.Author.Rules.{rules}
+use Rattle.commands.proofs.FieldLoops.{Sweeping, words_from}
 use Rattle.commands.proofs.key.sweep_fields.Given as goal
 
 -- What is left does the same; the measure is how many words are left.

@@ -1,6 +1,5 @@
 use mathlib.Core.Path.{refl}
 use Rattle.commands.specs.Promises.{width_of}
-use borrow.Author.Rules.{rules}
 use Rattle.commands.proofs.key.width.Goals as goal
 
 pub returns-in-Fields : goal.returns-in-Fields

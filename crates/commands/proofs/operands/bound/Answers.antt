@@ -1,5 +1,4 @@
 use Rattle.commands.proofs.OperandWords.{bound_none, bound_read}
-use borrow.Author.Rules.{rules}
 use Rattle.commands.proofs.operands.bound.Goals as goal
 
 pub returns-then-said-ge-NOT_GIVEN : goal.returns-then-said-ge-NOT_GIVEN

@@ -1,5 +1,4 @@
 use Rattle.commands.proofs.OperandWords.{instant_seconds, instant_since, instant_ms, instant_itself}
-use borrow.Author.Rules.{rules}
 use Rattle.commands.proofs.operands.instant.Goals as goal
 
 pub returns-in-0 : goal.returns-in-0

@@ -1,5 +1,4 @@
 use Rattle.commands.specs.Parse.{beyond}
-use borrow.Author.Rules.{rules}
 use Rattle.commands.proofs.operands.is_beyond.Goals as goal
 
 pub returns-in-Clear : goal.returns-in-Clear

@@ -1,5 +1,4 @@
 use Rattle.commands.specs.Parse.{is_zero}
-use borrow.Author.Rules.{rules}
 use Rattle.commands.proofs.operands.is_zero.Goals as goal
 
 pub returns-in-Next : goal.returns-in-Next

@@ -1,6 +1,5 @@
 use Rattle.store.specs.Layout.{time_limit}
 use Rattle.commands.proofs.OperandWords.{natural_value, natural_refused, lifetime_none, lifetime_keep, lifetime_refused, lifetime_until}
-use borrow.Author.Rules.{rules}
 use Rattle.commands.proofs.operands.lifetime.Goals as goal
 
 pub returns-then-said-ge-NOT_GIVEN : goal.returns-then-said-ge-NOT_GIVEN

@@ -1,5 +1,4 @@
 use Rattle.commands.proofs.Parsing.{terms_untimed, terms_unversioned, terms_zero, terms_beyond, terms_both}
-use borrow.Author.Rules.{rules}
 use Rattle.commands.proofs.operands.read_terms.Goals as goal
 
 pub returns-in_default : goal.returns-in_default

@@ -1,7 +1,6 @@
 use mathlib.Core.Path.{sym, ◌∙◌}
 use Rattle.commands.specs.ParsePromises.{bound_given, sum_of}
 use Rattle.commands.proofs.ParseFamilies.{sum_0, sum_1, sum_2, sum_3}
-use borrow.Author.Rules.{rules}
 use Rattle.commands.proofs.operands.sum.Goals as goal
 
 pub returns-in_default : goal.returns-in_default

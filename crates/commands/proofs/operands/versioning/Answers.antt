@@ -1,6 +1,5 @@
 use Rattle.store.specs.Layout.{version_most}
 use Rattle.commands.proofs.OperandWords.{natural_value, natural_refused, versioning_none, versioning_refused, versioning_match, versioning_exactly, versioning_above}
-use borrow.Author.Rules.{rules}
 use Rattle.commands.proofs.operands.versioning.Goals as goal
 
 pub returns-then-said-ge-NOT_GIVEN : goal.returns-then-said-ge-NOT_GIVEN

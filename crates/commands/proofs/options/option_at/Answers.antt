@@ -3,7 +3,6 @@ use native.Mathlib.Omega.{arith}
 use Rattle.wire.proofs.WordPlaces.{length_words}
 use Rattle.commands.proofs.TableRows.{option_number}
 use Rattle.commands.proofs.OptionScanning.{option_unknown, option_barred, option_bare, option_short, option_found}
-use borrow.Author.Rules.{rules}
 use Rattle.commands.proofs.options.option_at.Goals as goal
 
 pub returns-in_default : goal.returns-in_default

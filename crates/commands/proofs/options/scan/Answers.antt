@@ -1,10 +1,6 @@
-use Prim.Native.Nat.{◌-◌}
 use native.Mathlib.Omega.{arith}
-use lib.ListN.{length}
-use Rattle.wire.specs.Promises.{words_in}
 use Rattle.wire.proofs.WordPlaces.{length_words}
-use Rattle.commands.proofs.OptionScanning.{Scanning, scanning_begins, scanning_fails, scanning_again, scanning_on, scanning_ends}
-use borrow.Author.Rules.{rules}
+use Rattle.commands.proofs.OptionScanning.{scanning_begins, scanning_fails, scanning_again, scanning_on, scanning_ends}
 use Rattle.commands.proofs.options.scan.Goals as goal
 
 pub loop-i-init : goal.loop-i-init

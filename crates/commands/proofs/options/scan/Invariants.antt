@@ -1,10 +1,7 @@
 use Prim.Native.Nat.{◌-◌}
-use native.Mathlib.Omega.{arith}
 use lib.ListN.{length}
 use Rattle.wire.specs.Promises.{words_in}
-use Rattle.wire.proofs.WordPlaces.{length_words}
-use Rattle.commands.proofs.OptionScanning.{Scanning, scanning_begins, scanning_fails, scanning_again, scanning_on, scanning_ends}
-use borrow.Author.Rules.{rules}
+use Rattle.commands.proofs.OptionScanning.{Scanning}
 use Rattle.commands.proofs.options.scan.Given as goal
 
 -- What is left does the same; the measure is how many words are left.

@@ -1,11 +1,5 @@
-use mathlib.Core.Path.{◌≡◌, refl}
-use Prim.Native.Nat.{◌-◌}
-use lib.Dec.{eqb}
-use lib.ListN.{length, drop}
-use native.Mathlib.Omega.{arith}
-use Rattle.wire.specs.Lists.{any}
+use mathlib.Core.Path.{refl}
 use Rattle.commands.proofs.OptionScanning.{takes_found, takes_on, takes_ends}
-use borrow.Author.Rules.{rules}
 use Rattle.commands.proofs.options.takes.Goals as goal
 
 pub loop-i-init : goal.loop-i-init

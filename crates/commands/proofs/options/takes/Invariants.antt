@@ -1,11 +1,8 @@
-use mathlib.Core.Path.{◌≡◌, refl}
+use mathlib.Core.Path.{◌≡◌}
 use Prim.Native.Nat.{◌-◌}
 use lib.Dec.{eqb}
 use lib.ListN.{length, drop}
-use native.Mathlib.Omega.{arith}
 use Rattle.wire.specs.Lists.{any}
-use Rattle.commands.proofs.OptionScanning.{takes_found, takes_on, takes_ends}
-use borrow.Author.Rules.{rules}
 use Rattle.commands.proofs.options.takes.Given as goal
 
 -- What is left does the same; the measure is how many groups are left.

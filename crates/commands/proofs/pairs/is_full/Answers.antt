@@ -3,7 +3,6 @@ use native.Mathlib.Omega.{arith}
 use borrow.Author.Tests.{le-ltb}
 use Rattle.store.specs.Store.{decode}
 use Rattle.commands.specs.Execute.{room}
-use borrow.Author.Rules.{rules}
 use Rattle.commands.proofs.pairs.is_full.Goals as goal
 
 pub returns-then-n-eq0 : goal.returns-then-n-eq0

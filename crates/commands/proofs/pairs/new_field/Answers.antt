@@ -1,7 +1,6 @@
 use mathlib.Core.Path.{refl}
 use borrow.Author.Tests.{eq-eqb, ne_eqb}
 use Rattle.commands.specs.Promises.{new_field}
-use borrow.Author.Rules.{rules}
 use Rattle.commands.proofs.pairs.new_field.Goals as goal
 
 pub returns-in_default : goal.returns-in_default

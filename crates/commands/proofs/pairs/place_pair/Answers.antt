@@ -3,7 +3,6 @@ use Rattle.wire.proofs.ByteLaws.{bytes_intro}
 use Rattle.store.specs.Store.{instant_of}
 use Rattle.commands.proofs.FieldDeeds.{sought_held}
 use Rattle.commands.proofs.PairLoops.{version_sought, placed_pair}
-use borrow.Author.Rules.{rules}
 use Rattle.commands.proofs.pairs.place_pair.Goals as goal
 
 pub held_version-version-requires : goal.held_version-version-requires

@@ -1,12 +1,7 @@
-use mathlib.Core.Path.{◌≡◌, refl}
-use Prim.Native.Nat.{◌-◌, ◌≤◌}
+use mathlib.Core.Path.{refl}
 use native.Mathlib.Omega.{arith}
-use lib.ListN.{length}
-use Rattle.wire.specs.Words.{words_most}
-use Rattle.wire.specs.Promises.{words_in}
-use Rattle.commands.specs.Parse.{pairs_of}
 use Rattle.commands.proofs.FieldLoops.{words_from}
-use Rattle.commands.proofs.PairLoops.{pairs_from, next_pair, no_pair, Writing, writing_next, writing_on, writing_ends}
+use Rattle.commands.proofs.PairLoops.{pairs_from, next_pair, no_pair, writing_next, writing_on, writing_ends}
 use borrow.Author.Rules.{rules}
 use Rattle.commands.proofs.pairs.place_pairs.Goals as goal
 

@@ -1,13 +1,10 @@
-use mathlib.Core.Path.{◌≡◌, refl}
+use mathlib.Core.Path.{◌≡◌}
 use Prim.Native.Nat.{◌-◌, ◌≤◌}
-use native.Mathlib.Omega.{arith}
 use lib.ListN.{length}
 use Rattle.wire.specs.Words.{words_most}
 use Rattle.wire.specs.Promises.{words_in}
 use Rattle.commands.specs.Parse.{pairs_of}
-use Rattle.commands.proofs.FieldLoops.{words_from}
-use Rattle.commands.proofs.PairLoops.{pairs_from, next_pair, no_pair, Writing, writing_next, writing_on, writing_ends}
-use borrow.Author.Rules.{rules}
+use Rattle.commands.proofs.PairLoops.{pairs_from, Writing}
 use Rattle.commands.proofs.pairs.place_pairs.Given as goal
 
 -- What is left does the same; the measure is how many words are left.

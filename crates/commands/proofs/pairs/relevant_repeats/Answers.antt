@@ -1,4 +1,3 @@
-use borrow.Author.Rules.{rules}
 use Rattle.commands.proofs.PairLoops.{times_few, telling_all, telling_none}
 use Rattle.commands.proofs.pairs.relevant_repeats.Goals as goal
 

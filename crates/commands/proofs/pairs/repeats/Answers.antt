@@ -1,11 +1,8 @@
-use mathlib.Core.Path.{◌≡◌}
-use Prim.Native.Nat.{◌+◌, ◌-◌, ◌≤◌}
+use Prim.Native.Nat.{◌+◌, ◌≤◌}
 use native.Mathlib.Omega.{arith}
-use lib.ListN.{length}
-use Rattle.wire.specs.Words.{words_most, word_at}
-use Rattle.wire.specs.Promises.{words_in}
+use Rattle.wire.specs.Words.{words_most}
 use Rattle.commands.proofs.FieldLoops.{words_from}
-use Rattle.commands.proofs.PairLoops.{named_from, next_named, none_named_lem, few_named, Repeating, repeating_few, repeating_hit, repeating_skip, repeating_ends}
+use Rattle.commands.proofs.PairLoops.{named_from, next_named, none_named_lem, few_named, repeating_few, repeating_hit, repeating_skip, repeating_ends}
 use Rattle.commands.proofs.pairs.repeats.Goals as goal
 use Rattle.commands.proofs.pairs.repeats.Goals.{then-equal, else-equal}
 

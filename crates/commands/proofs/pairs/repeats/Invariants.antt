@@ -1,12 +1,9 @@
 use mathlib.Core.Path.{◌≡◌}
-use mathlib.Core.Logic.{⊎_elim}
 use Prim.Native.Nat.{◌+◌, ◌-◌, ◌≤◌}
-use native.Mathlib.Omega.{arith}
 use lib.ListN.{length}
 use Rattle.wire.specs.Words.{words_most, word_at}
 use Rattle.wire.specs.Promises.{words_in}
-use Rattle.commands.proofs.FieldLoops.{words_from}
-use Rattle.commands.proofs.PairLoops.{named_from, next_named, none_named_lem, few_named, Repeating, repeating_few, repeating_hit, repeating_skip, repeating_ends}
+use Rattle.commands.proofs.PairLoops.{named_from, Repeating}
 use Rattle.commands.proofs.pairs.repeats.Given as goal
 
 -- What is left does the same; the measure is how many words are left.

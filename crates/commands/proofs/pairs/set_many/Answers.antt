@@ -12,7 +12,6 @@ use Rattle.commands.specs.Refusal.{table}
 use Rattle.commands.specs.ParsePromises.{is_refusal}
 use Rattle.commands.proofs.FieldDeeds.{may_refuse}
 use Rattle.commands.proofs.PairsDone.{many_over, many_full, many_placing, many_done}
-use borrow.Author.Rules.{rules}
 use Rattle.commands.proofs.pairs.set_many.Goals as goal
 
 pub put_error-requires : goal.put_error-requires

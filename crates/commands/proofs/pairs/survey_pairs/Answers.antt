@@ -1,14 +1,8 @@
 use mathlib.Core.Path.{refl}
-use Prim.Native.Nat.{◌-◌, ◌≤◌}
 use native.Mathlib.Omega.{arith}
-use lib.ListN.{length}
-use Rattle.wire.specs.Words.{words_most}
-use Rattle.wire.specs.Promises.{words_in}
-use Rattle.store.specs.Store.{decode}
-use Rattle.commands.specs.Promises.{fields_in}
 use Rattle.commands.proofs.FieldDeeds.{sought_held, held_at_most}
 use Rattle.commands.proofs.FieldLoops.{words_from}
-use Rattle.commands.proofs.PairLoops.{named_from, next_named, none_named_lem, few_fields, times_few, telling_is, version_sought, Surveying, surveying_few, surveying_ends, surveying_over, surveying_on}
+use Rattle.commands.proofs.PairLoops.{named_from, next_named, none_named_lem, few_fields, times_few, telling_is, version_sought, surveying_few, surveying_ends, surveying_over, surveying_on}
 use Rattle.commands.proofs.pairs.survey_pairs.Goals as goal
 
 pub loop-i-init : goal.loop-i-init

@@ -1,11 +1,6 @@
-use mathlib.Core.Path.{◌≡◌, refl}
-use Prim.Native.Nat.{◌-◌, ◌≤◌}
+use mathlib.Core.Path.{refl}
 use native.Mathlib.Omega.{arith}
-use lib.ListN.{length}
-use Rattle.wire.specs.Words.{words_most}
-use Rattle.wire.specs.Promises.{words_in}
-use Rattle.commands.specs.Promises.{fields_in}
-use Rattle.commands.proofs.FieldLoops.{Sweeping, sweeping_on, sweeping_ends, words_from}
+use Rattle.commands.proofs.FieldLoops.{sweeping_on, sweeping_ends, words_from}
 use Rattle.commands.proofs.PairLoops.{named_from, next_named, none_named_lem}
 use borrow.Author.Rules.{rules}
 use Rattle.commands.proofs.pairs.sweep_pairs.Goals as goal

@@ -1,13 +1,11 @@
-use mathlib.Core.Path.{◌≡◌, refl}
+use mathlib.Core.Path.{◌≡◌}
 use Prim.Native.Nat.{◌-◌, ◌≤◌}
-use native.Mathlib.Omega.{arith}
 use lib.ListN.{length}
 use Rattle.wire.specs.Words.{words_most}
 use Rattle.wire.specs.Promises.{words_in}
 use Rattle.commands.specs.Promises.{fields_in}
-use Rattle.commands.proofs.FieldLoops.{Sweeping, sweeping_on, sweeping_ends, words_from}
-use Rattle.commands.proofs.PairLoops.{named_from, next_named, none_named_lem}
-use borrow.Author.Rules.{rules}
+use Rattle.commands.proofs.FieldLoops.{Sweeping}
+use Rattle.commands.proofs.PairLoops.{named_from}
 use Rattle.commands.proofs.pairs.sweep_pairs.Given as goal
 
 -- What is left does the same; the measure is how many words are left.

@@ -1,7 +1,6 @@
 use native.Mathlib.Omega.{arith}
 use Rattle.commands.proofs.ParseFromBytes.{parse_10, parse_11, parse_12, parse_13, parse_14, parse_rest_lem}
 use Rattle.commands.proofs.TableRows.{command_number}
-use borrow.Author.Rules.{rules}
 use Rattle.commands.proofs.parse.parse.Goals as goal
 
 pub returns-then-places-eq0 : goal.returns-then-places-eq0

@@ -1,6 +1,5 @@
 use Rattle.commands.proofs.Parsing.{not_clean, ready}
 use Rattle.commands.proofs.ParseFamilies.{count_takes, count_live_lem, count_held_lem}
-use borrow.Author.Rules.{rules}
 use Rattle.commands.proofs.parse.parse_count.Goals as goal
 
 pub returns-then-given-ne0 : goal.returns-then-given-ne0

@@ -2,7 +2,6 @@ use Rattle.store.specs.Layout.{time_limit}
 use Rattle.commands.proofs.OperandWords.{natural_value, natural_refused}
 use Rattle.commands.proofs.Parsing.{not_clean, ready}
 use Rattle.commands.proofs.ParseFamilies.{expire_takes, expire_unread, expire_unversioned, expire_zero, expire_beyond, expire_done}
-use borrow.Author.Rules.{rules}
 use Rattle.commands.proofs.parse.parse_expire.Goals as goal
 
 pub returns-then-given-ne0 : goal.returns-then-given-ne0

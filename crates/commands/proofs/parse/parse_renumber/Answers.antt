@@ -1,7 +1,6 @@
 use Rattle.store.specs.Layout.{version_most}
 use Rattle.commands.proofs.OperandWords.{natural_value, natural_refused}
 use Rattle.commands.proofs.ParseFamilies.{renumber_unread, renumber_done}
-use borrow.Author.Rules.{rules}
 use Rattle.commands.proofs.parse.parse_renumber.Goals as goal
 
 pub returns-in_default : goal.returns-in_default

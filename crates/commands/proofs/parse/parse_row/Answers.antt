@@ -3,7 +3,6 @@ use Rattle.commands.specs.Parse.Form.{set_form, set_many_form, increment_form, e
 use Rattle.commands.specs.TablePromises.{list_family, unit_of, form_of}
 use Rattle.commands.proofs.ParseFamilies.{fixed_pairs, fixed_persist, fixed_ask, fixed_many, fixed_delete, fixed_list, list_form_lem, row_parsed}
 use Rattle.commands.proofs.TableRows.{NoneOf, none_of}
-use borrow.Author.Rules.{rules}
 use Rattle.commands.proofs.parse.parse_row.Goals as goal
 
 pub returns-in-0 : goal.returns-in-0

@@ -1,6 +1,5 @@
 use Rattle.commands.proofs.Parsing.{not_clean, ready}
 use Rattle.commands.proofs.ParseFamilies.{set_takes, set_done, set_refused}
-use borrow.Author.Rules.{rules}
 use Rattle.commands.proofs.parse.parse_set.Goals as goal
 
 pub returns-then-given-ne0 : goal.returns-then-given-ne0

@@ -1,7 +1,6 @@
 use native.Mathlib.Omega.{arith}
 use lib.ListN.{length}
 use Rattle.commands.proofs.RefusalLines.{placing, line_at, line_room, line_laid}
-use borrow.Author.Rules.{rules}
 use Rattle.commands.proofs.refusal.put_error.Goals as goal
 
 -- The line is the part of all lines between two ends.

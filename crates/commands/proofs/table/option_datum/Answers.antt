@@ -1,6 +1,5 @@
 use mathlib.Core.Path.{◌∙◌}
 use Rattle.commands.proofs.TableRows.{option_number_at}
-use borrow.Author.Rules.{rules}
 use Rattle.commands.proofs.table.option_datum.Goals as goal
 
 -- A number of a row is a byte of the number that its numbers spell.

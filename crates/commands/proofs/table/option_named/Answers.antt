@@ -1,6 +1,5 @@
 use Rattle.commands.specs.TablePromises.{option_table}
 use Rattle.commands.proofs.TableRows.{tables, option_table_lem}
-use borrow.Author.Rules.{rules}
 use Rattle.commands.proofs.table.option_named.Goals as goal
 
 -- The bytes of the code are those of the definition, computed.

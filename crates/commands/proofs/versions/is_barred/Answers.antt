@@ -1,5 +1,4 @@
 use Rattle.commands.proofs.VersionPlans.{always_open, missing_barred, live_open, missing_open, live_barred}
-use borrow.Author.Rules.{rules}
 use Rattle.commands.proofs.versions.is_barred.Goals as goal
 
 pub returns-in-Always : goal.returns-in-Always

@@ -1,6 +1,5 @@
 use Rattle.commands.proofs.VersionPlans.{match_stale, match_zero, match_none, above_stale, next_fresh, exactly_fresh}
 use native.Mathlib.Omega.{arith}
-use borrow.Author.Rules.{rules}
 use Rattle.commands.proofs.versions.is_stale.Goals as goal
 
 pub returns-then-held-ne0 : goal.returns-then-held-ne0

@@ -1,5 +1,4 @@
 use Rattle.commands.proofs.VersionPlans.{clear_expiry, keep_expiry, until_expiry}
-use borrow.Author.Rules.{rules}
 use Rattle.commands.proofs.versions.next_expiry.Goals as goal
 
 pub returns-in-Until : goal.returns-in-Until

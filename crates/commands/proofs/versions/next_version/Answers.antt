@@ -1,5 +1,4 @@
 use Rattle.commands.proofs.VersionPlans.{next_version_lem, match_version, exactly_version, above_version}
-use borrow.Author.Rules.{rules}
 use Rattle.commands.proofs.versions.next_version.Goals as goal
 
 pub returns-in-Exactly : goal.returns-in-Exactly

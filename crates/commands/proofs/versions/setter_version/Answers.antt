@@ -1,5 +1,4 @@
 use Rattle.commands.proofs.VersionPlans.{next_setter, match_setter, exactly_setter, above_setter}
-use borrow.Author.Rules.{rules}
 use Rattle.commands.proofs.versions.setter_version.Goals as goal
 
 pub returns-in-Exactly : goal.returns-in-Exactly

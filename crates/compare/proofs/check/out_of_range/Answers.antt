@@ -1,7 +1,6 @@
 use native.Mathlib.Omega.{arith}
 use Rattle.store.specs.Store.{decode}
 use Rattle.compare.proofs.CallChecks.{before_first, before_second, after_both}
-use borrow.Author.Rules.{rules}
 use Rattle.compare.proofs.check.out_of_range.Goals as goal
 
 pub returns-then-instant-clock : goal.returns-then-instant-clock

@@ -1,6 +1,5 @@
 use mathlib.Core.Path.{sym, ◌∙◌}
 use Rattle.compare.proofs.CallChecks.{damaged_first, damaged_second, out_of_range_lem, in_range}
-use borrow.Author.Rules.{rules}
 use Rattle.compare.proofs.check.refusal.Goals as goal
 
 pub returns-then-not-well_formed : goal.returns-then-not-well_formed

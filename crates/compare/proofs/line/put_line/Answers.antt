@@ -2,7 +2,6 @@ use native.Mathlib.Omega.{arith}
 use Rattle.wire.proofs.ReplyLaying.{laid_length, laid_within, laid_tail, tail_inside, tail_room}
 use Rattle.compare.specs.Listing.{spaced}
 use Rattle.compare.proofs.LineTexts.{room_slot_lem, room_field, room_key, mark_space, key_space, key_laid, newline_inside, line_laid}
-use borrow.Author.Rules.{rules}
 use Rattle.compare.proofs.line.put_line.Goals as goal
 
 pub bounds-out-0 : goal.bounds-out-0

@@ -1,7 +1,6 @@
 use native.Mathlib.Omega.{arith}
 use Rattle.wire.proofs.ReplyLaying.{laid_length, laid_within}
 use Rattle.compare.proofs.LineTexts.{spaced_first, spaced_inside, spaced_room, spaced_laid}
-use borrow.Author.Rules.{rules}
 use Rattle.compare.proofs.line.put_spaced.Goals as goal
 
 pub bounds-out-0 : goal.bounds-out-0

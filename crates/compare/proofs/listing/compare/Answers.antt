@@ -5,7 +5,6 @@ use Rattle.store.specs.Store.{decode}
 use Rattle.store.proofs.Encode.{decode_valid}
 use Rattle.compare.proofs.CallChecks.{zero_passed, compare_refused, compare_short, compare_listed}
 use Rattle.compare.proofs.ListingSize.{listing_short}
-use borrow.Author.Rules.{rules}
 use Rattle.compare.proofs.listing.compare.Goals as goal
 
 pub returns-then-number-ne0 : goal.returns-then-number-ne0

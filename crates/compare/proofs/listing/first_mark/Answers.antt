@@ -1,6 +1,5 @@
 use mathlib.Core.Path.{sym, ◌∙◌}
 use Rattle.compare.specs.Promises.{first_mark_for}
-use borrow.Author.Rules.{rules}
 use Rattle.compare.proofs.listing.first_mark.Goals as goal
 
 pub returns-in_default : goal.returns-in_default

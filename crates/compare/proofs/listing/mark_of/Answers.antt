@@ -1,6 +1,5 @@
 use Rattle.store.specs.Store.{decode, entry_at}
 use Rattle.compare.proofs.MarkLaws.{live_held, mark_first, mark_second}
-use borrow.Author.Rules.{rules}
 use Rattle.compare.proofs.listing.mark_of.Goals as goal
 
 pub first_mark-requires : goal.first_mark-requires

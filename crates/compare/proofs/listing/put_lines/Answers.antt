@@ -1,13 +1,7 @@
-use mathlib.Core.Path.{◌≡◌}
-use Prim.Native.Nat.{◌-◌}
 use native.Mathlib.Omega.{arith}
-use lib.ListN.{length}
 use Rattle.wire.proofs.ReplyLaying.{laid_none}
-use Rattle.wire.proofs.Elements.{Going, going_begins, going_on_lem, going_within, going_ends, going_length, going_start, going_room}
-use Rattle.store.specs.Store.{decode}
-use Rattle.compare.specs.Promises.{pass_text}
-use Rattle.compare.proofs.LineTexts.{rest_text, rest_begins, rest_next, rest_ends}
-use borrow.Author.Rules.{rules}
+use Rattle.wire.proofs.Elements.{going_begins, going_on_lem, going_within, going_ends, going_length, going_start, going_room}
+use Rattle.compare.proofs.LineTexts.{rest_begins, rest_next, rest_ends}
 use Rattle.compare.proofs.listing.put_lines.Goals as goal
 
 pub loop-i-init : goal.loop-i-init

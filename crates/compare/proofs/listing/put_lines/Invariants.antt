@@ -1,13 +1,10 @@
 use mathlib.Core.Path.{◌≡◌}
 use Prim.Native.Nat.{◌-◌}
-use native.Mathlib.Omega.{arith}
 use lib.ListN.{length}
-use Rattle.wire.proofs.ReplyLaying.{laid_none}
-use Rattle.wire.proofs.Elements.{Going, going_begins, going_on_lem, going_within, going_ends, going_length, going_start, going_room}
+use Rattle.wire.proofs.Elements.{Going}
 use Rattle.store.specs.Store.{decode}
 use Rattle.compare.specs.Promises.{pass_text}
-use Rattle.compare.proofs.LineTexts.{rest_text, rest_begins, rest_next, rest_ends}
-use borrow.Author.Rules.{rules}
+use Rattle.compare.proofs.LineTexts.{rest_text}
 use Rattle.compare.proofs.listing.put_lines.Given as goal
 
 -- What is left does the same; the measure is how many slots are left.

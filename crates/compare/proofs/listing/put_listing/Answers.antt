@@ -3,7 +3,6 @@ use Rattle.wire.proofs.ReplyLaying.{laid_length, laid_within, laid_tail, tail_in
 use Rattle.compare.specs.declared.Pass.TheVariants as passes
 use Rattle.compare.specs.Promises.{pass_text}
 use Rattle.compare.proofs.LineTexts.{listing_parts, listing_room}
-use borrow.Author.Rules.{rules}
 use Rattle.compare.proofs.listing.put_listing.Goals as goal
 
 pub put_lines-at-requires : goal.put_lines-at-requires

@@ -1,5 +1,4 @@
 use Rattle.compare.specs.Promises.{second_mark_for}
-use borrow.Author.Rules.{rules}
 use Rattle.compare.proofs.listing.second_mark.Goals as goal
 
 pub returns-in-At : goal.returns-in-At

@@ -2,7 +2,6 @@ use mathlib.Core.Path.{sym, ◌∙◌}
 use borrow.Author.Tests.{not-true, not-false}
 use Rattle.store.specs.Store.{decode, entry_at}
 use Rattle.compare.proofs.MarkLaws.{other_value, other_version, same_version}
-use borrow.Author.Rules.{rules}
 use Rattle.compare.proofs.live.agree.Goals as goal
 
 -- the values are compared as the code reads them

@@ -1,6 +1,5 @@
 use mathlib.Core.Path.{sym, ◌∙◌}
 use Rattle.compare.proofs.LiveEntries.{found_inside, named_nowhere, named_live, named_dead_lem}
-use borrow.Author.Rules.{rules}
 use Rattle.compare.proofs.live.live_near.Goals as goal
 
 pub returns-in_default : goal.returns-in_default

@@ -1,5 +1,4 @@
 use Rattle.compare.specs.Listing.{same_expiry}
-use borrow.Author.Rules.{rules}
 use Rattle.compare.proofs.live.same_expiry.Goals as goal
 
 pub returns-in-Never-b : goal.returns-in-Never-b

@@ -2,7 +2,6 @@ use mathlib.Core.Path.{sym, ◌∙◌}
 use Rattle.wire.specs.Bytes.{part}
 use Rattle.compare.specs.Newer.{place_of, part_at}
 use Rattle.compare.proofs.NewerPlaces.{first_held, second_held, first_shown, second_shown}
-use borrow.Author.Rules.{rules}
 use Rattle.compare.proofs.newer.newer.Goals as goal
 
 pub value-requires : goal.value-requires

@@ -4,7 +4,6 @@ use Rattle.compare.specs.Calls.{checks}
 use Rattle.compare.proofs.MarkLaws.{live_held}
 use Rattle.compare.proofs.CallChecks.{given_some, zero_passed}
 use Rattle.compare.proofs.NewerPlaces.{newer_refused, newer_found}
-use borrow.Author.Rules.{rules}
 use Rattle.compare.proofs.newer.newer_in.Goals as goal
 
 pub returns-then-number-ne0 : goal.returns-then-number-ne0

@@ -2,7 +2,6 @@ use native.Mathlib.Omega.{arith}
 use borrow.Author.Tests.{le-leb, lt-leb}
 use Rattle.compare.specs.Newer.{newer_of}
 use Rattle.compare.specs.Promises.{slot_in, newer_for}
-use borrow.Author.Rules.{rules}
 use Rattle.compare.proofs.newer.newer_of.Goals as goal
 
 pub returns-in-At-right : goal.returns-in-At-right

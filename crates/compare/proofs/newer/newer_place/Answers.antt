@@ -1,7 +1,6 @@
 use mathlib.Core.Path.{sym, ◌∙◌}
 use Rattle.compare.specs.Newer.{place_of}
 use Rattle.compare.proofs.NewerPlaces.{first_held, second_held}
-use borrow.Author.Rules.{rules}
 use Rattle.compare.proofs.newer.newer_place.Goals as goal
 
 pub value_start-requires : goal.value_start-requires

@@ -2,7 +2,6 @@ use mathlib.Core.Path.{sym, ◌∙◌}
 use native.Mathlib.Omega.{arith}
 use Rattle.feeder.proofs.StateLeft.{left_state}
 use Rattle.feeder.proofs.Absorbing.{completes, end_small, end_beyond, rest_inside, rest_waits, absorbed_record, absorbed_none}
-use borrow.Author.Rules.{rules}
 use Rattle.feeder.proofs.absorb.absorb.Goals as goal
 
 pub slice_bounds-first_stop-end : goal.slice_bounds-first_stop-end

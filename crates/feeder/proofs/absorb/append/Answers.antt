@@ -1,6 +1,5 @@
 use native.Mathlib.Omega.{arith}
 use Rattle.feeder.proofs.Absorbing.{appended}
-use borrow.Author.Rules.{rules}
 use Rattle.feeder.proofs.absorb.append.Goals as goal
 
 pub returns : goal.returns

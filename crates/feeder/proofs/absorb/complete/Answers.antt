@@ -1,5 +1,4 @@
 use Rattle.feeder.proofs.Absorbing.{piece_done}
-use borrow.Author.Rules.{rules}
 use Rattle.feeder.proofs.absorb.complete.Goals as goal
 
 pub returns-then-count-at : goal.returns-then-count-at

@@ -4,7 +4,6 @@ use Prim.Native.Nat.{ℕ}
 use lib.ListN.{replicate, length-replicate}
 use Rattle.feeder.specs.Record.{record_most}
 use Rattle.feeder.proofs.Absorbing.{up_to_end, joined_done}
-use borrow.Author.Rules.{rules}
 use Rattle.feeder.proofs.absorb.do_joined.Goals as goal
 
 pub slice_bounds-gather-end : goal.slice_bounds-gather-end

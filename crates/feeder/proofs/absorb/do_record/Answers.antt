@@ -1,5 +1,4 @@
 use Rattle.feeder.proofs.Absorbing.{record_done}
-use borrow.Author.Rules.{rules}
 use Rattle.feeder.proofs.absorb.do_record.Goals as goal
 
 pub returns : goal.returns

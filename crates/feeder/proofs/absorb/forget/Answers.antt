@@ -2,7 +2,6 @@ use mathlib.Core.Path.{sym}
 use native.Mathlib.Omega.{arith}
 use Rattle.feeder.proofs.StateLeft.{left_state}
 use Rattle.feeder.proofs.Absorbing.{forgotten}
-use borrow.Author.Rules.{rules}
 use Rattle.feeder.proofs.absorb.forget.Goals as goal
 
 pub slice_bounds-clear-end : goal.slice_bounds-clear-end

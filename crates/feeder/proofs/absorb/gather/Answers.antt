@@ -1,6 +1,5 @@
 use native.Mathlib.Omega.{arith}
 use Rattle.feeder.proofs.Absorbing.{gather_late, gather_early}
-use borrow.Author.Rules.{rules}
 use Rattle.feeder.proofs.absorb.gather.Goals as goal
 
 pub returns-then-count-at : goal.returns-then-count-at

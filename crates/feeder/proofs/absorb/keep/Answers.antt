@@ -2,7 +2,6 @@ use mathlib.Core.Path.{sym}
 use native.Mathlib.Omega.{arith}
 use Rattle.feeder.proofs.StateLeft.{left_state}
 use Rattle.feeder.proofs.Absorbing.{kept_all, kept_rest}
-use borrow.Author.Rules.{rules}
 use Rattle.feeder.proofs.absorb.keep.Goals as goal
 
 pub append-requires : goal.append-requires

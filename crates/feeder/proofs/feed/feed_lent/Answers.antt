@@ -2,7 +2,6 @@ use mathlib.Core.Path.{sym, ◌∙◌}
 use borrow.Author.Tests.{not-true, not-false}
 use Rattle.feeder.specs.declared.Feeder.{Feeder}
 use Rattle.feeder.proofs.OneFeed.{refused_state, refused_store, refused_buffer, fed_whole}
-use borrow.Author.Rules.{rules}
 use Rattle.feeder.proofs.feed.feed_lent.Goals as goal
 
 pub returns-then-not-feeding_leaves : goal.returns-then-not-feeding_leaves

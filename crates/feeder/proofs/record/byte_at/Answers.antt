@@ -1,4 +1,3 @@
-use borrow.Author.Rules.{rules}
 use Rattle.feeder.proofs.RecordTests.{byte_before, byte_after}
 use Rattle.feeder.proofs.record.byte_at.Goals as goal
 

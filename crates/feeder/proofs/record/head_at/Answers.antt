@@ -1,4 +1,3 @@
-use borrow.Author.Rules.{rules}
 use Rattle.feeder.proofs.RecordTests.{no_first, alone, no_second, no_length, too_short, too_long_lem, cut_short, all_there}
 use Rattle.feeder.proofs.record.head_at.Goals as goal
 

@@ -1,9 +1,6 @@
-use mathlib.Core.Path.{sym, ◌∙◌}
 use Prim.Native.Nat.{◌+◌, ◌-◌}
-use native.Mathlib.Omega.{arith}
-use borrow.Author.Rules.{rules}
 use lib.ListN.{length}
-use Rattle.feeder.proofs.ScanStops.{Scanning, scan_begins, scan_whole, scan_waits, scan_goes_on, scan_ends}
+use Rattle.feeder.proofs.ScanStops.{Scanning}
 use Rattle.feeder.proofs.scan.first_stop.Given as goal
 
 -- From `at` on reading stops where it stops from the start. The measure is what is left of the bytes.

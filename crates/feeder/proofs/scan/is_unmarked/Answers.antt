@@ -1,8 +1,5 @@
-use Prim.Native.Nat.{◌-◌}
 use native.Mathlib.Omega.{arith}
-use lib.ListN.{length}
-use borrow.Author.Rules.{rules}
-use Rattle.feeder.proofs.ScanStops.{Looking, look_begins, look_goes_on, look_ends}
+use Rattle.feeder.proofs.ScanStops.{look_begins, look_goes_on, look_ends}
 use Rattle.feeder.proofs.scan.is_unmarked.Goals as goal
 
 pub loop-i-init : goal.loop-i-init

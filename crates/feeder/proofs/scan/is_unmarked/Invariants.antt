@@ -1,8 +1,6 @@
 use Prim.Native.Nat.{◌-◌}
-use native.Mathlib.Omega.{arith}
 use lib.ListN.{length}
-use borrow.Author.Rules.{rules}
-use Rattle.feeder.proofs.ScanStops.{Looking, look_begins, look_goes_on, look_ends}
+use Rattle.feeder.proofs.ScanStops.{Looking}
 use Rattle.feeder.proofs.scan.is_unmarked.Given as goal
 
 -- Where no mark was seen, none begins before i. The measure is what is left of the block.

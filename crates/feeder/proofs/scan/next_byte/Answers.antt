@@ -1,8 +1,3 @@
-use Prim.Native.Nat.{◌-◌}
-use native.Mathlib.Omega.{arith}
-use lib.ListN.{length}
-use borrow.Author.Rules.{rules}
-use Rattle.feeder.specs.Promises.{UnmarkedUpTo}
 use Rattle.feeder.proofs.ScanStops.{pass_begins, pass_goes_on}
 use Rattle.feeder.proofs.scan.next_byte.Goals as goal
 

@@ -1,9 +1,6 @@
 use Prim.Native.Nat.{◌-◌}
-use native.Mathlib.Omega.{arith}
 use lib.ListN.{length}
-use borrow.Author.Rules.{rules}
 use Rattle.feeder.specs.Promises.{UnmarkedUpTo}
-use Rattle.feeder.proofs.ScanStops.{pass_begins, pass_goes_on}
 use Rattle.feeder.proofs.scan.next_byte.Given as goal
 
 -- No mark stands from the start up to i. The measure is what is left of the piece.

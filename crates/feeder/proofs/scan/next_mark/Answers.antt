@@ -1,5 +1,4 @@
 use native.Mathlib.Omega.{arith}
-use borrow.Author.Rules.{rules}
 use Rattle.feeder.proofs.ScanStops.{pass_on}
 use Rattle.feeder.proofs.scan.next_mark.Goals as goal
 

@@ -1,5 +1,4 @@
 use mathlib.Core.List.{◌++◌}
-use borrow.Author.Rules.{rules}
 use lib.ListN.{length-append}
 use Rattle.feeder.proofs.ScanStops.{next_waiting, next_marked}
 use Rattle.feeder.proofs.scan.next_place.Goals as goal

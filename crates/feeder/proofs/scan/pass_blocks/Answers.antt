@@ -1,9 +1,6 @@
-use Prim.Native.Nat.{◌-◌}
 use native.Mathlib.Omega.{arith}
-use lib.ListN.{length, length-take, length-drop}
-use borrow.Author.Rules.{rules}
+use lib.ListN.{length-take, length-drop}
 use borrow.Author.Tests.{not-false}
-use Rattle.feeder.specs.Promises.{UnmarkedUpTo}
 use Rattle.feeder.proofs.ScanStops.{pass_begins, pass_block}
 use Rattle.feeder.proofs.scan.pass_blocks.Goals as goal
 

@@ -1,10 +1,6 @@
 use Prim.Native.Nat.{◌-◌}
-use native.Mathlib.Omega.{arith}
-use lib.ListN.{length, length-take, length-drop}
-use borrow.Author.Rules.{rules}
-use borrow.Author.Tests.{not-false}
+use lib.ListN.{length}
 use Rattle.feeder.specs.Promises.{UnmarkedUpTo}
-use Rattle.feeder.proofs.ScanStops.{pass_begins, pass_block}
 use Rattle.feeder.proofs.scan.pass_blocks.Given as goal
 
 -- No mark begins from the start up to i. The measure is what is left of the piece.

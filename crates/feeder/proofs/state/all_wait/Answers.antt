@@ -1,5 +1,4 @@
 use mathlib.Core.Path.{sym, ◌∙◌}
-use borrow.Author.Rules.{rules}
 use Rattle.feeder.proofs.StateLeft.{none_waits, head_waits, head_skips, head_whole}
 use Rattle.feeder.proofs.state.all_wait.Goals as goal
 

@@ -2,7 +2,6 @@ use mathlib.Core.Path.{sym}
 use native.Mathlib.Omega.{arith}
 use lib.Seq.{length-take-le}
 use borrow.Author.Tests.{not-true, not-false}
-use borrow.Author.Rules.{rules}
 use Rattle.wire.proofs.ByteLaws.{bytes_intro}
 use Rattle.feeder.proofs.StateLeft.{left_many, left_dirty, left_clean}
 use Rattle.feeder.proofs.state.feeding_leaves.Goals as goal

@@ -1,7 +1,6 @@
 use native.Mathlib.Omega.{arith}
 use Rattle.store.proofs.Changes.{slot_cleared}
 use Rattle.store.proofs.ReadAt.{slot_inside}
-use borrow.Author.Rules.{rules}
 use Rattle.store.proofs.change.remove.Goals as goal
 
 pub overflow_mul-start : goal.overflow_mul-start

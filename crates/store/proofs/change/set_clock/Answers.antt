@@ -1,7 +1,6 @@
 use native.Mathlib.Omega.{arith}
 use Rattle.store.proofs.Changes.{clock_laid}
 use Rattle.store.proofs.ReadAt.{header_inside}
-use borrow.Author.Rules.{rules}
 use Rattle.store.proofs.change.set_clock.Goals as goal
 
 pub slice_bounds-write_le-end : goal.slice_bounds-write_le-end

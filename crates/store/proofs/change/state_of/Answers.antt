@@ -1,5 +1,4 @@
 use Rattle.store.specs.Store.{state_of}
-use borrow.Author.Rules.{rules}
 use Rattle.store.proofs.change.state_of.Goals as goal
 
 pub returns-in-Never : goal.returns-in-Never

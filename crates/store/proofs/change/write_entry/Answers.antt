@@ -4,7 +4,6 @@ use lib.ListN.{length}
 use borrow.Rule.Slice.PartMut.{put_mid, same_len_mid}
 use Rattle.store.specs.Store.{entry}
 use Rattle.store.proofs.Writing.{stamp_size, entry_written}
-use borrow.Author.Rules.{rules}
 use Rattle.store.proofs.change.write_entry.Goals as goal
 
 pub slice_bounds-write_padded-end : goal.slice_bounds-write_padded-end

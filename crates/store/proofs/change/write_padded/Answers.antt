@@ -1,5 +1,4 @@
 use Rattle.store.proofs.Writing.{padded_over}
-use borrow.Author.Rules.{rules}
 use Rattle.store.proofs.change.write_padded.Goals as goal
 
 pub returns : goal.returns

@@ -2,7 +2,6 @@ use native.Mathlib.Omega.{arith}
 use lib.ListN.{set, length-set}
 use borrow.Rule.Slice.PartMut.{put_mid, same_len_mid}
 use Rattle.store.proofs.Writing.{stamp_written}
-use borrow.Author.Rules.{rules}
 use Rattle.store.proofs.change.write_stamp.Goals as goal
 
 pub slice_bounds-write_le-end : goal.slice_bounds-write_le-end

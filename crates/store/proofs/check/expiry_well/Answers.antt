@@ -1,7 +1,6 @@
 use mathlib.Core.Path.{sym, ◌∙◌}
 use Rattle.wire.specs.Bytes.{part}
 use Rattle.store.proofs.SlotChecks.{expiring_test, none_test, some_test}
-use borrow.Author.Rules.{rules}
 use Rattle.store.proofs.check.expiry_well.Goals as goal
 
 pub returns-then-instant-eq0 : goal.returns-then-instant-eq0

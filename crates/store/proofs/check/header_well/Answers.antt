@@ -4,7 +4,6 @@ use Rattle.wire.specs.Bytes.{part}
 use Rattle.store.specs.Layout.{time_limit}
 use Rattle.store.specs.Store.{clock_of, header_tests}
 use borrow.Author.Tests.{lt-ltb, le-ltb}
-use borrow.Author.Rules.{rules}
 use Rattle.store.proofs.check.header_well.Goals as goal
 
 pub returns-then-read_le-lt-TIME_LIMIT : goal.returns-then-read_le-lt-TIME_LIMIT

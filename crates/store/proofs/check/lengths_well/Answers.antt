@@ -4,7 +4,6 @@ use borrow.Author.Tests.{lt-leb}
 use lib.ListN.{get_or}
 use Rattle.store.specs.Store.{length_tests}
 use Rattle.store.proofs.SlotChecks.{every_fails, lengths_last}
-use borrow.Author.Rules.{rules}
 use Rattle.store.proofs.check.lengths_well.Goals as goal
 
 pub returns-then-t-gt-EXPIRING_STATE : goal.returns-then-t-gt-EXPIRING_STATE

@@ -1,6 +1,5 @@
 use native.Mathlib.Omega.{arith}
 use Rattle.store.proofs.SlotChecks.{key_fits, field_fits, value_fits, places_bits}
-use borrow.Author.Rules.{rules}
 use Rattle.store.proofs.check.places_well.Goals as goal
 
 pub overflow_cast-key_length : goal.overflow_cast-key_length

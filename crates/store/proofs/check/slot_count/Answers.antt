@@ -1,5 +1,4 @@
 use Rattle.store.proofs.StoreChecks.{count_short, count_many, count_uneven, count_right}
-use borrow.Author.Rules.{rules}
 use Rattle.store.proofs.check.slot_count.Goals as goal
 
 pub returns-then-size-lt-HEADER_SIZE : goal.returns-then-size-lt-HEADER_SIZE

@@ -1,7 +1,6 @@
 use mathlib.Core.Path.{sym, ◌∙◌}
 use borrow.Author.Tests.{not-true, not-false}
 use Rattle.store.proofs.SlotChecks.{well_empty, well_held}
-use borrow.Author.Rules.{rules}
 use Rattle.store.proofs.check.slot_well.Goals as goal
 
 pub returns-then-t-eq-EMPTY_STATE : goal.returns-then-t-eq-EMPTY_STATE

@@ -1,11 +1,6 @@
-use mathlib.Core.Path.{◌≡◌, refl, sym, ◌∙◌}
-use native.Mathlib.Omega.{arith}
-use Prim.Native.Nat.{◌-◌}
+use mathlib.Core.Path.{◌≡◌}
 use lib.ListN.{length}
-use borrow.Author.Tests.{not-true, not-false}
-use Rattle.wire.proofs.ByteLaws.{bytes_intro}
-use Rattle.store.proofs.StoreChecks.{slot_size_lem}
-use Rattle.store.proofs.BloomFilter.{Sifting, sift_begins, sift_wrong, sift_turn, sift_fails, sift_goes_on, sift_ends}
+use Rattle.store.proofs.BloomFilter.{Sifting}
 use Rattle.store.proofs.check.slots_well.Given as goal
 
 abbrev pub invariant-loop-i : goal.invariant-loop-i

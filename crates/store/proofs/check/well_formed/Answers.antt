@@ -2,7 +2,6 @@ use mathlib.Core.Path.{sym}
 use borrow.Author.Tests.{not-true, not-false}
 use Rattle.wire.proofs.ByteLaws.{bytes_intro}
 use Rattle.store.proofs.StoreChecks.{size_wrong, header_inside, slots_inside, size_right}
-use borrow.Author.Rules.{rules}
 use Rattle.store.proofs.check.well_formed.Goals as goal
 
 pub returns-then-count-eq0 : goal.returns-then-count-eq0

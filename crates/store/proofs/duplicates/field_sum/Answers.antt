@@ -1,6 +1,5 @@
 use native.Mathlib.Omega.{arith}
 use Rattle.store.specs.Promises.{field_sum}
-use borrow.Author.Rules.{rules}
 use Rattle.store.proofs.duplicates.field_sum.Goals as goal
 
 pub returns : goal.returns

@@ -5,7 +5,6 @@ use lib.Bits.{bit_xor}
 use Rattle.wire.specs.Bytes.{from_le}
 use Rattle.store.specs.Promises.{halves_at}
 use Rattle.store.proofs.SlotParts.{part_of}
-use borrow.Author.Rules.{rules}
 use Rattle.store.proofs.duplicates.halves.Goals as goal
 
 pub returns : goal.returns

@@ -1,5 +1,4 @@
 use Rattle.store.proofs.BloomFilter.{place_scaled, place_inside, name_told, name_written}
-use borrow.Author.Rules.{rules}
 use Rattle.store.proofs.duplicates.insert.Goals as goal
 
 pub offset_bounds-filter-i : goal.offset_bounds-filter-i

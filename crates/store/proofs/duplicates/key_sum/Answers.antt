@@ -1,6 +1,5 @@
 use native.Mathlib.Omega.{arith}
 use Rattle.store.specs.Promises.{key_sum}
-use borrow.Author.Rules.{rules}
 use Rattle.store.proofs.duplicates.key_sum.Goals as goal
 
 pub returns : goal.returns

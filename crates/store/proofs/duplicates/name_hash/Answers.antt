@@ -1,6 +1,5 @@
 use Rattle.wire.specs.Bytes.{part}
 use Rattle.store.specs.Promises.{spread_of, name_hash}
-use borrow.Author.Rules.{rules}
 use Rattle.store.proofs.duplicates.name_hash.Goals as goal
 
 pub returns : goal.returns

@@ -1,7 +1,7 @@
 use mathlib.Core.Path.{sym, ◌∙◌}
 use native.Mathlib.Omega.{arith}
 use Prim.Native.Nat.{◌-◌}
-use Rattle.store.proofs.StoreChecks.{slot_bytes_lem, Seeking, seek_begins, seek_finds, seek_goes_on, seek_ends}
+use Rattle.store.proofs.StoreChecks.{slot_bytes_lem, seek_begins, seek_finds, seek_goes_on, seek_ends}
 use Rattle.store.proofs.duplicates.named_from.Goals as goal
 
 pub loop-i-init : goal.loop-i-init

@@ -3,7 +3,6 @@ use borrow.Author.Tests.{not-true}
 use native.Mathlib.Omega.{arith}
 use Rattle.store.proofs.StoreChecks.{slot_size_lem, slots_later}
 use Rattle.store.proofs.BloomFilter.{turn_empty, turn_new, turn_contained, held_bytes}
-use borrow.Author.Rules.{rules}
 use Rattle.store.proofs.duplicates.repeats.Goals as goal
 
 pub is_empty-requires : goal.is_empty-requires

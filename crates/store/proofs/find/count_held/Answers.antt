@@ -1,9 +1,5 @@
-use mathlib.Core.Logic.{⊎_elim}
-use Prim.Native.Nat.{◌-◌}
-use native.Mathlib.Omega.{arith}
-use borrow.Author.Rules.{rules}
 use Rattle.store.specs.Time.{of_key}
-use Rattle.store.proofs.Finding.{Count, count_begins, walk_inside, walk_bytes, count_adds, count_goes_on, count_ends}
+use Rattle.store.proofs.Finding.{count_begins, walk_inside, walk_bytes, count_adds, count_goes_on, count_ends}
 use Rattle.store.proofs.find.count_held.Goals as goal
 use Rattle.store.proofs.find.count_held.Goals.{then-of_key_with, else-of_key_with}
 

@@ -1,9 +1,6 @@
-use mathlib.Core.Logic.{⊎_elim}
 use Prim.Native.Nat.{◌-◌}
-use native.Mathlib.Omega.{arith}
-use borrow.Author.Rules.{rules}
 use Rattle.store.specs.Time.{of_key}
-use Rattle.store.proofs.Finding.{Count, count_begins, walk_inside, walk_bytes, count_adds, count_goes_on, count_ends}
+use Rattle.store.proofs.Finding.{Count}
 use Rattle.store.proofs.find.count_held.Given as goal
 
 abbrev pub invariant-loop-i : goal.invariant-loop-i

@@ -1,9 +1,7 @@
 use Prim.Native.Nat.{◌-◌}
-use native.Mathlib.Omega.{arith}
-use borrow.Author.Rules.{rules}
 use Rattle.store.specs.Store.{decode}
 use Rattle.store.specs.Time.{dead_slot, lowest_slot}
-use Rattle.store.proofs.Finding.{Seek, seek_begins, walk_inside, walk_bytes, seek_finds, seek_goes_on, seek_ends}
+use Rattle.store.proofs.Finding.{Seek}
 use Rattle.store.proofs.find.dead.Given as goal
 
 abbrev pub invariant-loop-i : goal.invariant-loop-i

@@ -1,9 +1,5 @@
-use Prim.Native.Nat.{◌-◌}
-use native.Mathlib.Omega.{arith}
-use borrow.Author.Rules.{rules}
-use Rattle.store.specs.Store.{decode}
-use Rattle.store.specs.Time.{empty_slot, lowest_slot}
-use Rattle.store.proofs.Finding.{Seek, seek_begins, walk_inside, walk_bytes, seek_finds, seek_goes_on, seek_ends}
+use Rattle.store.specs.Time.{empty_slot}
+use Rattle.store.proofs.Finding.{seek_begins, walk_inside, walk_bytes, seek_finds, seek_goes_on, seek_ends}
 use Rattle.store.proofs.find.empty.Goals as goal
 
 pub loop-i-init : goal.loop-i-init

@@ -1,5 +1,4 @@
 use mathlib.Core.Path.{sym, ◌∙◌}
-use borrow.Author.Rules.{rules}
 use Rattle.store.specs.Store.{decode}
 use Rattle.store.specs.Time.{live_of_key, key_exists}
 use Rattle.store.proofs.Finding.{found_any, nothing_any}

@@ -1,5 +1,4 @@
-use borrow.Author.Rules.{rules}
-use Rattle.store.proofs.Finding.{Walk, walk_inside, walk_bytes, hint_finds}
+use Rattle.store.proofs.Finding.{walk_inside, walk_bytes, hint_finds}
 use Rattle.store.proofs.find.named_near.Goals as goal
 
 pub bytes-requires : goal.bytes-requires

@@ -1,11 +1,8 @@
 use mathlib.Core.Path.{◌≡◌, ◌∙◌}
 use Prim.Native.Nat.{◌+◌, ◌-◌}
 use native.Mathlib.Omega.{arith}
-use borrow.Author.Rules.{rules}
-use Rattle.store.specs.Store.{decode}
-use Rattle.store.specs.Promises.{Skips}
 use Rattle.store.proofs.Encode.{decode_valid}
-use Rattle.store.proofs.Finding.{Walk, walk_inside, walk_bytes, skips_none, skips_on}
+use Rattle.store.proofs.Finding.{walk_inside, walk_bytes, skips_none, skips_on}
 use Rattle.store.proofs.find.next_candidate.Goals as goal
 
 pub overflow_sub-last : goal.overflow_sub-last

@@ -1,11 +1,8 @@
-use mathlib.Core.Path.{refl}
 use Prim.Native.Nat.{◌-◌}
-use native.Mathlib.Omega.{arith}
-use borrow.Author.Rules.{rules}
 use Rattle.store.specs.Store.{decode}
 use Rattle.store.specs.Time.{live_of_key}
 use Rattle.store.specs.Promises.{lowest_from}
-use Rattle.store.proofs.Finding.{Seek, walk_inside, walk_bytes, seek_finds, seek_goes_on, seek_ends}
+use Rattle.store.proofs.Finding.{Seek}
 use Rattle.store.proofs.find.next_live_with.Given as goal
 
 abbrev pub invariant-loop-i : goal.invariant-loop-i

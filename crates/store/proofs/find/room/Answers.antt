@@ -1,11 +1,7 @@
 use mathlib.Core.Path.{ap}
 use mathlib.Core.Bool.{not}
-use mathlib.Core.Logic.{⊎_elim}
-use Prim.Native.Nat.{◌-◌}
-use native.Mathlib.Omega.{arith}
-use borrow.Author.Rules.{rules}
 use Rattle.store.specs.Time.{room_slot}
-use Rattle.store.proofs.Finding.{Count, count_begins, walk_inside, walk_bytes, count_adds, count_goes_on, count_ends}
+use Rattle.store.proofs.Finding.{count_begins, walk_inside, walk_bytes, count_adds, count_goes_on, count_ends}
 use Rattle.store.proofs.find.room.Goals as goal
 use Rattle.store.proofs.find.room.Goals.{then-not-is_live, else-not-is_live}
 

@@ -1,9 +1,7 @@
-use mathlib.Core.Path.{◌≡◌, refl, sym, ◌∙◌}
-use Prim.Native.Nat.{◌-◌}
+use mathlib.Core.Path.{refl, sym, ◌∙◌}
 use native.Mathlib.Omega.{arith}
 use Rattle.wire.proofs.ByteLaws.{bytes_intro}
-use Rattle.store.specs.declared.Found.TheVariants as founds
-use Rattle.store.proofs.Comparing.{start_most, word_most, Searching, searching_begins, searching_inside, searching_bytes, searching_slots, searching_skips, searching_ends, InSlot, in_slot_begins, in_slot_size, in_slot_words, in_slot_key, in_slot_field, in_slot_few, in_slot_goes_on, in_slot_leaves, in_slot_finds}
+use Rattle.store.proofs.Comparing.{start_most, word_most, searching_begins, searching_inside, searching_bytes, searching_slots, searching_skips, searching_ends, in_slot_begins, in_slot_size, in_slot_words, in_slot_key, in_slot_field, in_slot_few, in_slot_goes_on, in_slot_leaves, in_slot_finds}
 use Rattle.store.proofs.find.search_within.Goals as goal
 
 pub slots-init : goal.slots-init

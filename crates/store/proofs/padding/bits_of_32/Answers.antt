@@ -1,7 +1,6 @@
 use native.Mathlib.Omega.{arith}
 use Rattle.store.specs.Store.{zero_beyond}
 use Rattle.store.proofs.SlotChecks.{beyond_bits}
-use borrow.Author.Rules.{rules}
 use Rattle.store.proofs.padding.bits_of_32.Goals as goal
 
 pub returns : goal.returns

@@ -1,7 +1,6 @@
 use mathlib.Core.Path.{sym, ◌∙◌}
 use native.Mathlib.Omega.{arith}
 use Rattle.store.proofs.SlotChecks.{beyond_short, beyond_last}
-use borrow.Author.Rules.{rules}
 use Rattle.store.proofs.padding.padding_of_16.Goals as goal
 
 pub returns-then-used-le8 : goal.returns-then-used-le8

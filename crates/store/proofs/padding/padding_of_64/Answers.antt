@@ -2,7 +2,6 @@ use mathlib.Core.Path.{sym, ◌∙◌}
 use native.Mathlib.Omega.{arith}
 use lib.Bits.{bit_or}
 use Rattle.store.proofs.SlotChecks.{beyond_bits, beyond_last}
-use borrow.Author.Rules.{rules}
 use Rattle.store.proofs.padding.padding_of_64.Goals as goal
 
 pub returns-then-used-le8 : goal.returns-then-used-le8

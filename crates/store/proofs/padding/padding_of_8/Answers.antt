@@ -1,7 +1,6 @@
 use mathlib.Core.Path.{sym}
 use Rattle.wire.proofs.ByteLaws.{bytes_intro}
 use Rattle.store.proofs.SlotChecks.{word_beyond, beyond_whole}
-use borrow.Author.Rules.{rules}
 use Rattle.store.proofs.padding.padding_of_8.Goals as goal
 
 pub returns-then-used-eq-WORD : goal.returns-then-used-eq-WORD

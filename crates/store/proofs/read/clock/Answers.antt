@@ -1,5 +1,4 @@
 use native.Mathlib.Omega.{arith}
-use borrow.Author.Rules.{rules}
 use Rattle.store.specs.Store.{clock_of, decode}
 use Rattle.store.proofs.ReadAt.{header_inside}
 use Rattle.store.proofs.read.clock.Goals as goal

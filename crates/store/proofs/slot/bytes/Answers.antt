@@ -1,6 +1,5 @@
 use Prim.Native.Nat.{◌+◌, ◌*◌}
 use Rattle.store.proofs.SlotParts.{part_of}
-use borrow.Author.Rules.{rules}
 use Rattle.store.proofs.slot.bytes.Goals as goal
 
 pub returns : goal.returns

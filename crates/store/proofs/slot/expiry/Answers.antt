@@ -2,7 +2,6 @@ use Rattle.wire.specs.Bytes.{part}
 use mathlib.Core.Path.{ap, sym, ◌∙◌}
 use Rattle.store.specs.declared.Expiry.TheVariants.{At}
 use Rattle.store.proofs.SlotParts.{state_expiring, state_lasting}
-use borrow.Author.Rules.{rules}
 use Rattle.store.proofs.slot.expiry.Goals as goal
 
 pub returns-then-t-eq-EXPIRING_STATE : goal.returns-then-t-eq-EXPIRING_STATE

@@ -1,7 +1,6 @@
 use Rattle.wire.specs.Bytes.{part}
 use Rattle.store.specs.Layout.{field_at, field_most}
 use Rattle.store.proofs.SlotParts.{fingerprint_words}
-use borrow.Author.Rules.{rules}
 use Rattle.store.proofs.slot.fingerprint_at.Goals as goal
 
 pub returns : goal.returns

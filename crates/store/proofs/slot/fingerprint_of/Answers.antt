@@ -1,5 +1,4 @@
 use Rattle.store.proofs.SlotParts.{fingerprint_words}
-use borrow.Author.Rules.{rules}
 use Rattle.store.proofs.slot.fingerprint_of.Goals as goal
 
 pub returns : goal.returns

@@ -4,7 +4,6 @@ use mathlib.Core.Bool.{and-true, and-false}
 use Rattle.wire.specs.Lists.{or_else}
 use Rattle.store.specs.Store.{holds, decode_entry}
 use Rattle.store.proofs.SlotParts.{state_empty, holds_held}
-use borrow.Author.Rules.{rules}
 use Rattle.store.proofs.slot.holds.Goals as goal
 
 pub returns-then-t-eq-EMPTY_STATE : goal.returns-then-t-eq-EMPTY_STATE

@@ -2,7 +2,6 @@ use mathlib.Core.Path.{sym, ◌∙◌}
 use native.Mathlib.Omega.{arith}
 use Rattle.wire.proofs.ByteLaws.{bytes_intro}
 use Rattle.store.proofs.SlotParts.{other_fingerprint, other_size, short_holds}
-use borrow.Author.Rules.{rules}
 use Rattle.store.proofs.slot.holds_with.Goals as goal
 
 pub returns-then-fingerprint_at-fingerprint : goal.returns-then-fingerprint_at-fingerprint

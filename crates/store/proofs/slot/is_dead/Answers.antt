@@ -3,7 +3,6 @@ use mathlib.Core.Bool.{not}
 use Rattle.wire.specs.Lists.{or_else}
 use Rattle.store.specs.Time.{dead_slot}
 use Rattle.store.proofs.SlotParts.{state_empty, dead_held}
-use borrow.Author.Rules.{rules}
 use Rattle.store.proofs.slot.is_dead.Goals as goal
 
 pub returns-then-t-eq-EMPTY_STATE : goal.returns-then-t-eq-EMPTY_STATE

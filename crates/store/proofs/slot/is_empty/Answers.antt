@@ -1,6 +1,5 @@
 use mathlib.Core.Path.{sym}
 use Rattle.store.proofs.SlotParts.{empty_state_lem}
-use borrow.Author.Rules.{rules}
 use Rattle.store.proofs.slot.is_empty.Goals as goal
 
 pub returns : goal.returns

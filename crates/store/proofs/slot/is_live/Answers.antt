@@ -1,7 +1,6 @@
 use Rattle.wire.specs.Lists.{or_else}
 use Rattle.store.specs.Time.{before, live_slot}
 use Rattle.store.proofs.SlotParts.{state_empty, live_held}
-use borrow.Author.Rules.{rules}
 use Rattle.store.proofs.slot.is_live.Goals as goal
 
 pub returns-then-t-eq-EMPTY_STATE : goal.returns-then-t-eq-EMPTY_STATE

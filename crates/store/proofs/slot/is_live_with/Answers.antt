@@ -1,5 +1,4 @@
 use Rattle.store.proofs.SlotParts.{live_of_key_lem}
-use borrow.Author.Rules.{rules}
 use Rattle.store.proofs.slot.is_live_with.Goals as goal
 
 pub returns-then-is_live : goal.returns-then-is_live

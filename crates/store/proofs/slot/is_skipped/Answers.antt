@@ -1,6 +1,5 @@
 use mathlib.Core.Path.{sym}
 use native.Mathlib.Omega.{arith}
-use borrow.Author.Rules.{rules}
 use Rattle.wire.specs.Lists.{or_else}
 use Rattle.store.specs.Search.{skipped}
 use Rattle.store.proofs.SlotParts.{state_empty}

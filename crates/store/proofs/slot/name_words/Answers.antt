@@ -1,4 +1,3 @@
-use borrow.Author.Rules.{rules}
 use Rattle.store.specs.Promises.{name_words}
 use Rattle.store.proofs.slot.name_words.Goals as goal
 

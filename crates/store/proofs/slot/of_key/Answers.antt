@@ -1,7 +1,6 @@
 use Rattle.wire.specs.Lists.{or_else}
 use Rattle.store.specs.Time.{of_key}
 use Rattle.store.proofs.SlotParts.{state_empty, key_held}
-use borrow.Author.Rules.{rules}
 use Rattle.store.proofs.slot.of_key.Goals as goal
 
 pub returns-then-t-eq-EMPTY_STATE : goal.returns-then-t-eq-EMPTY_STATE

@@ -5,7 +5,6 @@ use Rattle.wire.specs.Bytes.{part}
 use Rattle.wire.proofs.ByteLaws.{bytes_intro}
 use Rattle.store.specs.Time.{of_key}
 use Rattle.store.proofs.SlotParts.{state_empty, other_length, other_word, last_word}
-use borrow.Author.Rules.{rules}
 use Rattle.store.proofs.slot.of_key_with.Goals as goal
 
 pub returns-then-t-eq-EMPTY_STATE : goal.returns-then-t-eq-EMPTY_STATE

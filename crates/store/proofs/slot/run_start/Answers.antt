@@ -1,6 +1,5 @@
 use Prim.Native.Nat.{◌≤◌, ◌<◌}
 use native.Mathlib.Omega.{arith}
-use borrow.Author.Rules.{rules}
 use borrow.Author.Tests.{lt-ltb, le-ltb}
 use Rattle.store.specs.Promises.{run_start}
 use Rattle.store.proofs.slot.run_start.Goals as goal

@@ -2,7 +2,6 @@ use native.Mathlib.Omega.{arith}
 use lib.ListN.{get_or}
 use Rattle.store.specs.Store.{decode_entry}
 use Rattle.store.proofs.SlotParts.{part_of, value_inside}
-use borrow.Author.Rules.{rules}
 use Rattle.store.proofs.slot.value.Goals as goal
 
 pub overflow_cast-end : goal.overflow_cast-end

@@ -1,6 +1,5 @@
 use Rattle.wire.specs.Bytes.{part}
 use Rattle.store.specs.Store.{decode_entry}
-use borrow.Author.Rules.{rules}
 use Rattle.store.proofs.slot.version.Goals as goal
 
 pub returns : goal.returns

@@ -2,7 +2,6 @@ use mathlib.Core.Path.{◌∙◌}
 use mathlib.Core.Path.{ap}
 use Rattle.wire.specs.Bytes.{from_le}
 use Rattle.store.proofs.SlotParts.{part_of}
-use borrow.Author.Rules.{rules}
 use Rattle.store.proofs.slot.word.Goals as goal
 
 pub returns : goal.returns

@@ -1,6 +1,5 @@
-use Prim.Native.Nat.{◌-◌}
 use native.Mathlib.Omega.{arith}
-use Rattle.store.proofs.Comparing.{Words, words_begin, words_differ, words_go_on, words_end}
+use Rattle.store.proofs.Comparing.{words_begin, words_differ, words_go_on, words_end}
 use Rattle.store.proofs.slot.word_compared.Goals as goal
 
 pub loop-n-init : goal.loop-n-init

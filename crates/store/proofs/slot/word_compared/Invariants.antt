@@ -1,6 +1,5 @@
 use Prim.Native.Nat.{◌-◌}
-use native.Mathlib.Omega.{arith}
-use Rattle.store.proofs.Comparing.{Words, words_begin, words_differ, words_go_on, words_end}
+use Rattle.store.proofs.Comparing.{Words}
 use Rattle.store.proofs.slot.word_compared.Given as goal
 
 abbrev pub invariant-loop-n : goal.invariant-loop-n

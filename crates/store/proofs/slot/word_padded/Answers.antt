@@ -1,7 +1,6 @@
 use mathlib.Core.Path.{ap, ◌∙◌}
 use Rattle.wire.specs.Bytes.{from_le}
 use Rattle.store.proofs.SlotParts.{word_past, word_short}
-use borrow.Author.Rules.{rules}
 use Rattle.store.proofs.slot.word_padded.Goals as goal
 
 pub returns-then-size-at : goal.returns-then-size-at

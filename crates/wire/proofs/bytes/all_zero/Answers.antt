@@ -1,7 +1,4 @@
-use Prim.Native.Nat.{◌-◌}
-use native.Mathlib.Omega.{arith}
-use lib.ListN.{length}
-use Rattle.wire.proofs.ByteLoops.{Gathering, gather_begins, gather_goes_on, gather_ends}
+use Rattle.wire.proofs.ByteLoops.{gather_begins, gather_goes_on, gather_ends}
 use Rattle.wire.proofs.bytes.all_zero.Goals as goal
 
 pub loop-i-init : goal.loop-i-init

@@ -1,7 +1,6 @@
 use Prim.Native.Nat.{◌-◌}
-use native.Mathlib.Omega.{arith}
 use lib.ListN.{length}
-use Rattle.wire.proofs.ByteLoops.{Gathering, gather_begins, gather_goes_on, gather_ends}
+use Rattle.wire.proofs.ByteLoops.{Gathering}
 use Rattle.wire.proofs.bytes.all_zero.Given as goal
 
 abbrev pub invariant-loop-i : goal.invariant-loop-i

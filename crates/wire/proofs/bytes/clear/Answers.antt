@@ -1,8 +1,8 @@
 use mathlib.Core.Path.{sym}
-use Prim.Native.Nat.{ℕ, ◌-◌}
+use Prim.Native.Nat.{ℕ}
 use native.Mathlib.Omega.{arith}
-use lib.ListN.{length, replicate, length-replicate, get_or-replicate}
-use Rattle.wire.proofs.ReplyLaying.{Filling, fill_begins, fill_goes_on, fill_whole}
+use lib.ListN.{length, length-replicate, get_or-replicate}
+use Rattle.wire.proofs.ReplyLaying.{fill_begins, fill_goes_on, fill_whole}
 use Rattle.wire.proofs.bytes.clear.Goals as goal
 
 pub loop-i-init : goal.loop-i-init

@@ -1,8 +1,6 @@
-use mathlib.Core.Path.{sym}
-use Prim.Native.Nat.{ℕ, ◌-◌}
-use native.Mathlib.Omega.{arith}
-use lib.ListN.{length, replicate, length-replicate, get_or-replicate}
-use Rattle.wire.proofs.ReplyLaying.{Filling, fill_begins, fill_goes_on, fill_whole}
+use Prim.Native.Nat.{◌-◌}
+use lib.ListN.{length, replicate}
+use Rattle.wire.proofs.ReplyLaying.{Filling}
 use Rattle.wire.proofs.bytes.clear.Given as goal
 
 abbrev pub invariant-loop-i : goal.invariant-loop-i

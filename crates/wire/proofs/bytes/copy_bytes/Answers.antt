@@ -1,8 +1,5 @@
 use mathlib.Core.Path.{refl}
-use Prim.Native.Nat.{◌-◌}
-use native.Mathlib.Omega.{arith}
-use lib.ListN.{length}
-use Rattle.wire.proofs.ReplyLaying.{Filling, fill_begins, fill_goes_on, fill_ends}
+use Rattle.wire.proofs.ReplyLaying.{fill_begins, fill_goes_on, fill_ends}
 use Rattle.wire.proofs.bytes.copy_bytes.Goals as goal
 
 pub loop-i-init : goal.loop-i-init

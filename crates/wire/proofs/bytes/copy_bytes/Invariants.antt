@@ -1,8 +1,6 @@
-use mathlib.Core.Path.{refl}
 use Prim.Native.Nat.{◌-◌}
-use native.Mathlib.Omega.{arith}
 use lib.ListN.{length}
-use Rattle.wire.proofs.ReplyLaying.{Filling, fill_begins, fill_goes_on, fill_ends}
+use Rattle.wire.proofs.ReplyLaying.{Filling}
 use Rattle.wire.proofs.bytes.copy_bytes.Given as goal
 
 abbrev pub invariant-loop-i : goal.invariant-loop-i

@@ -1,6 +1,5 @@
 use Rattle.wire.proofs.ByteLaws.{bytes_intro}
 use Rattle.wire.proofs.ReplyLaying.{word_laid}
-use borrow.Author.Rules.{rules}
 use Rattle.wire.proofs.bytes.copy_word.Goals as goal
 
 pub returns : goal.returns

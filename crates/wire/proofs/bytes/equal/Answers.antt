@@ -3,7 +3,7 @@ use mathlib.Core.List.{List}
 use Prim.Native.Nat.{ℕ, ◌-◌}
 use native.Mathlib.Omega.{arith}
 use lib.ListN.{length, get_or}
-use Rattle.wire.proofs.ByteLoops.{Matching, not_same, match_begins, match_goes_on, match_ends}
+use Rattle.wire.proofs.ByteLoops.{not_same, match_begins, match_goes_on, match_ends}
 use Rattle.wire.proofs.bytes.equal.Goals as goal
 
 pub returns-then-a-b : goal.returns-then-a-b

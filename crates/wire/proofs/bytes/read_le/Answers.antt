@@ -1,7 +1,5 @@
-use Prim.Native.Nat.{◌-◌}
 use native.Mathlib.Omega.{arith}
-use lib.ListN.{length}
-use Rattle.wire.proofs.ByteLoops.{Reading, read_begins, read_fits, read_goes_on, read_ends}
+use Rattle.wire.proofs.ByteLoops.{read_begins, read_fits, read_goes_on, read_ends}
 use Rattle.wire.proofs.bytes.read_le.Goals as goal
 
 pub loop-i-init : goal.loop-i-init

@@ -1,7 +1,6 @@
 use Prim.Native.Nat.{◌-◌}
-use native.Mathlib.Omega.{arith}
 use lib.ListN.{length}
-use Rattle.wire.proofs.ByteLoops.{Reading, read_begins, read_fits, read_goes_on, read_ends}
+use Rattle.wire.proofs.ByteLoops.{Reading}
 use Rattle.wire.proofs.bytes.read_le.Given as goal
 
 abbrev pub invariant-loop-i : goal.invariant-loop-i

@@ -1,10 +1,8 @@
-use Prim.Native.Nat.{◌-◌}
 use native.Mathlib.Omega.{arith}
 use lib.ListN.{length}
-use Rattle.wire.specs.Bytes.{to_le}
 use Rattle.wire.proofs.ByteLaws.{length_to_le}
-use Rattle.wire.proofs.ReplyLaying.{Filling, fill_begins, fill_goes_on, fill_whole}
-use Rattle.wire.proofs.ByteLoops.{Writing, write_begins, write_byte, write_goes_on}
+use Rattle.wire.proofs.ReplyLaying.{fill_begins, fill_goes_on, fill_whole}
+use Rattle.wire.proofs.ByteLoops.{write_begins, write_byte, write_goes_on}
 use Rattle.wire.proofs.bytes.write_le.Goals as goal
 
 pub loop-i-init : goal.loop-i-init

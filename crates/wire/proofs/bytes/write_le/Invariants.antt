@@ -1,10 +1,8 @@
 use Prim.Native.Nat.{◌-◌}
-use native.Mathlib.Omega.{arith}
 use lib.ListN.{length}
 use Rattle.wire.specs.Bytes.{to_le}
-use Rattle.wire.proofs.ByteLaws.{length_to_le}
-use Rattle.wire.proofs.ReplyLaying.{Filling, fill_begins, fill_goes_on, fill_whole}
-use Rattle.wire.proofs.ByteLoops.{Writing, write_begins, write_byte, write_goes_on}
+use Rattle.wire.proofs.ReplyLaying.{Filling}
+use Rattle.wire.proofs.ByteLoops.{Writing}
 use Rattle.wire.proofs.bytes.write_le.Given as goal
 
 abbrev pub invariant-loop-i : goal.invariant-loop-i

@@ -1,8 +1,6 @@
-use mathlib.Core.Logic.{⊎_elim}
 use native.Mathlib.Omega.{arith}
 use Rattle.wire.proofs.IntegerSigns.{signs_same, signs_other, add_same, add_first, add_second, add_outside}
-use borrow.Author.Rules.{rules}
-use borrow.Author.Tests.{ltb-true, ltb-false}
+use borrow.Author.Tests.{ltb-false}
 use Rattle.wire.proofs.integers.add.Goals as goal
 use Rattle.wire.proofs.integers.add.Goals.{then-a-gt-LOWEST-via-then-a-gt-LOWEST, then-a-gt-LOWEST-via-else-a-gt-LOWEST+then-a-b-2}
 

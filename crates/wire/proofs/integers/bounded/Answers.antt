@@ -1,6 +1,5 @@
 use Rattle.wire.specs.Promises.{integer_of}
 use Rattle.wire.proofs.IntegerSigns.{answer_zero, answer_minus, answer_plain, answer_below, answer_above}
-use borrow.Author.Rules.{rules}
 use Rattle.wire.proofs.integers.bounded.Goals as goal
 
 -- Each return is one law of sign and magnitude.

@@ -1,6 +1,5 @@
 use native.Mathlib.Omega.{arith}
 use Rattle.wire.proofs.IntegerSigns.{integer_empty, plain_value, plain_refused, minus_value, minus_zero, minus_refused}
-use borrow.Author.Rules.{rules}
 use Rattle.wire.proofs.integers.read_integer.Goals as goal
 
 -- With no minus a text is read as a number, and else what follows it. The laws say each return of what `read_natural` answered.

@@ -1,9 +1,8 @@
-use Prim.Native.Nat.{◌-◌}
 use native.Mathlib.Omega.{arith}
-use borrow.Author.Tests.{ltb-true, ltb-false}
+use borrow.Author.Tests.{ltb-false}
 use mathlib.Core.Logic.{⊎_elim}
-use lib.ListN.{length, get_or}
-use Rattle.wire.proofs.IntegerReading.{Reading, digit_below, digit_over, digit_between, read_empty, read_zero, reading_begins, reading_digit, reading_other, reading_above, reading_ends}
+use lib.ListN.{get_or}
+use Rattle.wire.proofs.IntegerReading.{digit_below, digit_over, digit_between, read_empty, read_zero, reading_begins, reading_digit, reading_other, reading_above, reading_ends}
 use Rattle.wire.proofs.integers.read_natural.Goals as goal
 use Rattle.wire.proofs.integers.read_natural.Goals.{then-most-d-via-then-most-d, then-most-d-via-else-most-d+then-most-d-2}
 

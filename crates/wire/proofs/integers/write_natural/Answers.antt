@@ -3,7 +3,6 @@ use native.Mathlib.Omega.{arith}
 use lib.ListN.{length, length-set}
 use Rattle.wire.proofs.IntegerDigits.{text_digit}
 use Rattle.wire.proofs.ReplyLaying.{laid_digit, two_room, laid_two}
-use borrow.Author.Rules.{rules}
 use Rattle.wire.proofs.integers.write_natural.Goals as goal
 
 pub bounds-out-0 : goal.bounds-out-0

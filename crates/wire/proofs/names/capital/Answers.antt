@@ -1,6 +1,4 @@
 use mathlib.Core.Logic.{⊎_elim}
-use borrow.Author.Rules.{rules}
-use borrow.Author.Tests.{leb-true, leb-false}
 use Rattle.wire.proofs.NameRows.{upper_small, upper_below, upper_above}
 use Rattle.wire.proofs.names.capital.Goals as goal
 

@@ -1,10 +1,9 @@
-use mathlib.Core.Path.{◌≡◌, sym, ap, ◌∙◌}
-use Prim.Native.Nat.{◌≤◌, ◌-◌, ◌/◌}
+use mathlib.Core.Path.{sym, ap, ◌∙◌}
+use Prim.Native.Nat.{◌/◌}
 use native.Mathlib.Nat.{sub-zero}
 use native.Mathlib.Omega.{arith}
-use borrow.Author.Rules.{rules}
 use lib.ListN.{length}
-use Rattle.wire.specs.Promises.{row_size, row_for, row_from, row_named}
+use Rattle.wire.specs.Promises.{row_size, row_for, row_named}
 use Rattle.wire.proofs.NameRows.{row_hit, row_skip, row_end}
 use Rattle.wire.proofs.names.find.Goals as goal
 

@@ -1,11 +1,9 @@
 use mathlib.Core.Path.{sym, ap, ◌∙◌}
 use mathlib.Core.List.{List, map}
 use Prim.Native.Nat.{ℕ, ◌-◌}
-use native.Mathlib.Omega.{arith}
-use borrow.Author.Rules.{rules}
 use lib.ListN.{length, get_or}
 use Rattle.wire.specs.Bytes.{upper}
-use Rattle.wire.proofs.ByteLoops.{Matching, not_same, match_begins, match_goes_on, match_ends}
+use Rattle.wire.proofs.ByteLoops.{not_same, match_begins, match_goes_on, match_ends}
 use Rattle.wire.proofs.NameRows.{length_upper, upper_at}
 use Rattle.wire.proofs.names.spells.Goals as goal
 

@@ -4,7 +4,6 @@ use lib.ListN.{length}
 use Rattle.wire.specs.Integers.{natural_text}
 use Rattle.wire.specs.Words.{crlf}
 use Rattle.wire.proofs.ReplyLaying.{laid_within, laid_tail, tail_inside, tail_room, front_room, bulk_parts, bulk_room}
-use borrow.Author.Rules.{rules}
 use Rattle.wire.proofs.replies.put_bulk.Goals as goal
 
 pub put_count-at-requires : goal.put_count-at-requires

@@ -3,7 +3,6 @@ use Rattle.wire.proofs.ReplyLaying.{laid_length, laid_within, laid_tail, tail_in
 use native.Mathlib.Omega.{arith}
 use Rattle.wire.specs.Integers.{natural_text}
 use Rattle.wire.specs.Words.{crlf}
-use borrow.Author.Rules.{rules}
 use Rattle.wire.proofs.replies.put_count.Goals as goal
 
 pub slice_bounds-write_natural-count : goal.slice_bounds-write_natural-count

@@ -1,6 +1,5 @@
 use native.Mathlib.Omega.{arith}
 use Rattle.wire.proofs.ReplyLaying.{laid_none, laid_more}
-use borrow.Author.Rules.{rules}
 use Rattle.wire.proofs.replies.put_end.Goals as goal
 
 pub returns : goal.returns

@@ -1,6 +1,5 @@
 use Rattle.wire.specs.Bytes.{text}
 use Rattle.wire.specs.Replies.{header}
-use borrow.Author.Rules.{rules}
 use Rattle.wire.proofs.replies.put_header.Goals as goal
 
 pub put_count-requires : goal.put_count-requires

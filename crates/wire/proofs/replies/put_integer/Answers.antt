@@ -6,7 +6,6 @@ use Rattle.wire.specs.Words.{crlf}
 use Rattle.wire.specs.Replies.{integer}
 use Rattle.wire.specs.Promises.{integer_of}
 use Rattle.wire.proofs.ReplyLaying.{laid_length, laid_within, laid_tail, tail_inside, tail_room, front_room, mark_inside, mark_room, marked}
-use borrow.Author.Rules.{rules}
 use Rattle.wire.proofs.replies.put_integer.Goals as goal
 
 pub bounds-out-0 : goal.bounds-out-0

@@ -2,7 +2,6 @@ use native.Mathlib.Omega.{arith}
 use lib.ListN.{length-append}
 use Rattle.wire.specs.Words.{crlf}
 use Rattle.wire.proofs.ReplyLaying.{laid_copied, laid_tail, tail_inside, tail_room}
-use borrow.Author.Rules.{rules}
 use Rattle.wire.proofs.replies.put_line.Goals as goal
 
 pub copy-requires : goal.copy-requires

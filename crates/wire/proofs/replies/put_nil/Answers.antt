@@ -1,6 +1,5 @@
 use Rattle.wire.specs.Bytes.{text}
 use Rattle.wire.specs.Replies.{line, nil}
-use borrow.Author.Rules.{rules}
 use Rattle.wire.proofs.replies.put_nil.Goals as goal
 
 pub put_line-requires : goal.put_line-requires

@@ -1,7 +1,6 @@
 use Rattle.wire.specs.Bytes.{text}
 use Rattle.wire.specs.Integers.{integer_text}
 use Rattle.wire.specs.Replies.{integer}
-use borrow.Author.Rules.{rules}
 use Rattle.wire.proofs.replies.put_number.Goals as goal
 
 pub put_count-requires : goal.put_count-requires

@@ -1,5 +1,4 @@
 use mathlib.Core.Path.{sym}
-use borrow.Author.Rules.{rules}
 use Rattle.wire.proofs.WordPlaces.{ends_short, ends_other, ends_last}
 use Rattle.wire.proofs.words.ends_line.Goals as goal
 

@@ -1,8 +1,4 @@
-use mathlib.Core.Path.{◌≡◌, refl, sym, ◌∙◌}
-use Prim.Native.Nat.{◌+◌, ◌-◌}
-use borrow.Author.Rules.{rules}
-use lib.ListN.{length, drop}
-use Rattle.wire.specs.Words.{before_cr}
+use mathlib.Core.Path.{refl, sym, ◌∙◌}
 use Rattle.wire.proofs.WordPlaces.{line_here, line_on, line_past}
 use Rattle.wire.proofs.words.line_end.Goals as goal
 

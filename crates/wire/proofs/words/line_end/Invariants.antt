@@ -1,9 +1,7 @@
-use mathlib.Core.Path.{◌≡◌, refl, sym, ◌∙◌}
+use mathlib.Core.Path.{◌≡◌}
 use Prim.Native.Nat.{◌+◌, ◌-◌}
-use borrow.Author.Rules.{rules}
 use lib.ListN.{length, drop}
 use Rattle.wire.specs.Words.{before_cr}
-use Rattle.wire.proofs.WordPlaces.{line_here, line_on, line_past}
 use Rattle.wire.proofs.words.line_end.Given as goal
 
 -- From place i on the first CR is the same as from the start. The measure is what is left of the bytes.

@@ -1,7 +1,6 @@
 use mathlib.Core.Path.{sym, ◌∙◌}
 use Prim.Native.Nat.{◌+◌}
 use native.Mathlib.Omega.{arith}
-use borrow.Author.Rules.{rules}
 use borrow.Author.Tests.{not-true, not-false}
 use Rattle.wire.proofs.WordPlaces.{line_inside, ends_room, counted_past, counted_mark, counted_line, counted_value, counted_refused}
 use Rattle.wire.proofs.words.read_count.Goals as goal

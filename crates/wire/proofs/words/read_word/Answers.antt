@@ -1,6 +1,5 @@
 use mathlib.Core.Path.{sym, ◌∙◌}
 use native.Mathlib.Omega.{arith}
-use borrow.Author.Rules.{rules}
 use borrow.Author.Tests.{not-true, not-false}
 use Rattle.wire.proofs.WordPlaces.{ends_room, placed_damaged, start_inside, placed_short, placed_end, placed_word}
 use Rattle.wire.proofs.words.read_word.Goals as goal

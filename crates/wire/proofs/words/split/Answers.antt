@@ -1,9 +1,7 @@
-use mathlib.Core.Path.{◌≡◌, refl, sym, ◌∙◌}
-use Prim.Native.Nat.{◌-◌}
+use mathlib.Core.Path.{refl, sym, ◌∙◌}
 use native.Mathlib.Omega.{arith}
-use borrow.Author.Rules.{rules}
-use lib.ListN.{length, length-set}
-use Rattle.wire.proofs.WordPlaces.{Progress, progress_begins, progress_goes_on, progress_damaged, progress_after, places_headless, places_none, places_all}
+use lib.ListN.{length-set}
+use Rattle.wire.proofs.WordPlaces.{progress_begins, progress_goes_on, progress_damaged, progress_after, places_headless, places_none, places_all}
 use Rattle.wire.proofs.words.split.Goals as goal
 
 pub returns-in_default : goal.returns-in_default

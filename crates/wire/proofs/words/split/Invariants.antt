@@ -1,9 +1,7 @@
-use mathlib.Core.Path.{◌≡◌, refl, sym, ◌∙◌}
+use mathlib.Core.Path.{◌≡◌}
 use Prim.Native.Nat.{◌-◌}
-use native.Mathlib.Omega.{arith}
-use borrow.Author.Rules.{rules}
-use lib.ListN.{length, length-set}
-use Rattle.wire.proofs.WordPlaces.{Progress, progress_begins, progress_goes_on, progress_damaged, progress_after, places_headless, places_none, places_all}
+use lib.ListN.{length}
+use Rattle.wire.proofs.WordPlaces.{Progress}
 use Rattle.wire.proofs.words.split.Given as goal
 
 -- The words found so far and the words left are the command's words. The measure is how many are left.

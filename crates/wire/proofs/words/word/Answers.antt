@@ -1,5 +1,4 @@
 use native.Mathlib.Omega.{arith}
-use borrow.Author.Rules.{rules}
 use Rattle.wire.proofs.WordPlaces.{word_part, word_past}
 use Rattle.wire.proofs.words.word.Goals as goal
 
