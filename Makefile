@@ -1,4 +1,4 @@
-.PHONY: demo test bench c-example rust-test differ differ-quiet bench-rust bench-instructions bench-peer clients model-cases model-searches
+.PHONY: demo test library bench c-example rust-test differ differ-quiet bench-rust bench-instructions bench-peer clients model-cases model-searches
 
 # The proved library: an archive, or the directory that has libexhash.a.
 EXHASH_LIB ?= target/staticlib/libexhash.a
@@ -10,9 +10,11 @@ CARGO := cd rust && EXHASH_LIB=$(LIBRARY) cargo
 # The mistakes that trainees make, played against the proved library. The first time proves it, which takes minutes.
 demo:
 	@mkdir -p target
-	@test -x target/bin/demo || echo "proving the library: some minutes" >&2
-	@rt check demo >target/demo.log 2>&1 || { cat target/demo.log; exit 1; }
-	@target/bin/demo <crates/demo/stdin
+	@test -d crates/demo/out || echo "proving the library: some minutes" >&2
+	@cd crates/demo && rt run 2>../../target/demo.log || { cat ../../target/demo.log; exit 1; }
+
+# The archive for C and Rust, from the proved crates.
+library: $(LIBRARY)
 
 # The gate: every proof, every must-fail edit and every program, from nothing; the C examples, the Rust tests and the comparison.
 test:
@@ -80,5 +82,6 @@ model-searches:
 
 .DELETE_ON_ERROR:
 $(abspath target/staticlib/libexhash.a): $(wildcard crates/*/src/*.rt crates/*/src/*/*.rt)
-	@mkdir -p target
-	@rt staticlib exhash >target/staticlib.log 2>&1 || { cat target/staticlib.log; exit 1; }
+	@mkdir -p target/staticlib
+	@cd crates/exhash && rt lib >../../target/staticlib.log 2>&1 || { cat ../../target/staticlib.log; exit 1; }
+	@cp crates/exhash/out/libexhash.a $@

@@ -1,19 +1,18 @@
 #!/usr/bin/env python3
 """Prints the figures of docs/CHANGES.md as a table, a row a crate: lines of code (src), definitions (other specs),
-promises (the Promises files of specs), laws (proofs but Proof.antt) and proofs of functions (Proof.antt); characters of
+promises (the Promises files of specs), laws (the other proofs) and proofs of functions (Invariants and Answers); characters of
 the longest line that a `requires` or `ensures` stands on, and of the longest such clause with its white space folded;
 functions, and how many take seven parameters or more; seconds that the crate's proof took. The last row adds up, or
 takes the longest.
 
-usage: tests/figures.py [LOG], at the repository's root. LOG is what `rt prove` wrote; without it there are no seconds.
+usage: tests/figures.py, at the repository's root.
 """
 import pathlib
 import re
-import sys
 
 MANY = 7
 LINE, CONTRACT = "contract line", "contract"
-CLAUSE = re.compile(r"\b(?:requires|ensures)\s*\{")
+CLAUSE = re.compile(r"\b(?:requires|ensures)(?: \w+)?\s*\{")
 FUNCTION = re.compile(r"(?m)^[ \t]*(?:pub\s+)?(?:extern\s+\"C\"\s+)?fn\s+\w+\s*(?:<[^>(]*>)?\(")
 OPENING, CLOSING = "([{", ")]}"
 
@@ -63,7 +62,7 @@ def row(crate):
     found = [(text, *clause) for text in code for clause in clauses(text)]
     counts = [count for text in code for count in parameters(text)]
     promises = list(crate.glob("specs/**/*Promises.antt"))
-    proofs = list(crate.glob("proofs/**/Proof.antt"))
+    proofs = [path for name in ("Invariants", "Answers") for path in crate.glob(f"proofs/**/*/{name}.antt")]
     return [
         lines(crate.glob("src/**/*.rt")),
         lines(path for path in crate.glob("specs/**/*.antt") if path not in promises),
@@ -78,12 +77,9 @@ def row(crate):
 
 
 def main():
-    names = [line.split(":")[0] for line in text_of(pathlib.Path("crates.txt")).splitlines() if ":" in line]
-    log = text_of(pathlib.Path(sys.argv[1])) if len(sys.argv) > 1 else ""
-    seconds = {name: int(count) for name, count in re.findall(r"(?m)^rt: (\w+) proved \((\d+) s\)", log)}
+    names = [line.split(":")[0].split()[0] for line in text_of(pathlib.Path("crates.txt")).splitlines() if ":" in line]
     columns = ["src", "definitions", "promises", "laws", "proofs", LINE, CONTRACT, "functions", f"of {MANY} or more"]
-    columns += ["s"] * bool(seconds)
-    rows = {name: row(pathlib.Path("crates") / name) + [seconds.get(name, 0)] * bool(seconds) for name in names}
+    rows = {name: row(pathlib.Path("crates") / name) for name in names}
     longest = {columns.index(LINE), columns.index(CONTRACT)}
     rows["all"] = [(max if at in longest else sum)(column) for at, column in enumerate(zip(*rows.values()))]
     print("| crate | " + " | ".join(columns) + " |")

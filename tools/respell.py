@@ -70,7 +70,7 @@ def mapping(kinds, rust):
     for spelled, names in wanted.items():
         names.sort(key=lambda n: ("definition" not in kinds[n], "-" in n, n))
         for i, name in enumerate(names):
-            if i and kinds[name] == {"lemma"}:
+            if i and kinds[name] == {"lemma"} and "definition" in kinds[names[0]]:
                 new[name] = spelled + "_lem"
             else:
                 new[name] = spelled

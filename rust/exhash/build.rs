@@ -1,5 +1,5 @@
 //! Links the proved archive. EXHASH_LIB names it or its directory, from the repository's root where
-//! the path is relative; unset, it is where `rt staticlib exhash` writes it.
+//! the path is relative; unset, it is where `make library` writes it.
 
 use std::env;
 use std::path::{Path, PathBuf};
@@ -16,7 +16,7 @@ fn main() {
             println!("cargo::rustc-link-lib=static:+verbatim={}", name.display());
         }
         _ => println!(
-            "cargo::error=no archive at {}: run `rt staticlib exhash`, or set EXHASH_LIB to it or its directory",
+            "cargo::error=no archive at {}: run `make library`, or set EXHASH_LIB to it or its directory",
             archive.display()
         ),
     }

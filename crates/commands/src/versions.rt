@@ -10,6 +10,7 @@ use store::{Expiry, Found};
 
 // Whether VER names another version than the one that is held, or GT one that is not greater. A VER of 0 is compared with nothing, and no VER
 // with a held 0.
+#[tactic(auto, using(crate::proofs::VersionPlans::match_none))]
 pub fn is_stale(versioning: Versioning, held: u64) -> bool
     ensures { result ≡ is_stale versioning (some (versioned held)) }
 {

@@ -75,20 +75,17 @@ pub fn search(store: &[u8], key: &[u8], field: &[u8]) -> Searched
     search_within(store, &words, key, field, 0, slots(store))
 }
 
-// The slot without the count. Only slots with the field's fingerprint are searched, and at times the last one; the others are passed over by it, their
-// lengths unseen.
+// The slot that holds a key and a field. Only slots with the field's fingerprint are looked at closely.
 pub fn named(store: &[u8], key: &[u8], field: &[u8]) -> Found
     requires { well_formed store.now ≡ true }
     ensures { result ≡ found_for (lowest_slot (holds key.now field.now) (decode store.now).slots) }
 {
     let count = slots(store);
-    let words = slot::name_words(key, field);
-    let fingerprint = words[2] ^ words[3];
+    let fingerprint = slot::fingerprint_of(field);
     let mut i = next_candidate(store, fingerprint, 0);
     while i < count {
-        let found = search_within(store, &words, key, field, i, i + 1).found;
-        if let Found::At(at) = found {
-            return Found::At(at);
+        if slot::holds_with(slot::bytes(store, i), fingerprint, key, field) {
+            return Found::At(i);
         }
         i = next_candidate(store, fingerprint, i + 1);
     }

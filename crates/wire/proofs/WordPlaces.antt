@@ -511,3 +511,8 @@ next_at count n k {r} e q = go (ltb n count) refl e
     go : (t : Bool) → ltb n count ≡ t → r ≡ cond t (nexts.Word n) nexts.End → (k ≡ n) × (n < count)
     go true p d = (cc, ltb-true n count p)
     go false p d = impossible cc
+
+-- a command with something after its last word
+pub places_past : {s : List ℕ} {places : List (List ℕ)} {count first at i : ℕ} → Progress s places count first at i
+    → counts.Count count first ≡ counted_for (length s) (read_count 42 words_most (drop 0 s)) → count ≤ i → (at ≡ length s → ⊥) → Places s places 0
+places_past now head l e = places_none head (progress_after now l e)

@@ -1,14 +1,17 @@
 use mathlib.Core.Path.{refl, sym, ◌∙◌}
 use native.Mathlib.Omega.{arith}
 use lib.ListN.{length-set}
-use Rattle.wire.proofs.WordPlaces.{progress_begins, progress_goes_on, progress_damaged, progress_after, places_headless, places_none, places_all}
+use Rattle.wire.proofs.WordPlaces.{progress_begins, progress_goes_on, progress_damaged, places_past, places_headless, places_none, places_all}
 use Rattle.wire.proofs.words.split.Goals as goal
 
 pub returns-in_default : goal.returns-in_default
 returns-in_default c = places_headless (sym c.in_default.is ∙ c.read_count-head.ensures)
 
 pub loop-i-init : goal.loop-i-init
-loop-i-init c = (progress_begins (sym c.in-Count.is ∙ c.read_count-head.ensures), refl)
+loop-i-init c =
+    let head = sym c.in-Count.is ∙ c.read_count-head.ensures in
+    let now = progress_begins {places = c.args.places.now} head in
+    (now, refl, λ l e. places_past now head l e)
 
 pub read_word-word-requires : goal.read_word-word-requires
 read_word-word-requires c = c.loop-i.invariant.0.within
@@ -22,16 +25,13 @@ returns-in_default-word c =
     (progress_damaged c.loop-i.invariant.0 c.loop-i-test.true (sym c.in_default-word.is ∙ c.read_word-word.ensures))
 
 pub loop-i-preserved : goal.loop-i-preserved
-loop-i-preserved c = let inv = c.loop-i.invariant in (progress_goes_on inv.0 c.loop-i-test.true (omega arith) (sym c.in-Word.is ∙ c.read_word-word.ensures), rw length-set inv.1)
-
-pub shape_of-places-then-at-s : goal.shape_of-places-then-at-s
-shape_of-places-then-at-s c = c.loop-i.invariant.1
-
-pub returns-then-at-s : goal.returns-then-at-s
-returns-then-at-s c = places_none (sym c.in-Count.is ∙ c.read_count-head.ensures) (progress_after c.loop-i.invariant.0 c.loop-i-test.false c.if-at-s.true)
+loop-i-preserved c =
+    let inv = c.loop-i.invariant in
+    let now = progress_goes_on inv.0 c.loop-i-test.true (omega arith) (sym c.in-Word.is ∙ c.read_word-word.ensures) in
+    (now, rw length-set inv.1, λ l e. places_past now (sym c.in-Count.is ∙ c.read_count-head.ensures) l e)
 
 pub shape_of-places : goal.shape_of-places
 shape_of-places c = c.loop-i.invariant.1
 
 pub returns : goal.returns
-returns c = places_all (sym c.in-Count.is ∙ c.read_count-head.ensures) c.loop-i.invariant.0 (omega (arith, c.loop-i.invariant.1)) c.loop-i-test.false c.if-at-s.false
+returns c = places_all (sym c.in-Count.is ∙ c.read_count-head.ensures) c.loop-i.invariant.0 (omega (arith, c.loop-i.invariant.1)) c.loop-i-test.false (omega arith)

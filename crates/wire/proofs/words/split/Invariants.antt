@@ -1,12 +1,16 @@
 use mathlib.Core.Path.{◌≡◌}
-use Prim.Native.Nat.{◌-◌}
+use Prim.Native.Nat.{◌-◌, ◌≤◌}
 use lib.ListN.{length}
+use Rattle.wire.specs.Promises.{Places}
 use Rattle.wire.proofs.WordPlaces.{Progress}
 use Rattle.wire.proofs.words.split.Given as goal
 
--- The words found so far and the words left are the command's words. The measure is how many are left.
+-- The words found so far and the words left are the command's words, and with none left a command that goes on
+-- has no words. The measure is how many are left.
 abbrev pub invariant-loop-i : goal.invariant-loop-i
-invariant-loop-i l = Progress l.s l.places l.count l.first l.at l.i × (length l.places ≡ length l.initial.places)
+invariant-loop-i l =
+    Progress l.s l.places l.count l.first l.at l.i × (length l.places ≡ length l.initial.places)
+    × (l.count ≤ l.i → (l.at ≡ length l.s → ⊥) → Places l.s l.places 0)
 
 abbrev pub decreases-loop-i : goal.decreases-loop-i
 decreases-loop-i l = l.count - l.i
