@@ -11,7 +11,7 @@ CARGO := cd rust && EXHASH_LIB=$(LIBRARY) cargo
 demo:
 	@mkdir -p target
 	@test -d crates/demo/out || echo "proving the library: some minutes" >&2
-	@cd crates/demo && rt run 2>../../target/demo.log || { cat ../../target/demo.log; exit 1; }
+	@cd crates/demo && rt run <stdin 2>../../target/demo.log || { cat ../../target/demo.log; exit 1; }
 
 # The archive for C and Rust, from the proved crates.
 library: $(LIBRARY)
