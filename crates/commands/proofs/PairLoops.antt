@@ -16,7 +16,7 @@ use Rattle.wire.proofs.Lists.{or_left, or_right, or_neither, length_keep}
 use Rattle.store.specs.Layout.{key_most, field_most, value_most, version_most}
 use Rattle.store.specs.declared.Found.{Found}
 use Rattle.store.specs.declared.Found.TheVariants as founds
-use Rattle.store.specs.Store.{Entry, entry, Slot, Store, decode, holds}
+use Rattle.store.specs.Store.{Entry, entry, Slot, Store, decode, holds, well_formed}
 use Rattle.store.specs.Time.{lowest_slot, put}
 use Rattle.store.specs.declared.Expiry.TheVariants.{Never}
 use Rattle.store.specs.Promises.{Holds, found_for}
@@ -335,3 +335,15 @@ placed_entry k f v ss q = ap (λ (m : ℕ). entry k f v m Never) (rw q (sym (nex
 pub placed_pair : (now : ℕ) (k f v : Word) (s : Store) {n : ℕ} {d : List ℕ} → n ≡ version_in k s.slots f
     → Holds d (with_put now (entry k f v (n + 1) Never) s) → Holds d (with_put now (pair_entry k f v s.slots) s)
 placed_pair now k f v s {d = d} q h = subst (λ (e : Entry). Holds d (with_put now e s)) (placed_entry k f v s.slots q) h
+
+-- What the code knows of the field at i tells whether it passes the largest version.
+abbrev pub Passing : List ℕ → List (List ℕ) → List ℕ → Word → ℕ → Type 0
+Passing s places b k i = (f : Word) (found : Found) (held again : ℕ) → i + 1 < length places → f ≡ word_at i (words_in s places)
+    → found ≡ found_for (lowest_slot (holds k f) (decode b).slots) → held ≡ held_version (entry_for (decode b).slots found)
+    → Telling found held (times_in (word_at i (words_in s places)) (fields_in (drop (i + 2) (words_in s places)))) again → version_most < held + (again + 1)
+    → surveys.Overflow ≡ survey_of k (fields_in (words_in s places)) (decode b).slots
+
+pub survey_passes : (s : List ℕ) (places : List (List ℕ)) (b : List ℕ) (k : Word) (i : ℕ) {n : ℕ} → well_formed b ≡ true
+    → Surveying k (fields_in (words_in s places)) (named_from s places i) (decode b).slots n → Passing s places b k i
+survey_passes s places b k i w now f found held again l e q v t h =
+    surveying_over now (next_named _ _ _ l e) (version_sought (record { well = w; looked = q }) v) (telling_is _ _ _ e t) h

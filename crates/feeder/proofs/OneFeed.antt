@@ -44,3 +44,8 @@ module _ (f : Feeder) (piece b buffer : List ℕ) where
         → answer_for r f.waiting b buffer ≡ feed f piece b buffer
     unfolding checks first_applying
     refused_buffer x y l = refused 3 (rw (x, y, lt-ltb (length buffer) buffer_least l))
+
+-- The same of a state by its parts.
+pub refused_short : (w : List ℕ) (n : ℕ) (piece b buffer : List ℕ) (r : Absorbed) → is_left (record { waiting = w; count = n }) ≡ true → well_formed b ≡ true
+    → length buffer < buffer_least → r ≡ refused_with 3 n → answer_for r w b buffer ≡ feed (record { waiting = w; count = n }) piece b buffer
+refused_short w n piece b buffer r = refused_buffer (record { waiting = w; count = n }) piece b buffer

@@ -24,6 +24,7 @@ fn refused(number: u32, count: usize) -> Absorbed
 }
 
 // One call, where the places of the waiting bytes are lent, so that none is copied.
+#[tactic(auto, using(crate::proofs::OneFeed::refused_short))]
 pub fn feed_lent(
     waiting: &mut [u8; WAITING_MOST],
     count: usize,

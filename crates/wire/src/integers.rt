@@ -57,6 +57,7 @@ pub fn read_natural(s: &[u8], most: u64) -> Natural
 }
 
 // A plain integer of signed 64 bits.
+#[tactic(auto, using(crate::proofs::IntegerSigns::minus_zero, crate::proofs::IntegerSigns::minus_value))]
 pub fn read_integer(s: &[u8]) -> Integer
     ensures { result ≡ integer_for (read_integer lowest64 highest64 s.now) }
 {

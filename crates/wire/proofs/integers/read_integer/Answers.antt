@@ -1,5 +1,5 @@
 use native.Mathlib.Omega.{arith}
-use Rattle.wire.proofs.IntegerSigns.{integer_empty, plain_value, plain_refused, minus_value, minus_zero, minus_refused}
+use Rattle.wire.proofs.IntegerSigns.{integer_empty, plain_value, plain_refused, minus_refused}
 use Rattle.wire.proofs.integers.read_integer.Goals as goal
 
 -- With no minus a text is read as a number, and else what follows it. The laws say each return of what `read_natural` answered.
@@ -11,12 +11,6 @@ returns-in-Value c = plain_value c.args.s.now c.read_natural-read.ensures c.if-s
 
 pub returns-in-Refused : goal.returns-in-Refused
 returns-in-Refused c = plain_refused c.args.s.now c.read_natural-read.ensures c.if-s-ne45.true c.in-Refused.is
-
-pub returns-then-n-eq0 : goal.returns-then-n-eq0
-returns-then-n-eq0 c = minus_zero c.args.s.now c.read_natural-read-2.ensures (omega arith) c.if-s-ne45.false c.in-Value-read.n c.in-Value-read.is c.if-n-eq0.true
-
-pub returns-else-n-eq0 : goal.returns-else-n-eq0
-returns-else-n-eq0 c = minus_value c.args.s.now c.read_natural-read-2.ensures (omega arith) c.if-s-ne45.false c.in-Value-read.n c.in-Value-read.is c.if-n-eq0.false
 
 pub returns-in-Refused-read : goal.returns-in-Refused-read
 returns-in-Refused-read c = minus_refused c.args.s.now c.read_natural-read-2.ensures (omega arith) c.if-s-ne45.false c.in-Refused-read.is
