@@ -64,6 +64,7 @@ fn pair_over(command: &[u8], places: &[[usize; 2]]) -> bool
 }
 
 // Whether the key, a field or a value of a command is too long.
+#[tactic(auto, using(crate::proofs::CountTallies::key_long))]
 pub fn too_long(command: &[u8], places: &[[usize; 2]], row: usize) -> bool
     requires { (Inside command.now places.now) × (row < command_count) }
     ensures { let ws = words_in command.now places.now in
