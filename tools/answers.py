@@ -31,7 +31,7 @@ def clauses_of(root):
     """For each function of src/, by its path, the labels of its requires and of its ensures."""
     found = {}
     for path in glob.glob(os.path.join(root, "crates/*/src/**/*.rt"), recursive=True):
-        crate = path[len(root) :].split("/crates/")[1].split("/")[0] if root.endswith("x") else os.path.relpath(path, os.path.join(root, "crates")).split("/")[0]
+        crate = os.path.relpath(path, os.path.join(root, "crates")).split("/")[0]
         rel = os.path.relpath(path, os.path.join(root, "crates", crate, "src"))[:-3]
         module = [] if rel in ("lib", "main") else rel.split("/")
         name, kinds = None, None
@@ -313,8 +313,6 @@ def turn_file(folder, path, one, clauses, crate):
     uses = [u for u in uses if not re.search(r"\.(Statement\.\{statement\}|Tie as tie)$", u)]
     invariants, answers, helpers, positions = [], [], [], {}
     top = []
-    if blocks and blocks[0][0] and not re.match(r"-- ----", blocks[0][0][0]):
-        pass
     for comment, block in blocks:
         if not block:
             top += comment
@@ -395,7 +393,7 @@ def turn_file(folder, path, one, clauses, crate):
         labels = []
         if re.search(r"-requires(-|$)", new):
             callee = new.split("-")[0]
-            near = [f for f in clauses if f.split("::")[-1] == callee and (f.startswith(crate + "::") or True)]
+            near = [f for f in clauses if f.split("::")[-1] == callee]
             near = [f for f in near if f.split("::")[0] in SEEN]
             same = [f for f in near if f.rsplit("::", 1)[0] == function.rsplit("::", 1)[0]] or [f for f in near if f.startswith(crate + "::")] or near
             labels = clauses[same[0]]["requires"] if same else []
