@@ -1,9 +1,8 @@
 #!/usr/bin/env python3
 """Prints the figures of docs/CHANGES.md as a table, a row a crate: lines of code (src), definitions (other specs),
-promises (the Promises files of specs), laws (the other proofs) and proofs of functions (Invariants and Answers); characters of
-the longest line that a `requires` or `ensures` stands on, and of the longest such clause with its white space folded;
-functions, and how many take seven parameters or more; seconds that the crate's proof took. The last row adds up, or
-takes the longest.
+promises (the Promises files of specs), laws (the other proofs) and proofs of functions (Invariants and Answers);
+characters of the longest line that a `requires` or `ensures` stands on, and of the longest such clause with its white
+space folded; functions, and how many take seven parameters or more. The last row adds up, or takes the longest.
 
 usage: tests/figures.py, at the repository's root.
 """
