@@ -166,7 +166,7 @@ module _ (k f x : Word) (c : Condition) (n : Versioning) where
 
 -- to compute what words say, with the numbers among them left as texts
 parsing : Unit {0}
-unfolding parse parse_words or_else command_named commands spells upper same map text word_at checks later_checks scan option_named options operand_range option_words allowed group build too_long key_of fields_of values_of deed_values count_fits conflicting readable_operand readable read_in number_in natural_in versioning condition lifetime given_of versioning_of bound_in is_zero deed_versioning beyond deed_lifetime on_deed first_applying any all number_range
+unfolding parse parse_words or_else command_named commands spells upper same text word_at checks later_checks scan option_named options operand_range option_words allowed group build too_long key_of fields_of values_of deed_values count_fits conflicting readable_operand readable read_in number_in natural_in versioning condition lifetime given_of versioning_of bound_in is_zero deed_versioning beyond deed_lifetime on_deed first_applying any all number_range
 parsing = tt
 
 natural_read : (most n : ℕ) → n ≤ most → read_integer (pos 0) (pos most) (integer_text (pos n)) ≡ Some (pos n)

@@ -31,35 +31,35 @@ use Rattle.commands.proofs.Went.Went.{early, late, done}
 use Rattle.commands.proofs.Refused.{refusal_known, refused_reply}
 
 -- a reply that is not empty and begins with no minus, as no line of a refusal does
-record Some (r : List ℕ) : Type 0 where
+record Said (r : List ℕ) : Type 0 where
   long : 1 ≤ length r
   plain : eqb (get_or r 0 0) 45 ≡ false
 
 -- ---- the forms of a reply
 
-integer_some : (z : ℤ) → Some (integer z)
+integer_some : (z : ℤ) → Said (integer z)
 unfolding integer text
 integer_some z = record { long = omega arith; plain = refl }
 
-bulk_some : (w : Word) → Some (bulk w)
+bulk_some : (w : Word) → Said (bulk w)
 unfolding bulk text
 bulk_some w = record { long = omega arith; plain = refl }
 
-array_some : (xs : List (List ℕ)) → Some (array xs)
+array_some : (xs : List (List ℕ)) → Said (array xs)
 unfolding array header text
 array_some xs = record { long = omega arith; plain = refl }
 
-nil_some : Some nil
+nil_some : Said nil
 unfolding nil line text
 nil_some = record { long = omega arith; plain = refl }
 
-ok_some : Some (line "+OK")
+ok_some : Said (line "+OK")
 unfolding line text
 ok_some = record { long = omega arith; plain = refl }
 
 -- ---- one field
 
-answer_some : (now : ℕ) (ss : List Slot) (k : Word) (q : Question) (found : Option Entry) → Some (reply now ss k q found)
+answer_some : (now : ℕ) (ss : List Slot) (k : Word) (q : Question) (found : Option Entry) → Said (reply now ss k q found)
 unfolding reply or_else
 answer_some now ss k Value None = nil_some
 answer_some now ss k Value (Some e) = bulk_some e.value
@@ -72,11 +72,11 @@ answer_some now ss k Seconds found = integer_some _
 answer_some now ss k Milliseconds found = integer_some _
 
 -- one of two effects
-either_some : (t : Bool) (a b : Effect) → Some a.reply → Some b.reply → Some (cond t a b).reply
+either_some : (t : Bool) (a b : Effect) → Said a.reply → Said b.reply → Said (cond t a b).reply
 either_some true a b h g = h
 either_some false a b h g = g
 
-deed_some : (now : ℕ) (ss : List Slot) (k f : Word) (d : Deed) (found : Option Entry) → Some (deed_effect now ss k f d found).reply
+deed_some : (now : ℕ) (ss : List Slot) (k f : Word) (d : Deed) (found : Option Entry) → Said (deed_effect now ss k f d found).reply
 unfolding deed_effect set_effect increment_effect expire_effect persist_effect renumber_effect or_else
 deed_some now ss k f (assign v c n t) found = either_some (barred c found) _ _ (integer_some _) (integer_some _)
 deed_some now ss k f (increment a l g n t) found = integer_some _
@@ -90,7 +90,7 @@ deed_some now ss k f (ask q) found = answer_some now ss k q found
 
 -- ---- every record
 
-effect_some : (now : ℕ) (c : Command) (ss : List Slot) → Some (effect now c ss).reply
+effect_some : (now : ℕ) (c : Command) (ss : List Slot) → Said (effect now c ss).reply
 unfolding effect
 effect_some now (on_field k f d) ss = deed_some now ss k f d (entry_of k f ss)
 effect_some now (set_many k ps) ss = ok_some

@@ -70,7 +70,7 @@ fn put_versioned(bytes: &[u8], i: usize, out: &mut [u8]) -> usize
 fn put_found(bytes: &[u8], question: Question, i: usize, time: u64, out: &mut [u8]) -> usize
     requires { (Held bytes.now i) × (answer_most ≤ length out.old) }
     ensures { let e = entry_at (decode bytes.now).slots i in
-        Laid (reply time [] [] question (some e)) out.old out.new result }
+        Laid (reply time [] [] question (Some e)) out.old out.new result }
 {
     match question {
         Question::Value => put_bulk(read::value(bytes, i), out),
@@ -87,7 +87,7 @@ fn put_found(bytes: &[u8], question: Question, i: usize, time: u64, out: &mut [u
 fn put_missing(bytes: &[u8], question: Question, key: &[u8], time: u64, out: &mut [u8]) -> usize
     requires { (well_formed bytes.now ≡ true) × (answer_most ≤ length out.old) }
     ensures { let ss = (decode bytes.now).slots in
-        Laid (reply time ss key.now question none) out.old out.new result }
+        Laid (reply time ss key.now question None) out.old out.new result }
 {
     let minus_two = Signed {
         negative: true,

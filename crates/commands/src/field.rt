@@ -1,5 +1,5 @@
 // What is done with one field, and replied.
-ghost use Rattle.std.specs.Prelude.{◌≡◌, true, false, [], ℕ, ◌≤◌, length};
+ghost use Rattle.std.specs.Prelude.{◌≡◌, true, false, [], ℕ, ◌≤◌, length, option_map};
 ghost use Rattle.wire.specs.Integers.{lowest64, highest64, within, integer_text};
 ghost use Rattle.wire.specs.Replies.{number, integer};
 ghost use Rattle.wire.specs.Promises.{signed_for, integer_of, Laid};

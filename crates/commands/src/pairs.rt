@@ -12,8 +12,8 @@ ghost use Rattle.commands.specs.Promises.{with_put, WithinLimits, Does, FieldsRe
 use crate::act::{hint_for, look, place};
 use crate::field::held_version;
 use crate::refusal::put_error;
-use store::layout::VERSION_MOST;
 use store::find;
+use store::layout::VERSION_MOST;
 use wire::bytes::equal;
 use wire::replies::put_line;
 use wire::words::{WORDS_MOST, word};
@@ -65,7 +65,13 @@ fn repeats(command: &[u8], pairs: &[[usize; 2]], i: usize) -> u64
 }
 
 // The same where it matters: a held field far from the largest version passes it in no case, and is not new.
-fn relevant_repeats(command: &[u8], pairs: &[[usize; 2]], i: usize, found: Option<usize>, held: u64) -> u64
+fn relevant_repeats(
+    command: &[u8],
+    pairs: &[[usize; 2]],
+    i: usize,
+    found: Option<usize>,
+    held: u64,
+) -> u64
     requires { (Inside command.now pairs.now) × (i + 1 < length pairs.now) }
     ensures { let ws = words_in command.now pairs.now in
         Telling found held (times_in (word_at i ws) (fields_in (drop (i + 2) ws))) result }

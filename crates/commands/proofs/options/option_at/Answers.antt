@@ -27,4 +27,4 @@ pub returns-in_default-next : goal.returns-in_default-next
 returns-in_default-next c = (refl, option_short _ c.args.allowed.now c.args.i (length_words _ _) c.requires.1 c.word.ensures c.option_named-found.ensures c.in-Some.option c.in-Some.is c.option_datum-g.ensures c.takes.ensures c.if-not-takes.false-raw c.option_datum.ensures c.if-option_datum-lt-WITH_OPERAND.false c.next_word-next.ensures c.in_default-next.is)
 
 pub returns : goal.returns
-returns c = option_found _ c.args.allowed.now c.args.i (length_words _ _) c.requires.1 c.word.ensures c.option_named-found.ensures c.in-Some.option c.in-Some.is c.option_datum-g.ensures c.takes.ensures c.if-not-takes.false-raw c.option_datum.ensures c.if-option_datum-lt-WITH_OPERAND.false c.next_word-next.ensures c.in-Some.operand c.in-Some.is c.option_datum-said.ensures
+returns c = option_found _ c.args.allowed.now c.args.i (length_words _ _) c.requires.1 c.word.ensures c.option_named-found.ensures c.in-Some.option c.in-Some.is c.option_datum-g.ensures c.takes.ensures c.if-not-takes.false-raw c.option_datum.ensures c.if-option_datum-lt-WITH_OPERAND.false c.next_word-next.ensures c.in-Some-next.operand c.in-Some-next.is c.option_datum-said.ensures

@@ -13,34 +13,34 @@ pub returns-in-Refused : goal.returns-in-Refused
 returns-in-Refused c = scanning_fails c.loop-i.invariant (rw c.in-Refused.is at c.option_at-found.ensures)
 
 pub offset_bounds-given-g : goal.offset_bounds-given-g
-offset_bounds-given-g c = let found = rw c.in-Some.is at c.option_at-found.ensures in omega (arith, found.grouped)
+offset_bounds-given-g c = let found = rw c.in-At.is at c.option_at-found.ensures in omega (arith, found.grouped)
 
 pub bounds-given-g : goal.bounds-given-g
-bounds-given-g c = let found = rw c.in-Some.is at c.option_at-found.ensures in omega (arith, found.grouped, c.loop-i.invariant.said_size)
+bounds-given-g c = let found = rw c.in-At.is at c.option_at-found.ensures in omega (arith, found.grouped, c.loop-i.invariant.said_size)
 
 pub returns-then-given-g-lt-NOT_GIVEN : goal.returns-then-given-g-lt-NOT_GIVEN
-returns-then-given-g-lt-NOT_GIVEN c = let found = rw c.in-Some.is at c.option_at-found.ensures in scanning_again c.loop-i.invariant found c.if-given-g-lt-NOT_GIVEN.true
+returns-then-given-g-lt-NOT_GIVEN c = let found = rw c.in-At.is at c.option_at-found.ensures in scanning_again c.loop-i.invariant found c.if-given-g-lt-NOT_GIVEN.true
 
-pub offset_bounds-given-g-in-Some : goal.offset_bounds-given-g-in-Some
-offset_bounds-given-g-in-Some c = let found = rw c.in-Some.is at c.option_at-found.ensures in omega (arith, found.grouped)
+pub offset_bounds-given-g-in-At : goal.offset_bounds-given-g-in-At
+offset_bounds-given-g-in-At c = let found = rw c.in-At.is at c.option_at-found.ensures in omega (arith, found.grouped)
 
-pub bounds-given-g-in-Some : goal.bounds-given-g-in-Some
-bounds-given-g-in-Some c = let found = rw c.in-Some.is at c.option_at-found.ensures in omega (arith, found.grouped, c.loop-i.invariant.said_size)
+pub bounds-given-g-in-At : goal.bounds-given-g-in-At
+bounds-given-g-in-At c = let found = rw c.in-At.is at c.option_at-found.ensures in omega (arith, found.grouped, c.loop-i.invariant.said_size)
 
-pub offset_bounds-given-g-in-Some-2 : goal.offset_bounds-given-g-in-Some-2
-offset_bounds-given-g-in-Some-2 c = let found = rw c.in-Some.is at c.option_at-found.ensures in omega (arith, found.grouped)
+pub offset_bounds-given-g-in-At-2 : goal.offset_bounds-given-g-in-At-2
+offset_bounds-given-g-in-At-2 c = let found = rw c.in-At.is at c.option_at-found.ensures in omega (arith, found.grouped)
 
-pub bounds-given-g-in-Some-2 : goal.bounds-given-g-in-Some-2
-bounds-given-g-in-Some-2 c = let found = rw c.in-Some.is at c.option_at-found.ensures in omega (arith, found.grouped, c.loop-i.invariant.operands_size)
+pub bounds-given-g-in-At-2 : goal.bounds-given-g-in-At-2
+bounds-given-g-in-At-2 c = let found = rw c.in-At.is at c.option_at-found.ensures in omega (arith, found.grouped, c.loop-i.invariant.operands_size)
 
 pub overflow_add-i : goal.overflow_add-i
-overflow_add-i c = let found = rw c.in-Some.is at c.option_at-found.ensures in omega (arith, found.inside, length_words c.args.command.now c.args.places.now, c.requires.most)
+overflow_add-i c = let found = rw c.in-At.is at c.option_at-found.ensures in omega (arith, found.inside, length_words c.args.command.now c.args.places.now, c.requires.most)
 
 pub loop-i-smaller : goal.loop-i-smaller
-loop-i-smaller c = let found = rw c.in-Some.is at c.option_at-found.ensures in omega (arith, found.inside, found.after, length_words c.args.command.now c.args.places.now)
+loop-i-smaller c = let found = rw c.in-At.is at c.option_at-found.ensures in omega (arith, found.inside, found.after, length_words c.args.command.now c.args.places.now)
 
 pub loop-i-preserved : goal.loop-i-preserved
-loop-i-preserved c = let found = rw c.in-Some.is at c.option_at-found.ensures in scanning_on c.loop-i.invariant found c.if-given-g-lt-NOT_GIVEN.false
+loop-i-preserved c = let found = rw c.in-At.is at c.option_at-found.ensures in scanning_on c.loop-i.invariant found c.if-given-g-lt-NOT_GIVEN.false
 
 pub returns : goal.returns
 returns c = scanning_ends c.loop-i.invariant (length_words _ _) c.loop-i-test.false
