@@ -1,9 +1,9 @@
 -- Lists of feeding calls. The records' half of demand 3: what the calls come to is what their absorbing comes to, with the records that it
 -- hands out done in order. With the stream's half, of ListOfPieces, that is demand 3.
-use Rattle.std.specs.Prelude.{Option, None, Some}
+use Rattle.std.specs.Prelude.{option_to_list, Option, None, Some}
 use mathlib.Core.Path.{◌≡◌, refl, sym, ap, ◌∙◌}
 use mathlib.Core.Bool.{Bool, true, false, cond}
-use mathlib.Core.List.{List, [], ◌∷◌, ◌++◌, append_assoc, append-nil, flatten, Option-to_list}
+use mathlib.Core.List.{List, [], ◌∷◌, ◌++◌, append_assoc, append-nil, flatten}
 use Prim.Native.Nat.{ℕ, zero, suc, ◌+◌, ◌-◌, ◌≤◌, ◌<◌}
 use native.Mathlib.Nat.{add-zero}
 use native.Mathlib.Omega.{arith}
@@ -55,8 +55,8 @@ records_well zero (x ∷ s) bs b well = go (head_of (x ∷ s)) (λ k. records_we
     go wait ih = well
 
 -- the record of one call
-do_one : (m : Option Record) (b : List ℕ) → do_all (Option-to_list m) b ≡ doing m b
-unfolding do_all doing or_else Option-to_list
+do_one : (m : Option Record) (b : List ℕ) → do_all (option_to_list m) b ≡ doing m b
+unfolding do_all doing or_else
 do_one None b = refl
 do_one (Some r) b = rw append-nil
 
@@ -67,7 +67,7 @@ unfolding tally answering done_for counted
 answered_adds b t c a =
     let before : List ℕ = (do_all t.divided.records b).store in
     rw (
-      do_more t.divided.records (Option-to_list a.completed) b,
+      do_more t.divided.records (option_to_list a.completed) b,
       do_one a.completed before,
       take_laid (doing a.completed before).reply c.buffer,
     )

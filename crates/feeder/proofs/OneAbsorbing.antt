@@ -1,9 +1,9 @@
 -- One absorbing call: the division of what waited and of the bytes used says it all.
-use Rattle.std.specs.Prelude.{Option, None, Some}
+use Rattle.std.specs.Prelude.{option_to_list, Option, None, Some}
 use mathlib.Core.Path.{◌≡◌, refl, sym, ap, ◌∙◌}
 use mathlib.Core.Logic.{◌⊎◌, inl, inr}
 use mathlib.Core.Bool.{Bool, true, false}
-use mathlib.Core.List.{List, [], ◌∷◌, ◌++◌, append_assoc, Option-to_list}
+use mathlib.Core.List.{List, [], ◌∷◌, ◌++◌, append_assoc}
 use Rattle.std.proofs.lemmas.Option.{none-some, same_Some}
 use Prim.Native.Nat.{ℕ, ◌+◌, ◌-◌, ◌≤◌, ◌<◌}
 use native.Mathlib.Omega.{arith}
@@ -20,7 +20,7 @@ use Rattle.feeder.proofs.FirstRecord.{First, first_found, found_first, none_foun
 
 -- what one call adds, as a division
 abbrev pub division_of : Absorbing → Division
-division_of a = record { records = Option-to_list a.completed; skipped = a.skipped; rest = a.rest }
+division_of a = record { records = option_to_list a.completed; skipped = a.skipped; rest = a.rest }
 
 -- what a call comes to, where w waited
 pub record Took (w piece : List ℕ) (a : Absorbing) : Type 0 where
@@ -64,7 +64,7 @@ module _ (w piece : List ℕ) where
 
   -- no record is completed: all is used, and what is left waits
   kept : first_record all ≡ None → Took w piece (keeping all (length (offered piece)))
-  unfolding keeping Option-to_list
+  unfolding keeping
   kept e =
       record {
         within = omega arith;
@@ -121,7 +121,7 @@ module _ (w piece : List ℕ) where
 
     -- a record is completed
     completed : Took w piece (completing all (length w) p)
-    unfolding completing Option-to_list
+    unfolding completing
     completed =
         record {
           within = inside;
