@@ -1,20 +1,22 @@
 -- Laws of loops that pass over bytes: two lists compared, bits that tell whether all are zero, a number read and written.
 use mathlib.Core.Path.{◌≡◌, refl, sym, ap, ◌∙◌}
 use mathlib.Core.Bool.{Bool, true, false, ◌&&◌, and-true, and_assoc}
-use mathlib.Core.List.{List, [], ◌∷◌, ◌++◌}
+use mathlib.Core.List.{List, [], ◌∷◌, ◌++◌, append_assoc, append-nil}
 use Prim.Native.Nat.{ℕ, zero, suc, ◌+◌, ◌-◌, ◌*◌, ◌/◌, ◌%◌, ◌^◌, ◌≤◌, ◌<◌}
-use native.Mathlib.Nat.{mul-le-mul_right, div-one, zero-div, div-div-eq-div-mul}
+use native.Mathlib.Nat.{sub-zero, mul-le-mul_right, div-one, zero-div, div-div-eq-div-mul}
 use native.Mathlib.Numerals.{add-one}
 use native.Mathlib.Omega.{arith}
+use Rattle.std.specs.Bool.{MatchBool}
+use Rattle.std.proofs.lemmas.Grind.{same_number_lists}
 use lib.Bits.{bit_or, or_zero_l, or_add_and, and_le_r}
 use lib.Dec.{eqb}
-use lib.ListN.{length, take, drop, get_or, drop_of_length-le}
+use lib.ListN.{length, take, drop, get_or, set, length-set, drop_of_length-le}
 use lib.Pow.{pow-add, pow_mono, shl_exact}
-use lib.Seq.{take_all, take-suc, drop-cons, drop-length, length-take-le}
+use lib.Seq.{take_all, take-suc, take-suc-set, drop-cons, length-take-le}
 use borrow.Author.Tests.{ne_eqb}
 use Rattle.wire.specs.Lists.{all}
 use Rattle.wire.specs.Bytes.{Bytes, from_le, to_le, all_zero, same}
-use Rattle.wire.proofs.ByteLaws.{bytes_head, bytes_tail, same_true, same_refl, eqb_sym, length_to_le}
+use Rattle.wire.proofs.ByteLaws.{bytes_head, bytes_tail, same_true, same_refl, eqb_sym}
 
 -- ---- two lists compared
 
@@ -26,41 +28,25 @@ not_same a b d = go (same a b) refl
     go true p = absurd (d (same_true a b p))
     go false p = refl
 
--- The elements from i on are the same.
-pub record Matching (a b : List ℕ) (i : ℕ) : Type 0 where
-  pub inside : i ≤ length a
-  pub sizes : length a ≡ length b
-  pub rest : drop i a ≡ drop i b
-
-pub match_begins : (a b : List ℕ) → length a ≡ length b → Matching a b (length a)
-match_begins a b e =
-    let m : length b ≤ length a = omega (arith, e) in
-    record { inside = omega arith; sizes = e; rest = drop-length a ∙ sym (drop_of_length-le b m) }
-
-pub match_goes_on : (a b : List ℕ) (i : ℕ) → Matching a b i → 0 < i → get_or a (i - 1) 0 ≡ get_or b (i - 1) 0 → Matching a b (i - 1)
-match_goes_on a b i f l e =
-    let m : i - 1 < length a = omega (arith, f.inside) in
-    let n : i - 1 < length b = omega (arith, f.inside, f.sizes) in
-    let k : suc (i - 1) ≡ i = omega arith in
-    record {
-      inside = omega (arith, f.inside);
-      sizes = f.sizes;
-      rest = rw (drop-cons a (i - 1) 0 m, drop-cons b (i - 1) 0 n, k, e, f.rest);
-    }
-
-pub match_ends : (a b : List ℕ) (i : ℕ) → Matching a b i → i ≤ 0 → same a b ≡ true
-match_ends a b zero f h = rw f.rest (same_refl b)
-match_ends a b (suc i) f h = absurd (omega arith)
+-- Lists of one length are the same where they agree at each place, counted from the last.
+pub same_back : (a b : List ℕ) (r : Bool) → length a ≡ length b
+    → MatchBool r ((k : ℕ) → k < length a → get_or a (length a - 1 - k) 0 ≡ get_or b (length b - 1 - k) 0)
+    ((k : ℕ) × (k < length a) × (get_or a (length a - 1 - k) 0 ≡ get_or b (length b - 1 - k) 0 → ⊥))
+    → r ≡ same a b
+same_back a b true l e = rw (same_number_lists a b l at_each) (sym (same_refl b))
+  where
+    at_each : (i : ℕ) → i < length a → get_or a i 0 ≡ get_or b i 0
+    at_each i h =
+        let p : length a - 1 - (length a - 1 - i) ≡ i = omega arith in
+        let q : length b - 1 - (length a - 1 - i) ≡ i = omega arith in
+        rw (p, q) at (e (length a - 1 - i) (omega arith))
+same_back a b false l d = sym (not_same a b (λ e. d.2 (rw e)))
 
 -- ---- bits that tell whether all are zero
 
 -- Whether all are zero is whether the bits of the first i bytes and the other bytes are.
-pub record Gathering (s : List ℕ) (bits i : ℕ) : Type 0 where
-  pub inside : i ≤ length s
-  pub zeros : all_zero s ≡ eqb bits 0 && all_zero (drop i s)
-
-pub gather_begins : (s : List ℕ) → Gathering s 0 0
-gather_begins s = record { inside = omega arith; zeros = refl }
+abbrev pub Gathering : List ℕ → ℕ → ℕ → Type 0
+Gathering s bits i = all_zero s ≡ eqb bits 0 && all_zero (drop i s)
 
 -- The bits of two numbers are zero exactly if both are.
 pub or_zero : (m n : ℕ) → eqb (bit_or m n) 0 ≡ eqb m 0 && eqb n 0
@@ -71,14 +57,12 @@ or_zero (suc m) n =
 
 pub gather_goes_on : (s : List ℕ) (bits i : ℕ) → Gathering s bits i → i < length s → Gathering s (bit_or bits (get_or s i 0)) (i + 1)
 unfolding all_zero all
-gather_goes_on s bits i f l = record {
-  inside = omega arith;
-  zeros = rw (f.zeros, drop-cons s i 0 l, add-one, or_zero bits (get_or s i 0), eqb_sym (get_or s i 0) 0) (sym (and_assoc (eqb bits 0) (eqb 0 (get_or s i 0)) (all (eqb 0) (drop (suc i) s))));
-}
+gather_goes_on s bits i f l =
+    rw (f, drop-cons s i 0 l, add-one, or_zero bits (get_or s i 0), eqb_sym (get_or s i 0) 0) (sym (and_assoc (eqb bits 0) (eqb 0 (get_or s i 0)) (all (eqb 0) (drop (suc i) s))))
 
 pub gather_ends : (s : List ℕ) (bits i : ℕ) → Gathering s bits i → length s ≤ i → eqb bits 0 ≡ all_zero s
 unfolding all_zero all
-gather_ends s bits i f h = rw (f.zeros, drop_of_length-le s h) (sym (and-true (eqb bits 0)))
+gather_ends s bits i f h = rw (f, drop_of_length-le s h) (sym (and-true (eqb bits 0)))
 
 -- ---- a number, low byte first
 
@@ -116,13 +100,12 @@ from_le_at n s h = rw (from_le_drop n s h) (from_le_first n s h)
 
 -- The first i bytes are read.
 pub record Reading (s : List ℕ) (x i : ℕ) : Type 0 where
-  pub inside : i ≤ length s
   pub spells : x ≡ from_le (take i s)
   pub small : x < 2 ^ (8 * i)
 
 pub read_begins : (s : List ℕ) → Reading s 0 0
 unfolding from_le
-read_begins s = record { inside = omega arith; spells = refl; small = omega arith }
+read_begins s = record { spells = refl; small = omega arith }
 
 -- A byte shifted to its place loses nothing.
 shifted : (b i : ℕ) → b < 256 → i < 8 → (b * 2 ^ (8 * i)) % 2 ^ 64 ≡ b * 2 ^ (8 * i)
@@ -142,9 +125,8 @@ module _ (s : List ℕ) (x i : ℕ) (f : Reading s x i) (width : length s ≤ 8)
   pub read_goes_on : Reading s (x + (get_or s i 0 * 2 ^ (8 * i)) % 2 ^ 64) (i + 1)
   read_goes_on =
       let whole : (get_or s i 0 * 2 ^ (8 * i)) % 2 ^ 64 ≡ get_or s i 0 * 2 ^ (8 * i) = shifted (get_or s i 0) i byte (omega arith) in
-      let size : length (take i s) ≡ i = length-take-le i s f.inside in
+      let size : length (take i s) ≡ i = length-take-le i s (omega arith) in
       record {
-        inside = omega arith;
         spells = rw (whole, add-one, take-suc s i 0 more, from_le_snoc, size, ← f.spells);
         small = rw (whole, add-one) (read_small x i (get_or s i 0) f.small byte);
       }
@@ -152,30 +134,29 @@ module _ (s : List ℕ) (x i : ℕ) (f : Reading s x i) (width : length s ≤ 8)
 pub read_ends : (s : List ℕ) (x i : ℕ) → Reading s x i → length s ≤ i → x ≡ from_le s
 read_ends s x i f h = rw (← (take_all i s h)) f.spells
 
--- The bytes from i on are those of what is left of the number.
-pub record Writing (n x rest i : ℕ) : Type 0 where
-  pub left : drop i (to_le n x) ≡ to_le (n - i) rest
+-- The first i bytes and those of what is left of the number are the number's.
+pub record Writing (n x : ℕ) (s : List ℕ) (rest i : ℕ) : Type 0 where
+  pub size : length s ≡ n
+  pub bytes : take i s ++ to_le (n - i) rest ≡ to_le n x
 
-pub write_begins : (n x : ℕ) → Writing n x x 0
-write_begins n x =
-    let z : n - 0 ≡ n = omega arith in
-    record { left = rw z }
-
-write_split : (n x rest i : ℕ) → Writing n x rest i → i < n → get_or (to_le n x) i 0 ∷ drop (suc i) (to_le n x) ≡ rest % 256 ∷ to_le (n - (i + 1)) (rest / 256)
-unfolding to_le
-write_split n x rest i f l =
-    let w : i < length (to_le n x) = rw length_to_le l in
-    let k : n - i ≡ suc (n - (i + 1)) = omega arith in
-    sym (drop-cons (to_le n x) i 0 w) ∙ f.left ∙ ap (λ (m : ℕ). to_le m rest) k
+pub write_begins : (s : List ℕ) (x : ℕ) → Writing (length s) x s x 0
+write_begins s x = record { size = refl; bytes = rw (sub-zero (length s)) }
 
 -- The next byte is the lowest that is left.
-pub write_byte : (n x rest i : ℕ) → Writing n x rest i → i < n → rest % 256 ≡ get_or (to_le n x) i 0
-write_byte n x rest i f l =
-    let q : get_or (to_le n x) i 0 ∷ drop (suc i) (to_le n x) ≡ rest % 256 ∷ to_le (n - (i + 1)) (rest / 256) = write_split n x rest i f l in
-    cc
+pub write_goes_on : (n x : ℕ) (s : List ℕ) (rest i : ℕ) → Writing n x s rest i → i < n → Writing n x (set s i (rest % 256)) (rest / 256) (i + 1)
+unfolding to_le
+write_goes_on n x s rest i f l =
+    let k : n - i ≡ suc (n - suc i) = omega arith in
+    let e : take i s ++ to_le (suc (n - suc i)) rest ≡ to_le n x = rw k at f.bytes in
+    let m : i < length s = omega (arith, f.size) in
+    record {
+      size = length-set s i (rest % 256) ∙ f.size;
+      bytes = rw (add-one i, take-suc-set s i (rest % 256) m, append_assoc) e;
+    }
 
-pub write_goes_on : (n x rest i : ℕ) → Writing n x rest i → i < n → Writing n x (rest / 256) (i + 1)
-write_goes_on n x rest i f l =
-    let q : get_or (to_le n x) i 0 ∷ drop (suc i) (to_le n x) ≡ rest % 256 ∷ to_le (n - (i + 1)) (rest / 256) = write_split n x rest i f l in
-    let e : drop (suc i) (to_le n x) ≡ to_le (n - (i + 1)) (rest / 256) = cc in
-    record { left = ap (λ (m : ℕ). drop m (to_le n x)) (add-one i) ∙ e }
+pub write_ends : (n x : ℕ) (s : List ℕ) (rest i : ℕ) → Writing n x s rest i → n ≤ i → s ≡ to_le n x
+unfolding to_le
+write_ends n x s rest i f h =
+    let z : n - i ≡ 0 = omega arith in
+    let e : take i s ++ to_le 0 rest ≡ to_le n x = rw z at f.bytes in
+    sym (append-nil s) ∙ rw (take_all i s (omega (arith, f.size))) at e

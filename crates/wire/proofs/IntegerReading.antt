@@ -11,9 +11,9 @@ use lib.Dec.{leb, eqb}
 use lib.IntN.{pos, neg_ℤ, nat_abs}
 use lib.ListN.{length, drop, get_or}
 use lib.Seq.{drop-cons, drop-length}
+use Rattle.std.specs.Char.{is_ascii_digit}
 use Rattle.wire.specs.Lists.{all, is_empty, only_if, or_else}
 use Rattle.wire.specs.Integers.{is_digit, is_natural, is_negated, value_from, value, read_plain, within, read_integer, read_natural}
-use Rattle.wire.proofs.Lists.{and_both}
 use Rattle.wire.proofs.IntegerDigits.{negated_value}
 
 -- ---- tests
@@ -42,20 +42,10 @@ natural_is most (c ∷ s) = go (eqb c 45) refl
         rw (e, lt-leb 48 c (omega arith)) (minus (is_negated s) (value s) (λ h. (negated_value s h).0))
     go false e = rw e (plain (is_natural (c ∷ s)) (value (c ∷ s)) (leb (value (c ∷ s)) most) refl)
 
--- ---- a digit
-
--- A digit is from 48 to 57, and no other byte is one.
-pub digit_below : (c : ℕ) → c < 48 → is_digit c ≡ false
+-- The library's test of a digit.
+pub digit_is : (c : ℕ) → is_ascii_digit c ≡ is_digit c
 unfolding is_digit
-digit_below c h = rw (lt-leb 48 c h)
-
-pub digit_over : (c : ℕ) → 57 < c → is_digit c ≡ false
-unfolding is_digit
-digit_over c h = rw (lt-leb c 57 h, and-false)
-
-pub digit_between : (c : ℕ) → 48 ≤ c → c ≤ 57 → is_digit c ≡ true
-unfolding is_digit
-digit_between c h l = and_both (le-leb 48 c h) (le-leb c 57 l)
+digit_is c = refl
 
 -- ---- what is left
 

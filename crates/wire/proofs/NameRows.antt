@@ -1,32 +1,26 @@
 -- Names: capitals, and the rows of a table.
 use Rattle.std.specs.Prelude.{Option, None, Some}
-use mathlib.Core.Path.{◌≡◌, refl, ◌∙◌}
+use mathlib.Core.Path.{◌≡◌, refl, sym, ◌∙◌}
 use mathlib.Core.Bool.{Bool, true, false, cond}
 use mathlib.Core.List.{List, map}
 use Prim.Native.Nat.{ℕ, suc, ◌+◌, ◌-◌, ◌*◌, ◌≤◌, ◌<◌}
 use native.Mathlib.Numerals.{add-one}
 use native.Mathlib.Omega.{arith}
-use borrow.Author.Tests.{le-leb, lt-leb}
+use Rattle.std.proofs.lemmas.Bool.Decides.{nat_tests}
+use Rattle.std.specs.Bool.{MatchBool}
+use Rattle.std.specs.Char.{to_ascii_uppercase}
 use lib.ListN.{length, get_or, take, drop, length-map, get_or-map}
 use Rattle.wire.specs.Bytes.{part, same, upper}
 use Rattle.wire.specs.Promises.{row_size, name_in, row_from}
+use Rattle.wire.proofs.ByteLoops.{same_back}
 use Rattle.wire.proofs.Lists.{impossible}
 
 -- ---- capitals
 
--- a small letter
-pub upper_small : (b : ℕ) → 97 ≤ b → b ≤ 122 → b - 32 ≡ upper b
+-- the library's capital of a letter
+pub upper_is : (b : ℕ) → to_ascii_uppercase b ≡ upper b
 unfolding upper
-upper_small b l m = rw (le-leb 97 b l, le-leb b 122 m)
-
--- what is below the small letters, and what is above them
-pub upper_below : (b : ℕ) → b < 97 → b ≡ upper b
-unfolding upper
-upper_below b l = rw (lt-leb 97 b l)
-
-pub upper_above : (b : ℕ) → 97 ≤ b → 122 < b → b ≡ upper b
-unfolding upper
-upper_above b l m = rw (le-leb 97 b l, lt-leb b 122 m)
+upper_is b = grind (arith, nat_tests)
 
 -- a word's capitals are as many as its letters, and each is its letter's
 pub length_upper : (word : List ℕ) → length (map upper word) ≡ length word
@@ -35,6 +29,17 @@ length_upper word = length-map word upper
 pub upper_at : (word : List ℕ) (i : ℕ) → get_or (map upper word) i 0 ≡ upper (get_or word i 0)
 unfolding upper
 upper_at word i = get_or-map upper word i 0
+
+-- A word spells a name where they agree at each place, counted from the last.
+pub spelled : (word name : List ℕ) (r : Bool) → length word ≡ length name
+    → MatchBool r ((k : ℕ) → k < length word → to_ascii_uppercase (get_or word (length word - 1 - k) 0) ≡ get_or name (length name - 1 - k) 0)
+    ((k : ℕ) × (k < length word) × (to_ascii_uppercase (get_or word (length word - 1 - k) 0) ≡ get_or name (length name - 1 - k) 0 → ⊥))
+    → r ≡ same (map upper word) name
+spelled word name true l e =
+    same_back (map upper word) name true (length_upper word ∙ l) (rw (length_upper word) (λ k h. upper_at word (length word - 1 - k) ∙ sym (upper_is (get_or word (length word - 1 - k) 0)) ∙ e k h))
+spelled word name false l d =
+    same_back (map upper word) name false (length_upper word ∙ l)
+    (rw (length_upper word) (d.0, d.1, λ e. d.2 (upper_is (get_or word (length word - 1 - d.0) 0) ∙ sym (upper_at word (length word - 1 - d.0)) ∙ e)))
 
 -- ---- rows
 

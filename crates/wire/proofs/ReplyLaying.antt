@@ -72,10 +72,6 @@ fill_goes_on y s i t b f l e =
 pub fill_ends : (y s : List ℕ) (i : ℕ) (t : List ℕ) → Filling y s i t → length y ≤ i → t ≡ laid_over y s
 fill_ends y s i t f h = rw (← (take_all i y h)) f.bytes
 
--- A list as long as the buffer is all of it in the end.
-pub fill_whole : (y s : List ℕ) (i : ℕ) (t : List ℕ) → Filling y s i t → length y ≡ length s → length t ≤ i → t ≡ y
-fill_whole y s i t f e h = fill_ends y s i t f (omega (arith, f.size)) ∙ laid_whole y s (omega arith)
-
 -- A part of y at a place that what was laid reaches is laid there: y is laid up to the part's end.
 pub fill_part : (y s : List ℕ) (i j n : ℕ) (t : List ℕ) → Filling y s i t → j ≤ i → i ≤ j + n → j + n ≤ length y → Filling y s (j + n) (laid_at j (part j n y) t)
 unfolding laid_at laid_over part
@@ -104,9 +100,6 @@ module _ (y s : List ℕ) (i n : ℕ) (t : List ℕ) (f : Filling y s i t) (l : 
 
   pub fill_last : laid_at (length y - n) (part (length y - n) n y) t ≡ laid_over y s
   fill_last = fill_ends y s (length y) (laid_at (length y - n) (part (length y - n) n y) t) filled (omega arith)
-
-  pub fill_last_size : length (laid_at (length y - n) (part (length y - n) n y) t) ≡ length s
-  fill_last_size = filled.size
 
 -- A word read at a place and written at the same place is laid there.
 pub word_laid : (at : ℕ) (y t u : List ℕ) (x : ℕ) → Bytes y → at + 8 ≤ length y → at + 8 ≤ length t

@@ -10,10 +10,8 @@ pub fn read_le(s: &[u8]) -> u64
     ensures { result ≡ from_le s.now }
 {
     let mut x: u64 = 0;
-    let mut i = 0;
-    while i < s.len() {
-        x += (s[i] as u64) << (8 * i);
-        i += 1;
+    for (i, b) in s.iter().enumerate() {
+        x += (*b as u64) << (8 * i);
     }
     x
 }
@@ -23,11 +21,9 @@ pub fn write_le(s: &mut [u8], x: u64)
     ensures { s.new ≡ to_le (length s.old) x }
 {
     let mut rest = x;
-    let mut i = 0;
-    while i < s.len() {
-        s[i] = (rest % 256) as u8;
-        rest = rest / 256;
-        i += 1;
+    for b in s.iter_mut() {
+        *b = (rest % 256) as u8;
+        rest /= 256;
     }
 }
 
@@ -38,14 +34,7 @@ pub fn equal(a: &[u8], b: &[u8]) -> bool
     if a.len() != b.len() {
         return false;
     }
-    let mut i = a.len();
-    while 0 < i {
-        i -= 1;
-        if a[i] != b[i] {
-            return false;
-        }
-    }
-    true
+    a.iter().rev().zip(b.iter().rev()).all(|(x, y)| *x == *y)
 }
 
 // Whether every byte is zero. Their bits are gathered, with no early end, so that the loop can run on vectors.
@@ -53,10 +42,8 @@ pub fn all_zero(s: &[u8]) -> bool
     ensures { result ≡ all_zero s.now }
 {
     let mut bits: u8 = 0;
-    let mut i = 0;
-    while i < s.len() {
-        bits |= s[i];
-        i += 1;
+    for b in s {
+        bits |= *b;
     }
     bits == 0
 }
@@ -69,10 +56,8 @@ fn copy_bytes(from: &[u8], to: &mut [u8])
     requires { length from.now ≤ length to.old }
     ensures { to.new ≡ laid_over from.now to.old }
 {
-    let mut i = 0;
-    while i < from.len() {
-        to[i] = from[i];
-        i += 1;
+    for (i, b) in from.iter().enumerate() {
+        to[i] = *b;
     }
 }
 
@@ -97,10 +82,8 @@ pub fn copy(from: &[u8], to: &mut [u8])
         return;
     }
     let last = size - WORD;
-    let mut i = 0;
-    while i < last {
+    for i in (0..last).step_by(WORD) {
         copy_word(from, i, to);
-        i += WORD;
     }
     copy_word(from, last, to);
 }
@@ -109,9 +92,5 @@ pub fn copy(from: &[u8], to: &mut [u8])
 pub fn clear(s: &mut [u8])
     ensures { s.new ≡ replicate (length s.old) 0 }
 {
-    let mut i = 0;
-    while i < s.len() {
-        s[i] = 0;
-        i += 1;
-    }
+    s.fill(0);
 }

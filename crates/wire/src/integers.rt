@@ -26,18 +26,15 @@ pub fn read_natural(s: &[u8], most: u64) -> Option<u64>
         return None;
     }
     let mut n: u64 = 0;
-    let mut i = 0;
-    while i < s.len() {
-        let c = s[i];
-        if c < 48 || 57 < c {
+    for c in s {
+        if !c.is_ascii_digit() {
             return None;
         }
-        let d = (c - 48) as u64;
+        let d = (*c - b'0') as u64;
         if most < d || (most - d) / 10 < n {
             return None;
         }
         n = n * 10 + d;
-        i += 1;
     }
     Some(n)
 }

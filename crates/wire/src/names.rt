@@ -6,16 +6,6 @@ ghost use Rattle.wire.specs.Promises.{Table, row_named};
 // The bytes of a row.
 pub const ROW_SIZE: usize = 16;
 
-// A letter as its capital.
-fn capital(b: u8) -> u8
-    ensures { result ≡ upper b }
-{
-    if 97 <= b && b <= 122 {
-        return b - 32;
-    }
-    b
-}
-
 // Whether a word spells a name that is written in capitals. They are compared from the last letter, since names share their first ones.
 pub fn spells(word: &[u8], name: &[u8]) -> bool
     ensures { result ≡ same (map upper word.now) name.now }
@@ -23,14 +13,8 @@ pub fn spells(word: &[u8], name: &[u8]) -> bool
     if word.len() != name.len() {
         return false;
     }
-    let mut i = word.len();
-    while 0 < i {
-        i -= 1;
-        if capital(word[i]) != name[i] {
-            return false;
-        }
-    }
-    true
+    word.iter().rev().zip(name.iter().rev()).all(|(letter, capital)| letter.to_ascii_uppercase()
+        == *capital)
 }
 
 // The lowest row whose name a word spells.
@@ -39,15 +23,13 @@ pub fn find(table: &[u8], word: &[u8]) -> Option<usize>
     ensures { result ≡ row_named table.now word.now }
 {
     let rows = table.len() / ROW_SIZE;
-    let mut i = 0;
-    while i < rows {
+    for i in 0..rows {
         let at = ROW_SIZE * i;
         let start = at + 1;
         let end = start + table[at] as usize;
         if spells(word, &table[start..end]) {
             return Some(i);
         }
-        i += 1;
     }
     None
 }

@@ -35,14 +35,12 @@ struct Placed {
 fn line_end(s: &[u8], from: usize) -> usize
     ensures { result ≡ from + length (before_cr (drop from s.now)) }
 {
-    let mut i = from;
-    while i < s.len() {
+    for i in from..s.len() {
         if s[i] == 13 {
             return i;
         }
-        i += 1;
     }
-    i
+    from.max(s.len())
 }
 
 // Whether CR LF stands at a place.
@@ -115,14 +113,12 @@ pub fn split(s: &[u8], places: &mut [[usize; 2]]) -> usize
         return 0;
     };
     let mut at = head.next;
-    let mut i = 0;
-    while i < head.count {
+    for i in 0..head.count {
         let Some(word) = read_word(s, at) else {
             return 0;
         };
         places[i] = [word.start, word.size];
         at = word.next;
-        i += 1;
     }
     if at != s.len() {
         return 0;

@@ -1,21 +1,12 @@
 use native.Mathlib.Omega.{arith}
-use lib.ListN.{length}
-use Rattle.wire.proofs.ByteLaws.{length_to_le}
-use Rattle.wire.proofs.ReplyLaying.{fill_begins, fill_goes_on, fill_whole}
-use Rattle.wire.proofs.ByteLoops.{write_begins, write_byte, write_goes_on}
+use Rattle.wire.proofs.ByteLoops.{write_begins, write_goes_on, write_ends}
 use Rattle.wire.proofs.bytes.write_le.Goals as goal
 
-pub loop-i-init : goal.loop-i-init
-loop-i-init c = (fill_begins _ _ (omega (arith, length_to_le (length c.args.s.now) c.args.x)), write_begins _ _)
+pub loop-b-init : goal.loop-b-init
+loop-b-init c = write_begins _ _
 
-pub loop-i-preserved : goal.loop-i-preserved
-loop-i-preserved c = (
-  fill_goes_on _ _ _ _ _ c.loop-i.invariant.0 (omega (arith, length_to_le (length c.args.s.now) c.args.x)) (write_byte _ _ _ _ c.loop-i.invariant.1 (omega arith)),
-  write_goes_on _ _ _ _ c.loop-i.invariant.1 (omega arith),
-)
-
-pub shape_of-s : goal.shape_of-s
-shape_of-s c = c.loop-i.invariant.0.size
+pub loop-b-preserved : goal.loop-b-preserved
+loop-b-preserved c = write_goes_on _ _ _ _ _ c.loop-b.invariant (omega arith)
 
 pub returns : goal.returns
-returns c = fill_whole _ _ _ _ c.loop-i.invariant.0 (length_to_le _ _) c.loop-i-test.false
+returns c = write_ends _ _ _ _ _ c.loop-b.invariant (omega arith)

@@ -1,8 +1,8 @@
+use mathlib.Core.Path.{sym, ◌∙◌}
 use native.Mathlib.Omega.{arith}
 use borrow.Author.Tests.{ltb-false}
 use mathlib.Core.Logic.{⊎_elim}
-use lib.ListN.{get_or}
-use Rattle.wire.proofs.IntegerReading.{digit_below, digit_over, digit_between, read_empty, read_zero, reading_begins, reading_digit, reading_other, reading_above, reading_ends}
+use Rattle.wire.proofs.IntegerReading.{digit_is, read_empty, read_zero, reading_begins, reading_digit, reading_other, reading_above, reading_ends}
 use Rattle.wire.proofs.integers.read_natural.Goals as goal
 use Rattle.wire.proofs.integers.read_natural.Goals.{then-most-d-via-then-most-d, then-most-d-via-else-most-d+then-most-d-2}
 
@@ -12,25 +12,20 @@ returns-then-s-eq0 c = read_empty c.args.most c.args.s.now c.if-s-eq0.true
 pub returns-then-s-gt1 : goal.returns-then-s-gt1
 returns-then-s-gt1 c = read_zero c.args.most c.args.s.now c.if-s-eq48.true c.if-s-gt1.true
 
-pub loop-i-init : goal.loop-i-init
-loop-i-init c =
+pub loop-c-init : goal.loop-c-init
+loop-c-init c =
     reading_begins c.args.most c.args.s.now (omega arith)
     (⊎_elim (λ w e l. omega (arith, w.1)) (λ w e l. w e) c.else-s-eq48.either)
 
-pub bounds-s-i : goal.bounds-s-i
-bounds-s-i c = c.loop-i-test.true
-
-pub returns-then-c-lt48 : goal.returns-then-c-lt48
-returns-then-c-lt48 c =
-    reading_other c.loop-i.invariant c.loop-i-test.true
-    (⊎_elim (λ w. digit_below (get_or c.args.s.now c.loop-i.i 0) w) (λ w. digit_over (get_or c.args.s.now c.loop-i.i 0) (omega arith)) c.then-c-lt48.either)
+pub returns-then-not-is_ascii_digit : goal.returns-then-not-is_ascii_digit
+returns-then-not-is_ascii_digit c = reading_other c.loop-c.invariant c.loop-c-test.true (sym (digit_is _) ∙ sym c.is_ascii_digit.ensures.value ∙ c.if-not-is_ascii_digit.true)
 
 pub overflow_cast-d : goal.overflow_cast-d
-overflow_cast-d c = omega (arith, c.type_inv.s c.loop-i.i)
+overflow_cast-d c = omega (arith, c.type_inv.s c.loop-c.c-index)
 
 pub returns-then-most-d : goal.returns-then-most-d
 returns-then-most-d c =
-    reading_above c.loop-i.invariant c.loop-i-test.true
+    reading_above c.loop-c.invariant c.loop-c-test.true
     (elim c.then-most-d.branch [ then-most-d-via-then-most-d w ↦ omega arith | then-most-d-via-else-most-d+then-most-d-2 w ↦ omega arith ])
 
 pub overflow_mul-n : goal.overflow_mul-n
@@ -39,11 +34,9 @@ overflow_mul-n c = omega (arith, ltb-false)
 pub overflow_add-n : goal.overflow_add-n
 overflow_add-n c = omega (arith, ltb-false)
 
-pub loop-i-preserved : goal.loop-i-preserved
-loop-i-preserved c =
-    reading_digit c.loop-i.invariant c.loop-i-test.true
-    (digit_between (get_or c.args.s.now c.loop-i.i 0) (omega (arith, ltb-false)) (omega (arith, ltb-false)))
-    (omega (arith, ltb-false))
+pub loop-c-preserved : goal.loop-c-preserved
+loop-c-preserved c =
+    reading_digit c.loop-c.invariant c.loop-c-test.true (sym (digit_is _) ∙ sym c.is_ascii_digit.ensures.value ∙ c.if-not-is_ascii_digit.false) (omega (arith, ltb-false))
 
 pub returns : goal.returns
-returns c = reading_ends c.loop-i.invariant c.loop-i-test.false
+returns c = reading_ends c.loop-c.invariant c.loop-c-test.false

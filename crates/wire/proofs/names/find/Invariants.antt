@@ -6,6 +6,3 @@ use Rattle.wire.proofs.names.find.Given as goal
 -- The rows from row i on do the same as all rows. The measure is how many are left.
 abbrev pub invariant-loop-i : goal.invariant-loop-i
 invariant-loop-i l = (l.i ≤ l.rows) × (row_from (l.rows - l.i) l.i l.table l.word ≡ row_named l.table l.word)
-
-abbrev pub decreases-loop-i : goal.decreases-loop-i
-decreases-loop-i l = l.rows - l.i

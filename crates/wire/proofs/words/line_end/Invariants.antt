@@ -1,5 +1,5 @@
 use mathlib.Core.Path.{◌≡◌}
-use Prim.Native.Nat.{◌+◌, ◌-◌}
+use Prim.Native.Nat.{◌+◌}
 use lib.ListN.{length, drop}
 use Rattle.wire.specs.Words.{before_cr}
 use Rattle.wire.proofs.words.line_end.Given as goal
@@ -7,6 +7,3 @@ use Rattle.wire.proofs.words.line_end.Given as goal
 -- From place i on the first CR is the same as from the start. The measure is what is left of the bytes.
 abbrev pub invariant-loop-i : goal.invariant-loop-i
 invariant-loop-i l = l.i + length (before_cr (drop l.i l.s)) ≡ l.from + length (before_cr (drop l.from l.s))
-
-abbrev pub decreases-loop-i : goal.decreases-loop-i
-decreases-loop-i l = length l.s - l.i

@@ -1,5 +1,5 @@
 use mathlib.Core.Path.{◌≡◌}
-use Prim.Native.Nat.{◌-◌, ◌≤◌}
+use Prim.Native.Nat.{◌≤◌}
 use lib.ListN.{length}
 use Rattle.wire.specs.Promises.{Places}
 use Rattle.wire.proofs.WordPlaces.{Progress}
@@ -11,6 +11,3 @@ abbrev pub invariant-loop-i : goal.invariant-loop-i
 invariant-loop-i l =
     Progress l.s l.places l.head.count l.head.next l.at l.i × (length l.places ≡ length l.initial.places)
     × (l.head.count ≤ l.i → (l.at ≡ length l.s → ⊥) → Places l.s l.places 0)
-
-abbrev pub decreases-loop-i : goal.decreases-loop-i
-decreases-loop-i l = l.head.count - l.i
