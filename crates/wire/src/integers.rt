@@ -44,33 +44,24 @@ pub fn read_natural(s: &[u8], most: u64) -> Option<u64>
 pub fn read_integer(s: &[u8]) -> Option<Signed>
     ensures { result ≡ option_map signed_for (read_integer lowest64 highest64 s.now) }
 {
-    if s.len() == 0 {
+    if s.is_empty() {
         return None;
     }
     if s[0] != 45 {
-        let read = read_natural(s, LOWEST - 1);
-        return match read {
-            Some(n) => Some(Signed {
-                negative: false,
-                magnitude: n,
-            }),
-            None => None,
-        };
+        let magnitude = read_natural(s, LOWEST - 1)?;
+        return Some(Signed {
+            negative: false,
+            magnitude,
+        });
     }
-    let read = read_natural(&s[1..], LOWEST);
-    match read {
-        Some(n) => {
-            if n == 0 {
-                None
-            } else {
-                Some(Signed {
-                    negative: true,
-                    magnitude: n,
-                })
-            }
-        }
-        None => None,
+    let n = read_natural(&s[1..], LOWEST)?;
+    if n == 0 {
+        return None;
     }
+    Some(Signed {
+        negative: true,
+        magnitude: n,
+    })
 }
 
 // Writes a number's text, its digits before the last one first.

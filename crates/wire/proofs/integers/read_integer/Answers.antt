@@ -1,16 +1,17 @@
+use mathlib.Core.Path.{◌∙◌}
 use native.Mathlib.Omega.{arith}
 use Rattle.wire.proofs.IntegerSigns.{integer_empty, plain_value, plain_refused, minus_refused}
 use Rattle.wire.proofs.integers.read_integer.Goals as goal
 
 -- With no minus a text is read as a number, and else what follows it. The laws say each return of what `read_natural` answered.
-pub returns-then-s-eq0 : goal.returns-then-s-eq0
-returns-then-s-eq0 c = integer_empty c.args.s.now c.if-s-eq0.true
+pub returns-then-is_empty : goal.returns-then-is_empty
+returns-then-is_empty c = integer_empty c.args.s.now (grind arith)
 
-pub returns-in-Some : goal.returns-in-Some
-returns-in-Some c = plain_value c.args.s.now c.read_natural-read.ensures c.if-s-ne45.true c.in-Some.n c.in-Some.is
+pub returns-then-s-ne45 : goal.returns-then-s-ne45
+returns-then-s-ne45 c = plain_value c.args.s.now c.read_natural.ensures c.if-s-ne45.true c.in_ok-magnitude.magnitude c.in_ok-magnitude.was
 
-pub returns-in-None : goal.returns-in-None
-returns-in-None c = plain_refused c.args.s.now c.read_natural-read.ensures c.if-s-ne45.true c.in-None.is
+pub returns-in_err-magnitude : goal.returns-in_err-magnitude
+returns-in_err-magnitude c = c.from_residual.ensures ∙ plain_refused c.args.s.now c.read_natural.ensures c.if-s-ne45.true c.in_err-magnitude.was
 
-pub returns-in-None-read : goal.returns-in-None-read
-returns-in-None-read c = minus_refused c.args.s.now c.read_natural-read-2.ensures (omega arith) c.if-s-ne45.false c.in-None-read.is
+pub returns-in_err-n : goal.returns-in_err-n
+returns-in_err-n c = c.from_residual-in_err-n.ensures ∙ minus_refused c.args.s.now c.read_natural-2.ensures (grind arith) c.if-s-ne45.false c.in_err-n.was
