@@ -11,7 +11,7 @@ use crate::layout::{
     HEADER_SIZE, KEY_AT, KEY_LENGTH_AT, KEY_MOST, SLOT_SIZE, SLOTS_MOST, STATE_AT, TIME_LIMIT,
     VALUE_AT, VALUE_LENGTH_AT, VALUE_MOST,
 };
-use crate::padding::{padding_of_16, padding_of_32, padding_of_64};
+use crate::padding::padding;
 use crate::slot;
 use wire::bytes::{all_zero, read_le};
 
@@ -86,9 +86,9 @@ fn places_well(t: &[u8]) -> bool
     let key_length = t[KEY_LENGTH_AT] as usize;
     let field_length = t[FIELD_LENGTH_AT] as usize;
     let value_length = t[VALUE_LENGTH_AT] as usize;
-    let key = padding_of_16(t, KEY_AT, key_length);
-    let field = padding_of_32(t, FIELD_AT, field_length);
-    let value = padding_of_64(t, VALUE_AT, value_length);
+    let key = padding(t, KEY_AT, KEY_MOST, key_length);
+    let field = padding(t, FIELD_AT, FIELD_MOST, field_length);
+    let value = padding(t, VALUE_AT, VALUE_MOST, value_length);
     (key | field | value) == 0
 }
 
