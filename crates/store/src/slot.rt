@@ -1,5 +1,5 @@
 // One slot's 128 bytes: what they mean.
-ghost use Rattle.std.specs.Prelude.{◌≡◌, true, false, ◌+◌, ◌*◌, ◌<◌, ◌≤◌, length};
+ghost use Rattle.std.specs.Prelude.{◌≡◌, true, false, ◌+◌, ◌*◌, ◌<◌, ◌≤◌, length, slice_index};
 ghost use Rattle.wire.specs.Bytes.{from_le, to_le, part};
 ghost use Rattle.store.specs.Layout.{header_size, slot_size, field_at, field_most};
 ghost use Rattle.store.specs.Store.{decode_slot, decode_entry, decode_expiry, holds};
@@ -91,28 +91,35 @@ pub fn is_dead(t: &[u8], time: u64) -> bool
     !is_live(t, time)
 }
 
+// The bytes used of the place that begins at `at`, as many as the byte at `length_at` says.
+fn used(t: &[u8], at: usize, length_at: usize) -> &[u8]
+    requires length_inside { length_at < length t.now }
+    requires used_inside { at + slice_index t.now length_at ≤ length t.now }
+    ensures { result.now ≡ part at (slice_index t.now length_at) t.now }
+{
+    let end = at + t[length_at] as usize;
+    &t[at..end]
+}
+
 pub fn key(t: &[u8]) -> &[u8]
     requires { HeldBytes t.now }
     ensures { result.now ≡ (decode_entry t.now).key }
 {
-    let end = KEY_AT + t[KEY_LENGTH_AT] as usize;
-    &t[KEY_AT..end]
+    used(t, KEY_AT, KEY_LENGTH_AT)
 }
 
 pub fn field(t: &[u8]) -> &[u8]
     requires { HeldBytes t.now }
     ensures { result.now ≡ (decode_entry t.now).field }
 {
-    let end = FIELD_AT + t[FIELD_LENGTH_AT] as usize;
-    &t[FIELD_AT..end]
+    used(t, FIELD_AT, FIELD_LENGTH_AT)
 }
 
 pub fn value(t: &[u8]) -> &[u8]
     requires { HeldBytes t.now }
     ensures { result.now ≡ (decode_entry t.now).value }
 {
-    let end = VALUE_AT + t[VALUE_LENGTH_AT] as usize;
-    &t[VALUE_AT..end]
+    used(t, VALUE_AT, VALUE_LENGTH_AT)
 }
 
 // Whether the slot holds an entry of a key.
@@ -227,16 +234,14 @@ pub fn word_compared(x: u64, y: u64) -> usize
 {
     let mut a = x;
     let mut b = y;
-    let mut n = 0;
-    while n < WORD {
-        n += 1;
+    for n in 0..WORD {
         if a % 256 != b % 256 {
-            return n;
+            return n + 1;
         }
-        a = a / 256;
-        b = b / 256;
+        a /= 256;
+        b /= 256;
     }
-    n
+    WORD
 }
 
 // A number of a field's first 16 bytes: the same for the same field.
@@ -251,8 +256,7 @@ pub fn fingerprint_at(t: &[u8]) -> u64
     requires { length t.now ≡ slot_size }
     ensures { result ≡ fingerprint_of (part field_at field_most t.now) }
 {
-    let field = &t[FIELD_AT..VALUE_AT];
-    word(field, 0) ^ word(field, WORD)
+    fingerprint_of(&t[FIELD_AT..VALUE_AT])
 }
 
 // The same as `holds`, by the field's fingerprint first: where the slot has another, nothing else of it is looked at, and where a field of at most a
