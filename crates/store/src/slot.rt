@@ -1,5 +1,5 @@
 // One slot's 128 bytes: what they mean.
-ghost use Rattle.std.specs.Prelude.{◌≡◌, true, false, ◌+◌, ◌*◌, ◌<◌, ◌≤◌, length, slice_index};
+ghost use Rattle.std.specs.Prelude.{◌≡◌, true, false, ◌+◌, ◌*◌, ◌^◌, ◌<◌, ◌≤◌, length, slice_index};
 ghost use Rattle.wire.specs.Bytes.{from_le, to_le, part};
 ghost use Rattle.store.specs.Layout.{header_size, slot_size, field_at, field_most};
 ghost use Rattle.store.specs.Store.{decode_slot, decode_entry, decode_expiry, holds};
@@ -12,6 +12,7 @@ use crate::layout::{
     EMPTY_STATE, EXPIRING_STATE, EXPIRY_AT, FIELD_AT, FIELD_LENGTH_AT, HEADER_SIZE, KEY_AT,
     KEY_LENGTH_AT, SLOT_SIZE, STATE_AT, VALUE_AT, VALUE_LENGTH_AT, VERSION_AT,
 };
+use std::ops::Range;
 use wire::bytes::{equal, read_le};
 
 // The bytes of a word.
@@ -22,14 +23,22 @@ const KEY_WORDS: usize = 2;
 
 pub const NAME_WORDS: usize = 6;
 
+// Where the bytes of slot i stand in a store's.
+pub fn place(i: usize) -> Range<usize>
+    requires { header_size + slot_size * i + slot_size < 2 ^ 64 }
+    ensures { let start = header_size + slot_size * i in
+        result ≡ record { start = start; end = start + slot_size } }
+{
+    let start = HEADER_SIZE + SLOT_SIZE * i;
+    start..start + SLOT_SIZE
+}
+
 // The bytes of slot i.
 pub fn bytes(store: &[u8], i: usize) -> &[u8]
     requires { header_size + slot_size * i + slot_size ≤ length store.now }
     ensures { result.now ≡ part (header_size + slot_size * i) slot_size store.now }
 {
-    let start = HEADER_SIZE + SLOT_SIZE * i;
-    let end = start + SLOT_SIZE;
-    &store[start..end]
+    &store[place(i)]
 }
 
 // The number that a word spells.
