@@ -1,8 +1,8 @@
 -- An EXHMSET that is not refused writes all of its pairs.
+use Rattle.std.specs.Prelude.{Option, None, Some}
 use mathlib.Core.Path.{◌≡◌, refl, ◌∙◌}
 use mathlib.Core.Bool.{Bool, true, false, cond, ◌||◌, and-false}
 use mathlib.Core.List.{List, [], ◌∷◌, map}
-use mathlib.Core.Option.{Option, none, some}
 use Prim.Native.Nat.{ℕ, ◌≤◌}
 use lib.ListN.{get_or}
 use Rattle.wire.specs.Lists.{any, or_else}
@@ -32,21 +32,21 @@ use Rattle.commands.proofs.Others.{changes_keep, other_pairs}
 use Rattle.commands.proofs.Names.{named, named_flip, added_missing, pair_entry}
 
 -- a field that has no pair is not named
-unnamed : (f : Word) (ps : List Pair) → last_of f ps ≡ none → named f (map (λ p. p.field) ps) ≡ false
+unnamed : (f : Word) (ps : List Pair) → last_of f ps ≡ None → named f (map (λ p. p.field) ps) ≡ false
 unfolding last_of any or_else
 unnamed f [] h = refl
 unnamed f (p ∷ ps) h = go (unnamed f ps) (last_of f ps) refl (same p.field f) refl h
   where
-    go : (last_of f ps ≡ none → named f (map (λ q. q.field) ps) ≡ false) → (o : Option Word) → last_of f ps ≡ o → (t : Bool)
-        → same p.field f ≡ t → or_else o (cond t (some p.value) none) some ≡ none
+    go : (last_of f ps ≡ None → named f (map (λ q. q.field) ps) ≡ false) → (o : Option Word) → last_of f ps ≡ o → (t : Bool)
+        → same p.field f ≡ t → or_else o (cond t (Some p.value) None) Some ≡ None
         → (same p.field f || named f (map (λ q. q.field) ps)) ≡ false
-    go ih (some v) a t b h = cc
-    go ih none a true b h = cc
-    go ih none a false b h = or_neither b (ih a)
+    go ih (Some v) a t b h = cc
+    go ih None a true b h = cc
+    go ih None a false b h = or_neither b (ih a)
 
 -- an entry that is put and that no later pair concerns stays
 pair_stays : (now : ℕ) (k : Word) (p : Pair) (ps : List Pair) (ss : List Slot) (i : ℕ) → Apart ss
-    → slot_for now k p.field ss ≡ some i → named p.field (map (λ q. q.field) ps) ≡ false
+    → slot_for now k p.field ss ≡ Some i → named p.field (map (λ q. q.field) ps) ≡ false
     → Written k p.field p.value (change_all now (writes_of now k ps (put now (pair_entry k p.field p.value ss) ss)) (put now (pair_entry k p.field p.value ss) ss))
 unfolding written next_expiry live before
 pair_stays now k p ps ss i a q n =
@@ -64,7 +64,7 @@ pair_stays now k p ps ss i a q n =
 
 -- On ready slots every field ends with the value of its last pair.
 pairs_written : (now : ℕ) (k : Word) (ps : List Pair) (ss : List Slot) → Ready now k (map (λ p. p.field) ps) ss
-    → (f v : Word) → last_of f ps ≡ some v → Written k f v (change_all now (writes_of now k ps ss) ss)
+    → (f v : Word) → last_of f ps ≡ Some v → Written k f v (change_all now (writes_of now k ps ss) ss)
 unfolding writes_of change_all change last_of or_else written next_expiry live before
 pairs_written now k [] ss r f v h = impossible cc
 pairs_written now k (p ∷ ps) ss r f v h =
@@ -74,15 +74,15 @@ pairs_written now k (p ∷ ps) ss r f v h =
     after_all : List Slot
     after_all = change_all now (writes_of now k ps (put now (pair_entry k p.field p.value ss) ss)) (put now (pair_entry k p.field p.value ss) ss)
 
-    go : (i : ℕ) × (slot_for now k p.field ss ≡ some i) × Ready now k (map (λ p. p.field) ps) (put now (pair_entry k p.field p.value ss) ss)
-        → (last_of f ps ≡ some v → Written k f v after_all) → (o : Option Word) → last_of f ps ≡ o → (t : Bool) → same p.field f ≡ t
-        → or_else o (cond t (some p.value) none) some ≡ some v → Written k f v after_all
-    go q ih (some w) a t b h = ih (a ∙ h)
-    go q ih none a true b h =
+    go : (i : ℕ) × (slot_for now k p.field ss ≡ Some i) × Ready now k (map (λ p. p.field) ps) (put now (pair_entry k p.field p.value ss) ss)
+        → (last_of f ps ≡ Some v → Written k f v after_all) → (o : Option Word) → last_of f ps ≡ o → (t : Bool) → same p.field f ≡ t
+        → or_else o (cond t (Some p.value) None) Some ≡ Some v → Written k f v after_all
+    go q ih (Some w) a t b h = ih (a ∙ h)
+    go q ih None a true b h =
         let d : p.field ≡ f = same_true p.field f b in
         let m : p.value ≡ v = cc in
         rw (← d, ← m) (pair_stays now k p ps ss q.0 r.apart q.1 (rw d (unnamed f ps a)))
-    go q ih none a false b h = impossible cc
+    go q ih None a false b h = impossible cc
 
 -- ---- after the sweep
 
@@ -94,24 +94,24 @@ swept_ready now k ps s a h =
     record {
       apart = sweep_apart now k (map (λ p. p.field) ps) s.slots a;
       enough = rw (added_missing now k ps (swept_by now (set_many k ps) s) (swept_by now (set_many k ps) s)) at h;
-      alive = λ f n i. go f n i (get_or (swept_by now (set_many k ps) s) i none) refl;
+      alive = λ f n i. go f n i (get_or (swept_by now (set_many k ps) s) i None) refl;
     }
   where
-    go : (f : Word) → named f (map (λ p. p.field) ps) ≡ true → (i : ℕ) (x : Slot) → get_or (swept_by now (set_many k ps) s) i none ≡ x
+    go : (f : Word) → named f (map (λ p. p.field) ps) ≡ true → (i : ℕ) (x : Slot) → get_or (swept_by now (set_many k ps) s) i None ≡ x
         → holds k f x ≡ true → live_slot now x ≡ true
-    go f n i none q t = both_ways t (holds_none k f)
-    go f n i (some e) q t =
+    go f n i None q t = both_ways t (holds_none k f)
+    go f n i (Some e) q t =
         let m = holds_named k f e t in
         sweep_alive now k (map (λ p. p.field) ps) s.slots i e q (rw (m.key, same_refl k, m.field, named_flip f (map (λ p. p.field) ps)) n)
 
 -- Where an EXHMSET is not refused, the entry of each of its fields has the value of the field's last pair.
 pub all_set : (clock : ℕ) (command : List ℕ) (s : Store) (k : Word) (ps : List Pair) → Apart s.slots
-    → parse (now_at clock s) clock command ≡ accepted (set_many k ps) → (exec clock command s).refusal ≡ none
-    → (f v : Word) → last_of f ps ≡ some v → Written k f v (exec clock command s).store.slots
+    → parse (now_at clock s) clock command ≡ accepted (set_many k ps) → (exec clock command s).refusal ≡ None
+    → (f v : Word) → last_of f ps ≡ Some v → Written k f v (exec clock command s).store.slots
 unfolding effect
 all_set clock command s k ps a p = go (went clock command s)
   where
-    go : {o : Outcome} → Went clock command s o → o.refusal ≡ none → (f v : Word) → last_of f ps ≡ some v → Written k f v o.store.slots
+    go : {o : Outcome} → Went clock command s o → o.refusal ≡ None → (f v : Word) → last_of f ps ≡ Some v → Written k f v o.store.slots
     go (early n q) e f v h = impossible cc
     go (late c n q l) e f v h = impossible cc
     go (done c q l) e f v h =

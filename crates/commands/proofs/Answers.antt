@@ -1,8 +1,8 @@
 -- The replies about one field, as they are written: what each question is answered with, and that there is room for it.
+use Rattle.std.specs.Prelude.{Option, None, Some}
 use mathlib.Core.Path.{◌≡◌, refl, sym, ap, subst, ◌∙◌}
 use mathlib.Core.Bool.{Bool, true, false}
 use mathlib.Core.List.{List, [], ◌∷◌, ◌++◌, flatten, append_assoc, append-nil}
-use mathlib.Core.Option.{none, some}
 use Prim.Native.Nat.{ℕ, ◌-◌, ◌/◌, ◌≤◌}
 use native.Mathlib.Omega.{arith}
 use native.Mathlib.Nat.{zero-div}
@@ -12,10 +12,6 @@ use Rattle.wire.specs.Replies.{nil, integer, number, bulk, header, array}
 use Rattle.wire.specs.declared.integers.Signed.{Signed}
 use Rattle.wire.specs.Promises.{signed_for, integer_of, Laid}
 use Rattle.wire.proofs.IntegerSigns.{sign_said}
-use Rattle.store.specs.declared.Expiry.{Expiry}
-use Rattle.store.specs.declared.Expiry.TheVariants.{Never, At}
-use Rattle.store.specs.declared.Found.{Found}
-use Rattle.store.specs.declared.Found.TheVariants as founds
 use Rattle.store.specs.Store.{Entry, Slot, decode, well_formed, holds, entry_at}
 use Rattle.store.specs.Time.{key_exists, lowest_slot, entry_of}
 use Rattle.store.specs.Promises.{Held}
@@ -33,17 +29,17 @@ use Rattle.commands.proofs.Replies.{answer_short}
 -- ---- signs
 
 -- An entry without expiry has no time left.
-pub left_never : (now unit : ℕ) {x : Expiry} → x ≡ Never → record { negative = true; magnitude = 1 } ≡ time_left_of now unit x
+pub left_never : (now unit : ℕ) {x : Option ℕ} → x ≡ None → record { negative = true; magnitude = 1 } ≡ time_left_of now unit x
 unfolding time_left_of time_left signed_for
 left_never now unit h = rw h refl
 
 -- What is left up to a later instant
-pub left_later : (now unit : ℕ) {x : Expiry} {t : ℕ} → x ≡ At t → record { negative = false; magnitude = (t - now) / unit } ≡ time_left_of now unit x
+pub left_later : (now unit : ℕ) {x : Option ℕ} {t : ℕ} → x ≡ Some t → record { negative = false; magnitude = (t - now) / unit } ≡ time_left_of now unit x
 unfolding time_left_of time_left signed_for
 left_later now unit h = rw h refl
 
 -- and of an instant that is over.
-pub left_over : (now unit : ℕ) {x : Expiry} {t : ℕ} → x ≡ At t → t ≤ now → record { negative = false; magnitude = 0 } ≡ time_left_of now unit x
+pub left_over : (now unit : ℕ) {x : Option ℕ} {t : ℕ} → x ≡ Some t → t ≤ now → record { negative = false; magnitude = 0 } ≡ time_left_of now unit x
 unfolding time_left_of time_left signed_for
 left_over now unit {t = t} h l =
     let none_left : t - now ≡ 0 = omega arith in
@@ -68,12 +64,12 @@ held_fits {b} {i} h = subst FitsSlot (held_entry (decode b).slots i h.held) ((de
 -- ---- room
 
 -- There is room for what is replied of a slot's entry,
-pub found_room : (time : ℕ) (q : Question) {b x : List ℕ} {i n : ℕ} → Held b i → answer_most ≤ n → reply time [] [] q (some (entry_at (decode b).slots i)) ≡ x → length x ≤ n
-found_room time q {b} {i = i} h l e = rw (← e) (omega (arith, (answer_short time [] [] q (some (entry_at (decode b).slots i)) (held_fits h)).short))
+pub found_room : (time : ℕ) (q : Question) {b x : List ℕ} {i n : ℕ} → Held b i → answer_most ≤ n → reply time [] [] q (Some (entry_at (decode b).slots i)) ≡ x → length x ≤ n
+found_room time q {b} {i = i} h l e = rw (← e) (omega (arith, (answer_short time [] [] q (Some (entry_at (decode b).slots i)) (held_fits h)).short))
 
 -- and of a missing field.
-pub missing_room : (time : ℕ) (ss : List Slot) (k : List ℕ) (q : Question) {x : List ℕ} {n : ℕ} → answer_most ≤ n → reply time ss k q none ≡ x → length x ≤ n
-missing_room time ss k q l e = rw (← e) (omega (arith, (answer_short time ss k q none tt).short))
+pub missing_room : (time : ℕ) (ss : List Slot) (k : List ℕ) (q : Question) {x : List ℕ} {n : ℕ} → answer_most ≤ n → reply time ss k q None ≡ x → length x ≤ n
+missing_room time ss k q l e = rw (← e) (omega (arith, (answer_short time ss k q None tt).short))
 
 -- What is laid is the reply.
 pub laid_reply : {x y d e : List ℕ} {r : ℕ} → x ≡ y → Laid y d e r → Laid x d e r
@@ -82,31 +78,31 @@ laid_reply h l = rw h l
 -- ---- the reply where the field is there
 
 module _ (time : ℕ) (e : Entry) {q : Question} where
-  pub value_reply : {v : List ℕ} → q ≡ Value → v ≡ e.value → reply time [] [] q (some e) ≡ bulk v
+  pub value_reply : {v : List ℕ} → q ≡ Value → v ≡ e.value → reply time [] [] q (Some e) ≡ bulk v
   unfolding reply or_else
   value_reply h g = rw (h, g) refl
 
-  pub length_reply : {v : List ℕ} → q ≡ Length → v ≡ e.value → reply time [] [] q (some e) ≡ number (length v)
+  pub length_reply : {v : List ℕ} → q ≡ Length → v ≡ e.value → reply time [] [] q (Some e) ≡ number (length v)
   unfolding reply or_else
   length_reply h g = rw (h, g) refl
 
-  pub exists_reply : q ≡ Exists → reply time [] [] q (some e) ≡ number 1
+  pub exists_reply : q ≡ Exists → reply time [] [] q (Some e) ≡ number 1
   unfolding reply or_else
   exists_reply h = rw h refl
 
-  pub versioned_reply : q ≡ Versioned → reply time [] [] q (some e) ≡ array (bulk e.value ∷ number e.version ∷ [])
+  pub versioned_reply : q ≡ Versioned → reply time [] [] q (Some e) ≡ array (bulk e.value ∷ number e.version ∷ [])
   unfolding reply or_else
   versioned_reply h = rw h refl
 
-  pub version_reply : {n : ℕ} → q ≡ Version → n ≡ e.version → reply time [] [] q (some e) ≡ number n
+  pub version_reply : {n : ℕ} → q ≡ Version → n ≡ e.version → reply time [] [] q (Some e) ≡ number n
   unfolding reply or_else
   version_reply h g = rw (h, g) refl
 
-  pub seconds_reply : {x : Expiry} {s : Signed} → q ≡ Seconds → x ≡ e.expiry → s ≡ time_left_of time 1000 x → reply time [] [] q (some e) ≡ integer (integer_of s)
+  pub seconds_reply : {x : Option ℕ} {s : Signed} → q ≡ Seconds → x ≡ e.expiry → s ≡ time_left_of time 1000 x → reply time [] [] q (Some e) ≡ integer (integer_of s)
   unfolding reply or_else time_left_of
   seconds_reply h g f = rw (h, f, g, sign_said) refl
 
-  pub milliseconds_reply : {x : Expiry} {s : Signed} → q ≡ Milliseconds → x ≡ e.expiry → s ≡ time_left_of time 1 x → reply time [] [] q (some e) ≡ integer (integer_of s)
+  pub milliseconds_reply : {x : Option ℕ} {s : Signed} → q ≡ Milliseconds → x ≡ e.expiry → s ≡ time_left_of time 1 x → reply time [] [] q (Some e) ≡ integer (integer_of s)
   unfolding reply or_else time_left_of
   milliseconds_reply h g f = rw (h, f, g, sign_said) refl
 
@@ -127,38 +123,38 @@ pair_room {b} {i = i} h l g f = found_room 0 Versioned h l (versioned_reply 0 (e
 -- ---- the reply where the field is missing
 
 module _ (time : ℕ) (ss : List Slot) (k : List ℕ) {q : Question} where
-  pub no_value : q ≡ Value → reply time ss k q none ≡ nil
+  pub no_value : q ≡ Value → reply time ss k q None ≡ nil
   unfolding reply or_else
   no_value h = rw h refl
 
-  pub no_versioned : q ≡ Versioned → reply time ss k q none ≡ nil
+  pub no_versioned : q ≡ Versioned → reply time ss k q None ≡ nil
   unfolding reply or_else
   no_versioned h = rw h refl
 
-  pub no_length : q ≡ Length → reply time ss k q none ≡ number 0
+  pub no_length : q ≡ Length → reply time ss k q None ≡ number 0
   unfolding reply or_else
   no_length h = rw h refl
 
-  pub no_exists : q ≡ Exists → reply time ss k q none ≡ number 0
+  pub no_exists : q ≡ Exists → reply time ss k q None ≡ number 0
   unfolding reply or_else
   no_exists h = rw h refl
 
-  pub no_version : {s : Signed} → q ≡ Version → s ≡ no_version_of time k ss → reply time ss k q none ≡ integer (integer_of s)
+  pub no_version : {s : Signed} → q ≡ Version → s ≡ no_version_of time k ss → reply time ss k q None ≡ integer (integer_of s)
   unfolding reply or_else no_version_of
   no_version h g = rw (h, g, sign_said) refl
 
-  pub no_seconds : q ≡ Seconds → reply time ss k q none ≡ integer (integer_of (record { negative = true; magnitude = 2 }))
+  pub no_seconds : q ≡ Seconds → reply time ss k q None ≡ integer (integer_of (record { negative = true; magnitude = 2 }))
   unfolding reply or_else integer_of
   no_seconds h = rw h refl
 
-  pub no_milliseconds : q ≡ Milliseconds → reply time ss k q none ≡ integer (integer_of (record { negative = true; magnitude = 2 }))
+  pub no_milliseconds : q ≡ Milliseconds → reply time ss k q None ≡ integer (integer_of (record { negative = true; magnitude = 2 }))
   unfolding reply or_else integer_of
   no_milliseconds h = rw h refl
 
 -- ---- the entry that was looked for
 
 -- The reply about an entry does not look at the slots.
-reply_found : (time : ℕ) (ss : List Slot) (k : List ℕ) (q : Question) (e : Entry) → reply time ss k q (some e) ≡ reply time [] [] q (some e)
+reply_found : (time : ℕ) (ss : List Slot) (k : List ℕ) (q : Question) (e : Entry) → reply time ss k q (Some e) ≡ reply time [] [] q (Some e)
 unfolding reply or_else
 reply_found time ss k Value e = refl
 reply_found time ss k Length e = refl
@@ -168,27 +164,27 @@ reply_found time ss k Version e = refl
 reply_found time ss k Seconds e = refl
 reply_found time ss k Milliseconds e = refl
 
-module _ (b k f : List ℕ) {r : Found} (h : Looked b k f r) where
+module _ (b k f : List ℕ) {r : Option ℕ} (h : Looked b k f r) where
   -- A slot that was found holds an entry,
-  pub looked_held : {i : ℕ} → well_formed b ≡ true → r ≡ founds.At i → Held b i
+  pub looked_held : {i : ℕ} → well_formed b ≡ true → r ≡ Some i → Held b i
   looked_held {i} w e = named_held (holds k f) b i (holds_none k f) w (sym e ∙ h)
 
   -- that of the key and the field;
-  pub looked_entry : {i : ℕ} → well_formed b ≡ true → r ≡ founds.At i → entry_of k f (decode b).slots ≡ some (entry_at (decode b).slots i)
+  pub looked_entry : {i : ℕ} → well_formed b ≡ true → r ≡ Some i → entry_of k f (decode b).slots ≡ Some (entry_at (decode b).slots i)
   looked_entry {i} w e =
       entry_at_lowest k f (decode b).slots i (found_at (lowest_slot (holds k f) (decode b).slots) i (sym e ∙ h))
       ∙ held_entry (decode b).slots i (looked_held w e).held
 
   -- where none was found, there is none.
-  pub looked_missing : r ≡ founds.Nothing → entry_of k f (decode b).slots ≡ none
+  pub looked_missing : r ≡ None → entry_of k f (decode b).slots ≡ None
   looked_missing e = lowest_entry_none k f (decode b).slots (found_nothing (lowest_slot (holds k f) (decode b).slots) (sym e ∙ h))
 
   -- The answer to a question about the field, in both cases
-  pub found_reply : (time : ℕ) (q : Question) {i : ℕ} → well_formed b ≡ true → r ≡ founds.At i
-      → answer_about time b k q f ≡ reply time [] [] q (some (entry_at (decode b).slots i))
+  pub found_reply : (time : ℕ) (q : Question) {i : ℕ} → well_formed b ≡ true → r ≡ Some i
+      → answer_about time b k q f ≡ reply time [] [] q (Some (entry_at (decode b).slots i))
   unfolding answer_about
   found_reply time q {i} w e = rw (looked_entry w e) (reply_found time (decode b).slots k q (entry_at (decode b).slots i))
 
-  pub missing_reply : (time : ℕ) (q : Question) → r ≡ founds.Nothing → answer_about time b k q f ≡ reply time (decode b).slots k q none
+  pub missing_reply : (time : ℕ) (q : Question) → r ≡ None → answer_about time b k q f ≡ reply time (decode b).slots k q None
   unfolding answer_about
   missing_reply time q e = ap (reply time (decode b).slots k q) (looked_missing e)

@@ -1,12 +1,11 @@
 -- The store's clock never goes back, and a dead entry is never live again.
+use Rattle.std.specs.Prelude.{Option, None, Some}
 use mathlib.Core.Path.{◌≡◌, refl}
 use mathlib.Core.Bool.{false}
 use mathlib.Core.List.{List, [], ◌∷◌}
 use Prim.Native.Nat.{ℕ, ◌≤◌}
 use native.Mathlib.Omega.{arith}
 use borrow.Author.Tests.{ltb-false, le-ltb}
-use Rattle.store.specs.declared.Expiry.{Expiry}
-use Rattle.store.specs.declared.Expiry.TheVariants.{Never, At}
 use Rattle.store.specs.Store.{Entry, Store}
 use Rattle.store.specs.Time.{now_at, live, before}
 use Rattle.commands.specs.Command.{Command}
@@ -49,9 +48,9 @@ pub dead_later : (now later : ℕ) (e : Entry) → now ≤ later → live now e 
 unfolding live before
 dead_later now later e = go e.expiry
   where
-    go : (t : Expiry) → now ≤ later → before now t ≡ false → before later t ≡ false
-    go Never h d = d
-    go (At t) h d = le-ltb later t (omega (arith, ltb-false now t d))
+    go : (t : Option ℕ) → now ≤ later → before now t ≡ false → before later t ≡ false
+    go None h d = d
+    go (Some t) h d = le-ltb later t (omega (arith, ltb-false now t d))
 
 later : (now clock : ℕ) (s : Store) → now ≤ s.clock → now ≤ now_at clock s
 unfolding now_at

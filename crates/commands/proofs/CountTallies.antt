@@ -1,4 +1,5 @@
 -- How many words a command takes, and how long they may be.
+use Rattle.std.specs.Prelude.{is_some}
 use mathlib.Core.Path.{◌≡◌, refl, sym, ◌∙◌}
 use mathlib.Core.Bool.{Bool, true, false, cond, ◌||◌, or-false, or_assoc}
 use mathlib.Core.List.{List, [], ◌∷◌, map}
@@ -9,7 +10,7 @@ use borrow.Author.Tests.{lt-ltb, le-ltb, lt-leb, le-leb, ne_eqb}
 use lib.Dec.{ltb, eqb}
 use lib.ListN.{length, drop, get_or, length-drop, drop_of_length-le}
 use lib.Seq.{drop-cons}
-use Rattle.wire.specs.Lists.{any, is_some}
+use Rattle.wire.specs.Lists.{any}
 use Rattle.wire.specs.Words.{Word, word_at}
 use Rattle.store.specs.Layout.{key_most, field_most, value_most}
 use Rattle.commands.specs.Command.{Pair, Command, key_of, fields_of, deed_values, values_of}

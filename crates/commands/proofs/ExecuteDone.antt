@@ -1,8 +1,8 @@
 -- From what a command's function does to what `exec_bytes` says.
+use Rattle.std.specs.Prelude.{None, Some}
 use mathlib.Core.Path.{◌≡◌, refl, sym, ap, subst, ◌∙◌}
 use mathlib.Core.Bool.{Bool, true, false, cond}
 use mathlib.Core.List.{List, [], ◌∷◌}
-use mathlib.Core.Option.{none, some}
 use Prim.Native.Nat.{ℕ, ◌%◌, ◌≤◌, ◌<◌}
 use native.Mathlib.Omega.{arith}
 use borrow.Author.Tests.{leb-true, eqb-true, not-false}
@@ -76,17 +76,17 @@ least_fits (P.Count.at_least k) n h = leb-true k n h
 least_fits (P.Count.even_from k) n h = leb-true k n (and_left (leb k n) (eqb (n % 2) 0) h)
 
 -- what holds of every row holds of the row of a name
-named_all : (p : P.CommandRow → Bool) (rs : List P.CommandRow) (w : Word) (r : P.CommandRow) → all p rs ≡ true → command_named rs w ≡ some r → p r ≡ true
+named_all : (p : P.CommandRow → Bool) (rs : List P.CommandRow) (w : Word) (r : P.CommandRow) → all p rs ≡ true → command_named rs w ≡ Some r → p r ≡ true
 unfolding all command_named
 named_all p [] w r h e = cc
 named_all p (x ∷ xs) w r h e = go (spells x.name w) e (named_all p xs w r (and_right (p x) (all p xs) h))
   where
-    go : (t : Bool) → cond t (some x) (command_named xs w) ≡ some r → (command_named xs w ≡ some r → p r ≡ true) → p r ≡ true
+    go : (t : Bool) → cond t (Some x) (command_named xs w) ≡ Some r → (command_named xs w ≡ Some r → p r ≡ true) → p r ≡ true
     go true q later = let z : x ≡ r = cc in rw (← z) (and_left (p x) (all p xs) h)
     go false q later = later q
 
 -- an accepted command has at leastOf two words
-two_words : (time clock : ℕ) (s : List ℕ) (c : Command) (ws : List Word) → parse time clock s ≡ accepted c → words_of s ≡ some ws → 2 ≤ length ws
+two_words : (time clock : ℕ) (s : List ℕ) (c : Command) (ws : List Word) → parse time clock s ≡ accepted c → words_of s ≡ Some ws → 2 ≤ length ws
 unfolding least_of all
 two_words time clock s c ws e v =
     let a = parse_accepted time clock s c e in
@@ -100,7 +100,7 @@ two_words time clock s c ws e v =
     table_least : all (λ x. leb 2 (least_of x.count)) commands ≡ true
     table_least = unfold commands in refl
 
-    some_same : {x y : List Word} → some x ≡ some y → x ≡ y
+    some_same : {x y : List Word} → Some x ≡ Some y → x ≡ y
     some_same q = cc
 
 -- ---- what was parsed
@@ -171,7 +171,7 @@ module _ (clock : ℕ) (command b : List ℕ) (w : well_formed b ≡ true) (ws :
         go : (z : Bool) → eqb (length places) 0 ≡ z → 2 ≤ length places
         go true y =
             let a = parse_accepted time clock command key_command on_key in
-            let e : none ≡ some a.words = sym (h.words ∙ rw y) ∙ a.split in
+            let e : None ≡ Some a.words = sym (h.words ∙ rw y) ∙ a.split in
             impossible cc
         go false y = rw length_words at (two_words time clock command key_command (words_in command places) on_key (h.words ∙ rw y))
 

@@ -1,8 +1,8 @@
 -- Entries of a key taken out of the slots one field after the other.
+use Rattle.std.specs.Prelude.{None, Some}
 use mathlib.Core.Path.{◌≡◌, refl, ap}
 use mathlib.Core.Bool.{Bool, true, false, cond, not, ◌&&◌, ◌||◌}
 use mathlib.Core.List.{List, [], ◌∷◌}
-use mathlib.Core.Option.{none, some}
 use Prim.Native.Nat.{ℕ, ◌+◌}
 use native.Mathlib.Omega.{arith}
 use lib.ListN.{length}
@@ -21,11 +21,11 @@ use Rattle.commands.specs.Execute.{named_dead, sweep, swept}
 without_twice : (p q r : Entry → Bool) → ((e : Entry) → p e ≡ q e || r e) → (ss : List Slot) → without p ss ≡ without r (without q ss)
 unfolding without or_else
 without_twice p q r h [] = refl
-without_twice p q r h (none ∷ ss) = ap (λ (z : List Slot). none ∷ z) (without_twice p q r h ss)
-without_twice p q r h (some e ∷ ss) = go (q e) (r e) refl (h e) (without_twice p q r h ss)
+without_twice p q r h (None ∷ ss) = ap (λ (z : List Slot). None ∷ z) (without_twice p q r h ss)
+without_twice p q r h (Some e ∷ ss) = go (q e) (r e) refl (h e) (without_twice p q r h ss)
   where
     go : (a b : Bool) → r e ≡ b → p e ≡ a || b → without p ss ≡ without r (without q ss)
-        → (cond (p e) none (some e) ∷ without p ss) ≡ (or_else (cond a none (some e)) none (λ x. cond (r x) none (some x)) ∷ without r (without q ss))
+        → (cond (p e) None (Some e) ∷ without p ss) ≡ (or_else (cond a None (Some e)) None (λ x. cond (r x) None (Some x)) ∷ without r (without q ss))
     go true b w v rest = rw (v, rest)
     go false true w v rest = rw (v, rest, w)
     go false false w v rest = rw (v, rest, w)
@@ -47,8 +47,8 @@ dead_more now k f fs s =
 without_none : (p : Entry → Bool) → ((e : Entry) → p e ≡ false) → (ss : List Slot) → without p ss ≡ ss
 unfolding without or_else
 without_none p h [] = refl
-without_none p h (none ∷ ss) = ap (λ (z : List Slot). none ∷ z) (without_none p h ss)
-without_none p h (some e ∷ ss) = rw (h e) (ap (λ (z : List Slot). some e ∷ z) (without_none p h ss))
+without_none p h (None ∷ ss) = ap (λ (z : List Slot). None ∷ z) (without_none p h ss)
+without_none p h (Some e ∷ ss) = rw (h e) (ap (λ (z : List Slot). Some e ∷ z) (without_none p h ss))
 
 -- no field is named
 pub dead_none : (now : ℕ) (k : Word) (s : Store) → swept now k [] s ≡ s
@@ -66,7 +66,7 @@ dead_none now k s =
 abbrev pub named : Word → List Word → Slot → Bool
 named k fs s = any (λ f. holds k f s) fs
 
-empty_unnamed : (k : Word) (fs : List Word) → named k fs none ≡ false
+empty_unnamed : (k : Word) (fs : List Word) → named k fs None ≡ false
 unfolding any holds or_else
 empty_unnamed k [] = refl
 empty_unnamed k (f ∷ fs) = empty_unnamed k fs
@@ -81,17 +81,17 @@ pub count_more : (k f : Word) (fs : List Word) (now : ℕ) (ss : List Slot)
     → length (keep (named k (f ∷ fs)) ss) ≡ length (keep (holds k f) ss) + length (keep (named k fs) (change now (remove k f) ss))
 unfolding keep change without or_else holds any
 count_more k f fs now [] = refl
-count_more k f fs now (none ∷ ss) = rw (empty_unnamed k fs) (count_more k f fs now ss)
-count_more k f fs now (some e ∷ ss) = go (same e.key k && same e.field f) (named k fs (some e)) refl (count_more k f fs now ss)
+count_more k f fs now (None ∷ ss) = rw (empty_unnamed k fs) (count_more k f fs now ss)
+count_more k f fs now (Some e ∷ ss) = go (same e.key k && same e.field f) (named k fs (Some e)) refl (count_more k f fs now ss)
   where
     others : List Slot
     others = keep (named k fs) (change now (remove k f) ss)
 
-    go : (a b : Bool) → named k fs (some e) ≡ b
+    go : (a b : Bool) → named k fs (Some e) ≡ b
         → length (keep (named k (f ∷ fs)) ss) ≡ length (keep (holds k f) ss) + length others
-        → length (cond (a || b) (some e ∷ keep (named k (f ∷ fs)) ss) (keep (named k (f ∷ fs)) ss))
-        ≡ length (cond a (some e ∷ keep (holds k f) ss) (keep (holds k f) ss))
-        + length (cond (named k fs (cond a none (some e))) (cond a none (some e) ∷ others) others)
+        → length (cond (a || b) (Some e ∷ keep (named k (f ∷ fs)) ss) (keep (named k (f ∷ fs)) ss))
+        ≡ length (cond a (Some e ∷ keep (holds k f) ss) (keep (holds k f) ss))
+        + length (cond (named k fs (cond a None (Some e))) (cond a None (Some e) ∷ others) others)
     go true b w q = rw (empty_unnamed k fs) (omega (arith, q))
     go false true w q = rw w (omega (arith, q))
     go false false w q = rw w q

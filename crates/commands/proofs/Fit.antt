@@ -1,8 +1,8 @@
 -- Every reply fits in 56,000 bytes.
+use Rattle.std.specs.Prelude.{None, Some}
 use mathlib.Core.Path.{◌≡◌, refl}
 use mathlib.Core.Bool.{Bool, true, false, cond}
 use mathlib.Core.List.{List, [], ◌∷◌, ◌++◌, map, flat_map, flatten}
-use mathlib.Core.Option.{none, some}
 use Prim.Native.Nat.{◌+◌, ℕ, zero, suc, ◌*◌, ◌≤◌}
 use lib.ListN.{length, get_or, length-append, length-map}
 use native.Mathlib.Omega.{arith}
@@ -72,8 +72,8 @@ listed_entry Both e h =
 
 listed_slot_lem : (l : Listing) (s : Slot) → FitsSlot s → Listed 2 110 (listed_slot l s)
 unfolding listed_slot or_else flatten
-listed_slot_lem l none h = record { count = omega arith; sum = loosen 110 (omega arith) empty_short }
-listed_slot_lem l (some e) h = listed_entry l e h
+listed_slot_lem l None h = record { count = omega arith; sum = loosen 110 (omega arith) empty_short }
+listed_slot_lem l (Some e) h = listed_entry l e h
 
 -- the elements that slots give: at most two a slot, of at most 110 bytes together
 listed_slots : (l : Listing) (p : Slot → Bool) (ss : List Slot) → AllFit ss

@@ -1,8 +1,8 @@
 -- What an accepted command says of its field's version, that a command without an expiry option says the same at any time, and how VER is read.
+use Rattle.std.specs.Prelude.{Option, None, Some, unwrap_or, is_some}
 use mathlib.Core.Path.{◌≡◌, refl}
 use mathlib.Core.Bool.{Bool, true, false, cond}
 use mathlib.Core.List.{List, [], ◌∷◌, map}
-use mathlib.Core.Option.{Option, none, some, get_or}
 use Prim.Native.Nat.{ℕ, ◌≤◌, ◌<◌}
 use Prim.Native.String.{String}
 use lib.Dec.{leb}
@@ -10,7 +10,7 @@ use lib.IntN.{ℤ, pos, negsuc, nat_abs}
 use lib.ListN.{length}
 use native.Mathlib.Omega.{arith}
 use borrow.Author.Tests.{leb-true, le-leb, lt-leb, le-ltb}
-use Rattle.wire.specs.Lists.{all, any, is_some, or_else}
+use Rattle.wire.specs.Lists.{all, any, or_else}
 use Rattle.wire.specs.Bytes.{text, spells, upper, same}
 use Rattle.wire.specs.Integers.{read_integer, within, integer_text, lowest64, highest64}
 use Rattle.wire.specs.Words.{Word, word_at}
@@ -56,10 +56,10 @@ number_most : (w : Word) → natural_in versions w ≤ version_most
 unfolding natural_in number_in read_in within
 number_most w = go (read_integer (pos 0) (pos version_most) w) refl
   where
-    go : (o : Option ℤ) → read_integer (pos 0) (pos version_most) w ≡ o → nat_abs (get_or o (pos 0)) ≤ version_most
-    go none e = omega arith
-    go (some (pos n)) e = leb-true n version_most (and_right (leb 0 n) (leb n version_most) (read_within (pos 0) (pos version_most) w (pos n) e))
-    go (some (negsuc n)) e = both_ways (read_within (pos 0) (pos version_most) w (negsuc n) e) refl
+    go : (o : Option ℤ) → read_integer (pos 0) (pos version_most) w ≡ o → nat_abs (unwrap_or o (pos 0)) ≤ version_most
+    go None e = omega arith
+    go (Some (pos n)) e = leb-true n version_most (and_right (leb 0 n) (leb n version_most) (read_within (pos 0) (pos version_most) w (pos n) e))
+    go (Some (negsuc n)) e = both_ways (read_within (pos 0) (pos version_most) w (negsuc n) e) refl
 
 kind_most : (m : OptionKind) (w : Word) (v : ℕ) → GivesOperand m → versioning_of m w ≡ Above v → v ≤ version_most
 unfolding versioning_of
@@ -75,8 +75,8 @@ unfolding versioning or_else
 versioning_most gs v p = go (given_of version_group gs) refl
   where
     go : (o : Option Given) → given_of version_group gs ≡ o → or_else o Next (λ g. versioning_of g.kind g.operand) ≡ Above v → v ≤ version_most
-    go none q e = impossible cc
-    go (some g) q e = kind_most g.kind g.operand v (each_given GivesOperand version_group gs p g q) e
+    go None q e = impossible cc
+    go (Some g) q e = kind_most g.kind g.operand v (each_given GivesOperand version_group gs p g q) e
 
 -- The version that an accepted command gives with GT is at most the largest.
 pub above_most : (now clock : ℕ) (s : List ℕ) (k f : Word) (d : Deed) (v : ℕ) → parse now clock s ≡ accepted (on_field k f d) → deed_versioning d ≡ Above v
@@ -85,7 +85,7 @@ unfolding build deed_versioning
 above_most now clock s k f d v h n =
     let a = parse_accepted now clock s (on_field k f d) h in
     let al : List ℕ = allowed a.row.form in
-    go a.row.form (get_or (scanned_of a.row.form a.words) [])
+    go a.row.form (unwrap_or (scanned_of a.row.form a.words) [])
     (scanned_each GivesOperand al (λ w m e. (named_row GivesOperand al options options_give w m e).0) (option_words a.row.form a.words))
     a.words
     a.built
@@ -124,8 +124,8 @@ lifetime_anytime now later gs = go (given_of expiry_group gs)
   where
     go : (o : Option Given) → or_else o Clear (λ g. lifetime_of now g.kind g.operand) ≡ Clear
         → or_else o Clear (λ g. lifetime_of later g.kind g.operand) ≡ Clear
-    go none e = refl
-    go (some g) e = clear_anytime now later g.kind g.operand e
+    go None e = refl
+    go (Some g) e = clear_anytime now later g.kind g.operand e
 
 module _ (k f x : Word) (c : Condition) (n : Versioning) where
   build_anytime : (now later : ℕ) (form : Form) (ws : List Word) (gs : List Given) → build now form ws gs ≡ on_field k f (assign x c n Clear)
@@ -157,8 +157,8 @@ module _ (k f x : Word) (c : Condition) (n : Versioning) where
       let a = parse_accepted now clock s (on_field k f (assign x c n Clear)) h in
       let form : Form = a.row.form in
       let again : said_by later form a.words ≡ on_field k f (assign x c n Clear) =
-      build_anytime now later form a.words (get_or (scanned_of form a.words) []) a.built in
-      let clear : first_applying (checks form a.row.count a.words (scanned_of form a.words) (on_field k f (assign x c n Clear))) ≡ none =
+      build_anytime now later form a.words (unwrap_or (scanned_of form a.words) []) a.built in
+      let clear : first_applying (checks form a.row.count a.words (scanned_of form a.words) (on_field k f (assign x c n Clear))) ≡ None =
       rw a.built at a.clear in
       rw a.split (rw (lt-leb time_limit clock a.early) (rw a.named (rw again (rw clear refl))))
 
@@ -166,10 +166,10 @@ module _ (k f x : Word) (c : Condition) (n : Versioning) where
 
 -- to compute what words say, with the numbers among them left as texts
 parsing : Unit {0}
-unfolding parse parse_words or_else command_named commands spells upper same map text word_at checks later_checks scan option_named options operand_range option_words allowed group build too_long key_of fields_of values_of deed_values count_fits conflicting readable_operand readable read_in number_in natural_in versioning condition lifetime given_of versioning_of bound_in is_zero deed_versioning beyond deed_lifetime on_deed first_applying any all is_some number_range
+unfolding parse parse_words or_else command_named commands spells upper same text word_at checks later_checks scan option_named options operand_range option_words allowed group build too_long key_of fields_of values_of deed_values count_fits conflicting readable_operand readable read_in number_in natural_in versioning condition lifetime given_of versioning_of bound_in is_zero deed_versioning beyond deed_lifetime on_deed first_applying any all number_range
 parsing = tt
 
-natural_read : (most n : ℕ) → n ≤ most → read_integer (pos 0) (pos most) (integer_text (pos n)) ≡ some (pos n)
+natural_read : (most n : ℕ) → n ≤ most → read_integer (pos 0) (pos most) (integer_text (pos n)) ≡ Some (pos n)
 unfolding within
 natural_read most n l = read_text (pos 0) (pos most) (pos n) (rw (le-leb 0 n (omega arith), le-leb n most l) refl)
 
@@ -194,7 +194,7 @@ module _ (now clock : ℕ) (k f : Word) (v : ℕ) (c : clock < time_limit) (lk :
       (rw (le-ltb key_most (length k) lk, le-ltb field_most (length f) lf, read_text lowest64 highest64 z inside, natural_read version_most v lv) refl)
 
   -- and an expiry setter.
-  pub sent_expire : (name : String) (u : TimeUnit) (n : ℕ) → command_named commands (text name) ≡ some (row name (at_least 4) (expire_form u)) → n ≤ time_limit
+  pub sent_expire : (name : String) (u : TimeUnit) (n : ℕ) → command_named commands (text name) ≡ Some (row name (at_least 4) (expire_form u)) → n ≤ time_limit
       → instant now u (integer_text (pos n)) ≤ time_limit
       → parse now clock (resp_of (sent (text name) (integer_text (pos n)))) ≡ accepted (on_field k f (expire (instant now u (integer_text (pos n))) (Match v)))
   unfolding parsing

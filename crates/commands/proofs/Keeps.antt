@@ -1,8 +1,8 @@
 -- Every record leaves a valid store valid.
+use Rattle.std.specs.Prelude.{Some}
 use mathlib.Core.Path.{◌≡◌, refl, ap, ◌∙◌}
 use mathlib.Core.Bool.{true}
 use mathlib.Core.List.{List}
-use mathlib.Core.Option.{some}
 use Prim.Native.Nat.{ℕ, ◌<◌}
 use lib.ListN.{length}
 use native.Mathlib.Omega.{arith}
@@ -77,11 +77,11 @@ exec_fits clock command s b h = go (went clock command s)
         f
 
 -- A refused one does whatever its command's elements are: it writes none of them.
-refused_fits : (clock : ℕ) (command : List ℕ) (s : Store) (n : ℕ) → (exec clock command s).refusal ≡ some n → AllFit s.slots
+refused_fits : (clock : ℕ) (command : List ℕ) (s : Store) (n : ℕ) → (exec clock command s).refusal ≡ Some n → AllFit s.slots
     → AllFit (exec clock command s).store.slots
 refused_fits clock command s n r h = go (went clock command s) r
   where
-    go : {o : Outcome} → Went clock command s o → o.refusal ≡ some n → AllFit o.store.slots
+    go : {o : Outcome} → Went clock command s o → o.refusal ≡ Some n → AllFit o.store.slots
     go (early k p) e = h
     go (late c k p l) e = sweep_fits (now_at clock s) (key_of c) (fields_of c) s.slots h
     go (done c p l) e = impossible cc
@@ -101,7 +101,7 @@ fits_valid clock command s h v =
 pub exec_valid : (clock : ℕ) (command : List ℕ) (s : Store) → Bytes command → Valid s → Valid (exec clock command s).store
 exec_valid clock command s b v = fits_valid clock command s (exec_fits clock command s b v.fits) v
 
-pub refused_valid : (clock : ℕ) (command : List ℕ) (s : Store) (n : ℕ) → (exec clock command s).refusal ≡ some n → Valid s
+pub refused_valid : (clock : ℕ) (command : List ℕ) (s : Store) (n : ℕ) → (exec clock command s).refusal ≡ Some n → Valid s
     → Valid (exec clock command s).store
 refused_valid clock command s n r v = fits_valid clock command s (refused_fits clock command s n r v.fits) v
 

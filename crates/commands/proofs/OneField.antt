@@ -1,8 +1,8 @@
 -- A command on one field: the look for it, its deed on what that leaves, and the reply.
+use Rattle.std.specs.Prelude.{Option}
 use mathlib.Core.Path.{◌≡◌, refl, subst, ◌∙◌}
 use mathlib.Core.Bool.{Bool, true, false, ◌||◌}
 use mathlib.Core.List.{List, [], ◌∷◌}
-use mathlib.Core.Option.{Option}
 use Prim.Native.Nat.{ℕ, ◌≤◌}
 use native.Mathlib.Omega.{arith}
 use lib.Dec.{ltb}
@@ -15,7 +15,6 @@ use Rattle.wire.specs.declared.integers.Signed.{Signed}
 use Rattle.wire.specs.Promises.{integer_of, Laid}
 use Rattle.wire.proofs.Lists.{or_left, or_right}
 use Rattle.store.specs.Layout.{key_most, field_most, value_most, time_limit}
-use Rattle.store.specs.declared.Found.{Found}
 use Rattle.store.specs.Store.{Entry, Store, decode}
 use Rattle.store.specs.Promises.{Holds}
 use Rattle.commands.specs.declared.Versioning.{Versioning}
@@ -89,7 +88,7 @@ always_free : (o : Option Entry) → barred Always o ≡ false
 unfolding barred
 always_free o = refl
 
-module _ (time : ℕ) (v : List ℕ) {b k f : List ℕ} {found : Found} (s : Sought b k f found) (deed : FieldDeed) where
+module _ (time : ℕ) (v : List ℕ) {b k f : List ℕ} {found : Option ℕ} (s : Sought b k f found) (deed : FieldDeed) where
   -- what a deed on one field does
   abbrev deed_effect_in : Effect
   deed_effect_in = effect time (on_field k f (deed_of v deed)) (decode b).slots
@@ -178,11 +177,11 @@ pub reply_room : {n : ℕ} → buffer_least ≤ n → answer_most ≤ n
 reply_room l = omega arith
 
 -- What a look found was looked for in a well-formed store,
-pub looked_sought : {b k f : List ℕ} {s : Store} {found : Found} → Holds b s → Looked b k f found → Sought b k f found
+pub looked_sought : {b k f : List ℕ} {s : Store} {found : Option ℕ} → Holds b s → Looked b k f found → Sought b k f found
 looked_sought h l = record { well = h.well; looked = l }
 
 -- and still is after a question.
-pub still_sought : {b after k f : List ℕ} {found : Found} → Sought b k f found → after ≡ b → Sought after k f found
+pub still_sought : {b after k f : List ℕ} {found : Option ℕ} → Sought b k f found → after ≡ b → Sought after k f found
 still_sought s e = rw e s
 
 -- The look, the deed and the reply are the command.

@@ -1,20 +1,16 @@
 -- What the options of a command say, by what they say in their groups and the numbers of their operands' words.
+use Rattle.std.specs.Prelude.{Option, None, Some, option_map}
 use mathlib.Core.Path.{◌≡◌, refl, sym, ◌∙◌}
 use mathlib.Core.List.{List}
-use mathlib.Core.Option.{Option, none, some, map}
 use Prim.Native.Nat.{ℕ, ◌+◌, ◌*◌, ◌≤◌, ◌<◌}
 use native.Mathlib.Omega.{arith}
 use borrow.Author.Tests.{lt-ltb, le-ltb, eq-eqb, ne_eqb}
 use lib.IntN.{ℤ, pos, nat_abs}
-use Rattle.wire.specs.declared.integers.Natural.{Natural}
-use Rattle.wire.specs.declared.integers.Natural.TheVariants as naturals
 use Rattle.wire.specs.declared.integers.Signed.{Signed}
-use Rattle.wire.specs.declared.integers.Integer.{Integer}
-use Rattle.wire.specs.declared.integers.Integer.TheVariants as integers
-use Rattle.wire.specs.Lists.{is_some, or_else}
+use Rattle.wire.specs.Lists.{or_else}
 use Rattle.wire.specs.Integers.{read_integer, read_natural, lowest64, highest64}
 use Rattle.wire.specs.Words.{Word, word_at}
-use Rattle.wire.specs.Promises.{natural_for, integer_for}
+use Rattle.wire.specs.Promises.{signed_for}
 use Rattle.wire.proofs.Lists.{impossible}
 use Rattle.wire.proofs.IntegerLaws.{natural_read, read_natural_most}
 use Rattle.wire.proofs.IntegerSigns.{read_value, read_refused}
@@ -33,21 +29,21 @@ use Rattle.commands.proofs.OptionScanning.{option_none, option_some}
 -- ---- numbers
 
 -- what reading the bytes v of a word w answered
-module _ (hi : ℕ) {v w : Word} {r : Natural} (ev : v ≡ w) (er : r ≡ natural_for (read_natural hi v)) where
+module _ (hi : ℕ) {v w : Word} {r : Option ℕ} (ev : v ≡ w) (er : r ≡ (read_natural hi v)) where
   -- a number that was read
-  pub natural_value : (n : ℕ) → r ≡ naturals.Value n → (read_integer (pos 0) (pos hi) w ≡ some (pos n)) × (n ≤ hi)
+  pub natural_value : (n : ℕ) → r ≡ Some n → (read_integer (pos 0) (pos hi) w ≡ Some (pos n)) × (n ≤ hi)
   natural_value n h =
-      let read : read_natural hi w ≡ some n = read_value (read_natural hi w) (sym (rw ev at (sym er ∙ h))) in
+      let read : read_natural hi w ≡ Some n = read_value (read_natural hi w) (sym (rw ev at (sym er ∙ h))) in
       (natural_read hi w n read, read_natural_most hi w n read)
 
   -- a word that is no number
-  pub natural_refused : r ≡ naturals.Refused → read_integer (pos 0) (pos hi) w ≡ none
+  pub natural_refused : r ≡ None → read_integer (pos 0) (pos hi) w ≡ None
   unfolding read_natural
   natural_refused h = unmapped (read_integer (pos 0) (pos hi) w) (read_refused (read_natural hi w) (sym (rw ev at (sym er ∙ h))))
     where
-      unmapped : (o : Option ℤ) → map nat_abs o ≡ none → o ≡ none
-      unmapped none q = refl
-      unmapped (some z) q = impossible cc
+      unmapped : (o : Option ℤ) → option_map nat_abs o ≡ None → o ≡ None
+      unmapped None q = refl
+      unmapped (Some z) q = impossible cc
 
 -- ---- the expiry
 
@@ -70,7 +66,7 @@ module _ (n time : ℕ) {unit : ℕ} where
   instant_itself a b c = rw (ne_eqb unit seconds_from_now a, ne_eqb unit seconds_since b, ne_eqb unit ms_from_now c) (omega arith)
 
 -- the instant of a number that was read
-pub instant_read : (time unit : ℕ) (w : Word) (n : ℕ) → read_integer (pos 0) (pos time_limit) w ≡ some (pos n) → instant time (unit_of unit) w ≡ instant_in unit n time
+pub instant_read : (time unit : ℕ) (w : Word) (n : ℕ) → read_integer (pos 0) (pos time_limit) w ≡ Some (pos n) → instant time (unit_of unit) w ≡ instant_in unit n time
 unfolding instant instant_in natural_in number_in read_in
 instant_read time unit w n e = rw e
 
@@ -84,17 +80,17 @@ module _ (ws : List Word) (said operand time : ℕ) where
   lifetime_keep e = rw e
 
   module _ (l : said < not_given) (k : said ≡ kept → ⊥) where
-    given_expiry : option_at ws expiry_group said operand ≡ some (expires (unit_of said) with word_at operand ws)
-    unfolding numbered kind_in expiry_kind operand_range is_some
+    given_expiry : option_at ws expiry_group said operand ≡ Some (expires (unit_of said) with word_at operand ws)
+    unfolding numbered kind_in expiry_kind operand_range
     given_expiry = option_some ws expiry_group said operand l ∙ rw (ne_eqb said kept k)
 
-    pub lifetime_refused : read_integer (pos 0) (pos time_limit) (word_at operand ws) ≡ none → timeds.Refused ≡ timed_for time (option_at ws expiry_group said operand)
-    unfolding timed_for read_of or_else readable_operand operand_range readable read_in is_some
+    pub lifetime_refused : read_integer (pos 0) (pos time_limit) (word_at operand ws) ≡ None → timeds.Refused ≡ timed_for time (option_at ws expiry_group said operand)
+    unfolding timed_for read_of or_else readable_operand operand_range readable read_in
     lifetime_refused e = rw (given_expiry, e)
 
-    pub lifetime_until : (n : ℕ) {t : ℕ} → read_integer (pos 0) (pos time_limit) (word_at operand ws) ≡ some (pos n) → t ≡ instant_in said n time
+    pub lifetime_until : (n : ℕ) {t : ℕ} → read_integer (pos 0) (pos time_limit) (word_at operand ws) ≡ Some (pos n) → t ≡ instant_in said n time
         → timeds.Value (lifetimes.Until t) ≡ timed_for time (option_at ws expiry_group said operand)
-    unfolding timed_for read_of lifetime_by or_else readable_operand operand_range readable read_in is_some lifetime_of
+    unfolding timed_for read_of lifetime_by or_else readable_operand operand_range readable read_in lifetime_of
     lifetime_until n q e = rw (given_expiry, e, ← instant_read time said (word_at operand ws) n q, q)
 
 -- ---- the version
@@ -105,17 +101,17 @@ module _ (ws : List Word) (said operand : ℕ) where
   versioning_none l = rw (option_none ws version_group said operand l)
 
   module _ (l : said < not_given) where
-    given_version : option_at ws version_group said operand ≡ some (versioned (versioning_by said) with word_at operand ws)
-    unfolding numbered kind_in operand_range is_some
+    given_version : option_at ws version_group said operand ≡ Some (versioned (versioning_by said) with word_at operand ws)
+    unfolding numbered kind_in operand_range
     given_version = option_some ws version_group said operand l
 
-    pub versioning_refused : read_integer (pos 0) (pos version_most) (word_at operand ws) ≡ none → versioneds.Refused ≡ versioned_for (option_at ws version_group said operand)
-    unfolding versioned_for read_of or_else readable_operand operand_range readable read_in is_some
+    pub versioning_refused : read_integer (pos 0) (pos version_most) (word_at operand ws) ≡ None → versioneds.Refused ≡ versioned_for (option_at ws version_group said operand)
+    unfolding versioned_for read_of or_else readable_operand operand_range readable read_in
     versioning_refused e = rw (given_version, e)
 
-    module _ (n : ℕ) (q : read_integer (pos 0) (pos version_most) (word_at operand ws) ≡ some (pos n)) where
+    module _ (n : ℕ) (q : read_integer (pos 0) (pos version_most) (word_at operand ws) ≡ Some (pos n)) where
       versioning_read : versioned_for (option_at ws version_group said operand) ≡ versioneds.Value (versioning_by said n)
-      unfolding versioned_for read_of version_by or_else readable_operand operand_range readable read_in is_some versioning_of natural_in number_in
+      unfolding versioned_for read_of version_by or_else readable_operand operand_range readable read_in versioning_of natural_in number_in
       versioning_read = rw (given_version, q)
 
       pub versioning_match : said ≡ matched → versioneds.Value (versionings.Match n) ≡ versioned_for (option_at ws version_group said operand)
@@ -148,10 +144,10 @@ module _ {said : ℕ} where
 -- ---- the bounds
 
 module _ (unbounded : Signed) (said : ℕ) (w : Word) where
-  pub bound_none : not_given ≤ said → integers.Value unbounded ≡ bound_for unbounded said w
+  pub bound_none : not_given ≤ said → Some unbounded ≡ bound_for unbounded said w
   unfolding bound_for
   bound_none l = rw (le-ltb said not_given l)
 
-  pub bound_read : {r : Integer} → said < not_given → r ≡ integer_for (read_integer lowest64 highest64 w) → r ≡ bound_for unbounded said w
+  pub bound_read : {r : Option Signed} → said < not_given → r ≡ option_map signed_for (read_integer lowest64 highest64 w) → r ≡ bound_for unbounded said w
   unfolding bound_for
   bound_read l e = rw (lt-ltb said not_given l) e

@@ -1,8 +1,8 @@
 -- The scan of the options, one option after the other.
+use Rattle.std.specs.Prelude.{Option, None, Some, option_map, is_some}
 use mathlib.Core.Path.{◌≡◌, refl, sym, ap, ◌∙◌}
 use mathlib.Core.Bool.{Bool, true, false, cond, not, ◌||◌}
 use mathlib.Core.List.{List, [], ◌∷◌, ◌++◌, append_assoc, append-nil}
-use mathlib.Core.Option.{Option, none, some, map}
 use Prim.Native.Nat.{ℕ, suc, ◌+◌, ◌≤◌, ◌<◌}
 use native.Mathlib.Numerals.{add-one}
 use native.Mathlib.Omega.{arith}
@@ -10,13 +10,9 @@ use borrow.Author.Tests.{not-true, not-false, lt-ltb, le-ltb, eq-eqb, ne_eqb, eq
 use lib.Dec.{eqb}
 use lib.ListN.{length, get_or, drop, set, replicate, length-set, get_or-replicate, drop_of_length-le}
 use lib.Seq.{drop-cons, get_or-set_same, get_or-set_other}
-use Rattle.wire.specs.declared.names.RowFound.{RowFound}
-use Rattle.wire.specs.declared.names.RowFound.TheVariants as rows
-use Rattle.wire.specs.declared.words.Next.{Next}
-use Rattle.wire.specs.declared.words.Next.TheVariants as nexts
-use Rattle.wire.specs.Lists.{any, is_some, only_if, or_else}
+use Rattle.wire.specs.Lists.{any, only_if, or_else}
 use Rattle.wire.specs.Words.{Word, word_at}
-use Rattle.wire.specs.Promises.{row_for, row_named, next_of}
+use Rattle.wire.specs.Promises.{row_named, next_of}
 use Rattle.wire.proofs.Lists.{or_left, or_right, or_neither, or_late, impossible}
 use Rattle.wire.proofs.NameRows.{row_nothing, row_at}
 use Rattle.wire.proofs.WordPlaces.{next_end, next_at}
@@ -56,13 +52,13 @@ any_then p (x ∷ xs) y more e = or_late (p x) (any_then p xs y more e)
 
 module _ (x : Given) where
   -- none of its group was given before
-  given_same : (gs : List Given) → given_of (group x.kind) gs ≡ none → given_of (group x.kind) (gs ++ (x ∷ [])) ≡ some x
+  given_same : (gs : List Given) → given_of (group x.kind) gs ≡ None → given_of (group x.kind) (gs ++ (x ∷ [])) ≡ Some x
   unfolding given_of
   given_same [] h = rw (eq-eqb (group x.kind) (group x.kind) refl)
   given_same (y ∷ gs) h = go (eqb (group y.kind) (group x.kind)) (given_same gs) h
     where
-      go : (t : Bool) → (given_of (group x.kind) gs ≡ none → given_of (group x.kind) (gs ++ (x ∷ [])) ≡ some x)
-          → cond t (some y) (given_of (group x.kind) gs) ≡ none → cond t (some y) (given_of (group x.kind) (gs ++ (x ∷ []))) ≡ some x
+      go : (t : Bool) → (given_of (group x.kind) gs ≡ None → given_of (group x.kind) (gs ++ (x ∷ [])) ≡ Some x)
+          → cond t (Some y) (given_of (group x.kind) gs) ≡ None → cond t (Some y) (given_of (group x.kind) (gs ++ (x ∷ []))) ≡ Some x
       go true later h = impossible cc
       go false later h = later h
 
@@ -71,7 +67,7 @@ module _ (x : Given) where
   given_other n [] h = rw h
   given_other n (y ∷ gs) h = rw (given_other n gs h)
 
-  conflict_none : (gs : List Given) → conflicting gs ≡ false → given_of (group x.kind) gs ≡ none → conflicting (gs ++ (x ∷ [])) ≡ false
+  conflict_none : (gs : List Given) → conflicting gs ≡ false → given_of (group x.kind) gs ≡ None → conflicting (gs ++ (x ∷ [])) ≡ false
   unfolding conflicting given_of any
   conflict_none [] h e = refl
   conflict_none (y ∷ gs) h e =
@@ -85,14 +81,14 @@ module _ (x : Given) where
     where
       go : (t : Bool) → eqb (group y.kind) (group x.kind) ≡ t
           → (eqb (group y.kind) (group x.kind) ≡ false → any (λ z. eqb (group y.kind) (group z.kind)) (gs ++ (x ∷ [])) ≡ false)
-          → (given_of (group x.kind) gs ≡ none → conflicting (gs ++ (x ∷ [])) ≡ false)
-          → cond t (some y) (given_of (group x.kind) gs) ≡ none
+          → (given_of (group x.kind) gs ≡ None → conflicting (gs ++ (x ∷ [])) ≡ false)
+          → cond t (Some y) (given_of (group x.kind) gs) ≡ None
           → any (λ z. eqb (group y.kind) (group z.kind)) (gs ++ (x ∷ [])) || conflicting (gs ++ (x ∷ [])) ≡ false
       go true q this later e = impossible cc
       go false q this later e = or_neither (this q) (later e)
 
   -- a second one of a group conflicts, whatever follows
-  conflict_again : (gs more : List Given) (z : Given) → given_of (group x.kind) gs ≡ some z → conflicting (gs ++ (x ∷ more)) ≡ true
+  conflict_again : (gs more : List Given) (z : Given) → given_of (group x.kind) gs ≡ Some z → conflicting (gs ++ (x ∷ more)) ≡ true
   unfolding conflicting given_of
   conflict_again [] more z e = impossible cc
   conflict_again (y ∷ gs) more z e =
@@ -105,8 +101,8 @@ module _ (x : Given) where
     where
       go : (t : Bool) → eqb (group y.kind) (group x.kind) ≡ t
           → (eqb (group y.kind) (group x.kind) ≡ true → any (λ u. eqb (group y.kind) (group u.kind)) (gs ++ (x ∷ more)) ≡ true)
-          → (given_of (group x.kind) gs ≡ some z → conflicting (gs ++ (x ∷ more)) ≡ true)
-          → cond t (some y) (given_of (group x.kind) gs) ≡ some z
+          → (given_of (group x.kind) gs ≡ Some z → conflicting (gs ++ (x ∷ more)) ≡ true)
+          → cond t (Some y) (given_of (group x.kind) gs) ≡ Some z
           → any (λ u. eqb (group y.kind) (group u.kind)) (gs ++ (x ∷ more)) || conflicting (gs ++ (x ∷ more)) ≡ true
       go true q this later e = rw (this q)
       go false q this later e = or_late (any (λ u. eqb (group y.kind) (group u.kind)) (gs ++ (x ∷ more))) (later e)
@@ -114,30 +110,30 @@ module _ (x : Given) where
 -- ---- one option
 
 module _ (al : List ℕ) (w : Word) (ws : List Word) where
-  scan_unknown : option_named options al w ≡ none → scan al none (w ∷ ws) ≡ none
+  scan_unknown : option_named options al w ≡ None → scan al None (w ∷ ws) ≡ None
   unfolding scan or_else
   scan_unknown e = rw e
 
   -- an option: it takes no operand, or the next word is its operand
-  module _ (m : OptionKind) (e : option_named options al w ≡ some m) where
+  module _ (m : OptionKind) (e : option_named options al w ≡ Some m) where
     abbrev bare : Option (List Given)
-    bare = map (λ gs. m with [] ∷ gs) (scan al none ws)
+    bare = option_map (λ gs. m with [] ∷ gs) (scan al None ws)
 
-    scan_bare : is_some (operand_range m) ≡ false → scan al none (w ∷ ws) ≡ bare
-    unfolding scan or_else is_some
+    scan_bare : is_some (operand_range m) ≡ false → scan al None (w ∷ ws) ≡ bare
+    unfolding scan or_else
     scan_bare h = rw e (go (operand_range m) h)
       where
-        go : (o : Option Range) → is_some o ≡ false → or_else o bare (λ r. scan al (some m) ws) ≡ bare
-        go none h = refl
-        go (some r) h = impossible cc
+        go : (o : Option Range) → is_some o ≡ false → or_else o bare (λ r. scan al (Some m) ws) ≡ bare
+        go None h = refl
+        go (Some r) h = impossible cc
 
-    scan_operand : is_some (operand_range m) ≡ true → scan al none (w ∷ ws) ≡ scan al (some m) ws
-    unfolding scan or_else is_some
+    scan_operand : is_some (operand_range m) ≡ true → scan al None (w ∷ ws) ≡ scan al (Some m) ws
+    unfolding scan or_else
     scan_operand h = rw e (go (operand_range m) h)
       where
-        go : (o : Option Range) → is_some o ≡ true → or_else o bare (λ r. scan al (some m) ws) ≡ scan al (some m) ws
-        go none h = impossible cc
-        go (some r) h = refl
+        go : (o : Option Range) → is_some o ≡ true → or_else o bare (λ r. scan al (Some m) ws) ≡ scan al (Some m) ws
+        go None h = impossible cc
+        go (Some r) h = refl
 
 -- the option at word i
 module _ (al : List ℕ) (ws : List Word) (i : ℕ) (l : i < length ws) where
@@ -145,18 +141,18 @@ module _ (al : List ℕ) (ws : List Word) (i : ℕ) (l : i < length ws) where
   unfolding word_at
   here = drop-cons ws i [] l
 
-  none_here : option_named options al (word_at i ws) ≡ none → scan al none (drop i ws) ≡ none
+  none_here : option_named options al (word_at i ws) ≡ None → scan al None (drop i ws) ≡ None
   none_here e = rw here (scan_unknown al (word_at i ws) (drop (suc i) ws) e)
 
-  module _ (m : OptionKind) (e : option_named options al (word_at i ws) ≡ some m) where
+  module _ (m : OptionKind) (e : option_named options al (word_at i ws) ≡ Some m) where
     -- its last word is there: its operand, if it takes one
     scan_step : (last : ℕ) → last + 1 ≡ i + size_of m → last < length ws
-        → scan al none (drop i ws) ≡ map (λ gs. m with cond (is_some (operand_range m)) (word_at last ws) [] ∷ gs) (scan al none (drop (last + 1) ws))
+        → scan al None (drop i ws) ≡ option_map (λ gs. m with cond (is_some (operand_range m)) (word_at last ws) [] ∷ gs) (scan al None (drop (last + 1) ws))
     unfolding size_of scan word_at
     scan_step last = go (is_some (operand_range m)) refl
       where
         go : (t : Bool) → is_some (operand_range m) ≡ t → last + 1 ≡ i + cond t 2 1 → last < length ws
-            → scan al none (drop i ws) ≡ map (λ gs. m with cond t (word_at last ws) [] ∷ gs) (scan al none (drop (last + 1) ws))
+            → scan al None (drop i ws) ≡ option_map (λ gs. m with cond t (word_at last ws) [] ∷ gs) (scan al None (drop (last + 1) ws))
         go true h ends room =
             let n : last + 1 ≡ suc (suc i) = omega arith in
             let m : last ≡ suc i = omega arith in
@@ -167,11 +163,11 @@ module _ (al : List ℕ) (ws : List Word) (i : ℕ) (l : i < length ws) where
             rw (n, here) (scan_bare al (word_at i ws) (drop (suc i) ws) m e h)
 
     -- its operand is missing
-    scan_short : length ws < i + size_of m → scan al none (drop i ws) ≡ none
+    scan_short : length ws < i + size_of m → scan al None (drop i ws) ≡ None
     unfolding size_of scan
     scan_short = go (is_some (operand_range m)) refl
       where
-        go : (t : Bool) → is_some (operand_range m) ≡ t → length ws < i + cond t 2 1 → scan al none (drop i ws) ≡ none
+        go : (t : Bool) → is_some (operand_range m) ≡ t → length ws < i + cond t 2 1 → scan al None (drop i ws) ≡ None
         go true h short =
             let past : drop (suc i) ws ≡ [] = drop_of_length-le ws {i = suc i} (omega arith) in
             rw (here, scan_operand al (word_at i ws) (drop (suc i) ws) m e h, past)
@@ -192,20 +188,20 @@ abbrev kind_of : ℕ → OptionKind
 kind_of k = (option_of k).kind
 
 module _ (ws : List Word) (allowed : List ℕ) (i : ℕ) {count : ℕ} (size : length ws ≡ count) (l : i < count)
-    {w : Word} (ew : w ≡ word_at i ws) {row : RowFound} (er : row ≡ row_for (row_named option_table w)) where
+    {w : Word} (ew : w ≡ word_at i ws) {row : Option ℕ} (er : row ≡ (row_named option_table w)) where
   inside : i < length ws
   inside = omega arith
 
   -- it names no option
-  pub option_unknown : row ≡ rows.Nothing → scan allowed none (drop i ws) ≡ none
+  pub option_unknown : row ≡ None → scan allowed None (drop i ws) ≡ None
   unfolding or_else
   option_unknown h =
-      let nothing : row_named option_table (word_at i ws) ≡ none = row_nothing (row_named option_table (word_at i ws)) (rw ew at (sym er ∙ h)) in
+      let nothing : row_named option_table (word_at i ws) ≡ None = row_nothing (row_named option_table (word_at i ws)) (rw ew at (sym er ∙ h)) in
       none_here allowed ws i inside (option_row (word_at i ws) allowed ∙ rw nothing)
 
   -- it names option k
-  module _ (k : ℕ) (h : row ≡ rows.At k) where
-    number_so : row_named option_table (word_at i ws) ≡ some k
+  module _ (k : ℕ) (h : row ≡ Some k) where
+    number_so : row_named option_table (word_at i ws) ≡ Some k
     number_so = row_at (row_named option_table (word_at i ws)) k (rw ew at (sym er ∙ h))
 
     named_so : option_named options allowed (word_at i ws) ≡ only_if (any (eqb (group (kind_of k))) allowed) (kind_of k)
@@ -224,13 +220,13 @@ module _ (ws : List Word) (allowed : List ℕ) (i : ℕ) {count : ℕ} (size : l
         unfolding option_data
         taken_so = rw (← eg) (sym et)
 
-        pub option_barred : not t ≡ true → scan allowed none (drop i ws) ≡ none
+        pub option_barred : not t ≡ true → scan allowed None (drop i ws) ≡ None
         unfolding only_if
         option_barred z = none_here allowed ws i inside (named_so ∙ rw (taken_so, not-true t z))
 
         -- which is allowed
         module _ (a : not t ≡ false) {n : ℕ} (en : n ≡ get_or (option_data (option_of k)) size_at 0) where
-          known_so : option_named options allowed (word_at i ws) ≡ some (kind_of k)
+          known_so : option_named options allowed (word_at i ws) ≡ Some (kind_of k)
           unfolding only_if
           known_so = named_so ∙ rw (taken_so, not-false t a)
 
@@ -257,13 +253,13 @@ module _ (ws : List Word) (allowed : List ℕ) (i : ℕ) {count : ℕ} (size : l
           option_bare one es = ends_at i (omega (arith, size_so)) l es
 
           -- it takes one; the code looked for the word after it
-          module _ (two : 2 ≤ n) {next : Next} (ee : next ≡ next_of count (i + 1)) where
+          module _ (two : 2 ≤ n) {next : Option ℕ} (ee : next ≡ next_of count (i + 1)) where
             -- which is not there
-            pub option_short : next ≡ nexts.End → scan allowed none (drop i ws) ≡ none
+            pub option_short : next ≡ None → scan allowed None (drop i ws) ≡ None
             option_short q = scan_short allowed ws i inside (kind_of k) known_so (omega (arith, size_so, next_end count (i + 1) ee q))
 
             -- which is there
-            pub option_found : (last : ℕ) → next ≡ nexts.Word last → {said : ℕ} → said ≡ get_or (option_data (option_of k)) said_at 0 → FoundOption ws allowed i g said last
+            pub option_found : (last : ℕ) → next ≡ Some last → {said : ℕ} → said ≡ get_or (option_data (option_of k)) said_at 0 → FoundOption ws allowed i g said last
             option_found last q es =
                 let at : (last ≡ i + 1) × (i + 1 < count) = next_at count (i + 1) last ee q in
                 ends_at last (omega (arith, size_so)) (omega arith) es
@@ -273,7 +269,7 @@ module _ (ws : List Word) (allowed : List ℕ) (i : ℕ) {count : ℕ} (size : l
 -- The words up to i were scanned: what is left does the same as all words after the options found, none of which conflict, and which the code has by their groups.
 pub record Scanning (ws : List Word) (allowed : List ℕ) (from i : ℕ) (r : code.ScannedOptions) : Type 0 where
   pub found : List Given
-  pub left : scan allowed none (drop from ws) ≡ map (λ more. found ++ more) (scan allowed none (drop i ws))
+  pub left : scan allowed None (drop from ws) ≡ option_map (λ more. found ++ more) (scan allowed None (drop i ws))
   pub clean : conflicting found ≡ false
   pub entries : (g : ℕ) → g < group_count → given_of g found ≡ given_at ws r g
   pub passed : r.refusal ≡ 0
@@ -282,22 +278,22 @@ pub record Scanning (ws : List Word) (allowed : List ℕ) (from i : ℕ) (r : co
 
 -- an option of the code
 module _ (ws : List Word) (g said operand : ℕ) where
-  pub option_none : not_given ≤ said → option_at ws g said operand ≡ none
+  pub option_none : not_given ≤ said → option_at ws g said operand ≡ None
   unfolding option_at
   option_none l = rw (le-ltb said not_given l)
 
-  pub option_some : said < not_given → option_at ws g said operand ≡ some (numbered ws g said operand)
+  pub option_some : said < not_given → option_at ws g said operand ≡ Some (numbered ws g said operand)
   unfolding option_at
   option_some l = rw (lt-ltb said not_given l)
 
-map_none : (o : Option (List Given)) → o ≡ map (λ more. [] ++ more) o
-map_none none = refl
-map_none (some gs) = refl
+map_none : (o : Option (List Given)) → o ≡ option_map (λ more. [] ++ more) o
+map_none None = refl
+map_none (Some gs) = refl
 
 map_last : (gs : List Given) (x : Given) (o : Option (List Given))
-    → map (λ more. gs ++ more) (map (λ more. x ∷ more) o) ≡ map (λ more. (gs ++ (x ∷ [])) ++ more) o
-map_last gs x none = refl
-map_last gs x (some more) = ap some (sym (append_assoc gs (x ∷ []) more))
+    → option_map (λ more. gs ++ more) (option_map (λ more. x ∷ more) o) ≡ option_map (λ more. (gs ++ (x ∷ [])) ++ more) o
+map_last gs x None = refl
+map_last gs x (Some more) = ap Some (sym (append_assoc gs (x ∷ []) more))
 
 pub scanning_begins : (ws : List Word) (allowed : List ℕ) (from : ℕ)
     → Scanning ws allowed from from (record { refusal = 0; said = replicate group_count not_given; operands = replicate group_count 0 })
@@ -305,7 +301,7 @@ unfolding conflicting given_of
 scanning_begins ws allowed from =
     record {
       found = [];
-      left = map_none (scan allowed none (drop from ws));
+      left = map_none (scan allowed None (drop from ws));
       clean = refl;
       entries = λ g l. sym (option_none ws g _ _ (omega (arith, get_or-replicate {A = ℕ} group_count g not_given 0 l)));
       passed = refl;
@@ -317,11 +313,11 @@ module _ {ws : List Word} {allowed : List ℕ} {from i : ℕ} {r : code.ScannedO
   abbrev refused_with : ℕ → code.ScannedOptions
   refused_with n = record { refusal = n; said = r.said; operands = r.operands }
 
-  refused : {n : ℕ} → n ≡ 15 → or_else (scan allowed none (drop from ws)) true conflicting ≡ true → Scanned ws allowed from (refused_with n)
+  refused : {n : ℕ} → n ≡ 15 → or_else (scan allowed None (drop from ws)) true conflicting ≡ true → Scanned ws allowed from (refused_with n)
   refused e h = record { refusal = rw h e; given = λ z. absurd (omega arith) }
 
   -- the scan of what is left fails
-  pub scanning_fails : {n : ℕ} → (n ≡ 15) × (scan allowed none (drop i ws) ≡ none) → Scanned ws allowed from (refused_with n)
+  pub scanning_fails : {n : ℕ} → (n ≡ 15) × (scan allowed None (drop i ws) ≡ None) → Scanned ws allowed from (refused_with n)
   unfolding or_else
   scanning_fails (e, fails) = refused e (rw (s.left, fails))
 
@@ -330,7 +326,7 @@ module _ {ws : List Word} {allowed : List ℕ} {from i : ℕ} {r : code.ScannedO
   unfolding scan or_else
   scanning_ends size l =
       let past : drop i ws ≡ [] = drop_of_length-le ws {i = i} (omega arith) in
-      let all : scan allowed none (drop from ws) ≡ some s.found = s.left ∙ rw (past, append-nil) in
+      let all : scan allowed None (drop from ws) ≡ Some s.found = s.left ∙ rw (past, append-nil) in
       record { refusal = rw (all, s.clean) s.passed; given = λ e g b. rw all (s.entries g b) }
 
   -- an option was found
@@ -345,18 +341,18 @@ module _ {ws : List Word} {allowed : List ℕ} {from i : ℕ} {r : code.ScannedO
     -- of a group that was given before
     pub scanning_again : get_or r.said g 0 < not_given → Scanned ws allowed from (refused_with 15)
     unfolding or_else
-    scanning_again b = refused refl (rw (s.left, f.left) (go (scan allowed none (drop (last + 1) ws))))
+    scanning_again b = refused refl (rw (s.left, f.left) (go (scan allowed None (drop (last + 1) ws))))
       where
-        before : given_of (group x.kind) s.found ≡ some (numbered ws g (get_or r.said g 0) (get_or r.operands g 0))
+        before : given_of (group x.kind) s.found ≡ Some (numbered ws g (get_or r.said g 0) (get_or r.operands g 0))
         before = rw member_so (s.entries g f.grouped ∙ option_some ws g _ _ b)
 
-        go : (o : Option (List Given)) → or_else (map (λ more. s.found ++ more) (map (λ gs. x ∷ gs) o)) true conflicting ≡ true
-        go none = refl
-        go (some more) = conflict_again x s.found more _ before
+        go : (o : Option (List Given)) → or_else (option_map (λ more. s.found ++ more) (option_map (λ gs. x ∷ gs) o)) true conflicting ≡ true
+        go None = refl
+        go (Some more) = conflict_again x s.found more _ before
 
     -- of another group
     module _ (free : not_given ≤ get_or r.said g 0) where
-      none_before : given_of (group x.kind) s.found ≡ none
+      none_before : given_of (group x.kind) s.found ≡ None
       none_before = rw member_so (s.entries g f.grouped ∙ option_none ws g _ _ free)
 
       abbrev next : code.ScannedOptions
@@ -368,7 +364,7 @@ module _ {ws : List Word} {allowed : List ℕ} {from i : ℕ} {r : code.ScannedO
           go : (t : Bool) → eqb g h ≡ t → given_of h (s.found ++ (x ∷ [])) ≡ given_at ws next h
           go true q =
               let e : g ≡ h = eqb-true g h q in
-              let this : given_of g (s.found ++ (x ∷ [])) ≡ some x = rw member_so at (given_same x s.found none_before) in
+              let this : given_of g (s.found ++ (x ∷ [])) ≡ Some x = rw member_so at (given_same x s.found none_before) in
               let p : g < length r.said = omega (arith, s.said_size, f.grouped) in
               let o : g < length r.operands = omega (arith, s.operands_size, f.grouped) in
               rw (← e, get_or-set_same r.said g said 0 p, get_or-set_same r.operands g last 0 o) (this ∙ sym (option_some ws g said last f.given))
@@ -384,8 +380,8 @@ module _ {ws : List Word} {allowed : List ℕ} {from i : ℕ} {r : code.ScannedO
             found = s.found ++ (x ∷ []);
             left =
                 s.left
-                ∙ ap (map (λ more. s.found ++ more)) f.left
-                ∙ map_last s.found x (scan allowed none (drop (last + 1) ws));
+                ∙ ap (option_map (λ more. s.found ++ more)) f.left
+                ∙ map_last s.found x (scan allowed None (drop (last + 1) ws));
             clean = conflict_none x s.found s.clean none_before;
             entries = next_entries;
             passed = s.passed;

@@ -1,8 +1,8 @@
 -- Options that do not conflict: at most one of each group, and of groups that the command allows.
+use Rattle.std.specs.Prelude.{Option, None, Some, option_map, unwrap_or}
 use mathlib.Core.Path.{◌≡◌, refl, sym}
 use mathlib.Core.Bool.{Bool, true, false, cond, ◌&&◌, ◌||◌}
 use mathlib.Core.List.{List, [], ◌∷◌}
-use mathlib.Core.Option.{Option, none, some, map, get_or}
 use Prim.Native.Nat.{ℕ}
 use borrow.Author.Tests.{eqb-true, eq-eqb, ne_eqb}
 use lib.Dec.{eqb}
@@ -20,12 +20,12 @@ Each P [] = Unit {0}
 Each P (g ∷ gs) = P g.kind × Each P gs
 
 abbrev Found : (OptionKind → Type 0) → Option (List Given) → Type 0
-Found P none = Unit {0}
-Found P (some gs) = Each P gs
+Found P None = Unit {0}
+Found P (Some gs) = Each P gs
 
 abbrev Pending : (OptionKind → Type 0) → Option OptionKind → Type 0
-Pending P none = Unit {0}
-Pending P (some m) = P m
+Pending P None = Unit {0}
+Pending P (Some m) = P m
 
 -- every row is of a kind of which P holds
 abbrev pub EachRow : (OptionKind → Type 0) → List OptionRow → Type 0
@@ -38,60 +38,60 @@ any_row (r ∷ rs) = (tt, any_row rs)
 
 module _ (P : OptionKind → Type 0) where
   -- what a word names is the kind of a row, and its group is allowed
-  pub named_row : (al : List ℕ) (rows : List OptionRow) → EachRow P rows → (w : Word) (m : OptionKind) → option_named rows al w ≡ some m
+  pub named_row : (al : List ℕ) (rows : List OptionRow) → EachRow P rows → (w : Word) (m : OptionKind) → option_named rows al w ≡ Some m
       → P m × (any (eqb (group m)) al ≡ true)
   unfolding option_named
   named_row al [] p w m e = impossible cc
   named_row al (r ∷ rs) p w m e = go (spells r.name w) (any (eqb (group r.kind)) al) refl (named_row al rs p.1 w m) e
     where
-      go : (t a : Bool) → any (eqb (group r.kind)) al ≡ a → (option_named rs al w ≡ some m → P m × (any (eqb (group m)) al ≡ true))
-          → cond (t && a) (some r.kind) (option_named rs al w) ≡ some m → P m × (any (eqb (group m)) al ≡ true)
+      go : (t a : Bool) → any (eqb (group r.kind)) al ≡ a → (option_named rs al w ≡ Some m → P m × (any (eqb (group m)) al ≡ true))
+          → cond (t && a) (Some r.kind) (option_named rs al w) ≡ Some m → P m × (any (eqb (group m)) al ≡ true)
       go true true q later e =
           let s : r.kind ≡ m = cc in
           (rw s at p.0, rw s at q)
       go true false q later e = later e
       go false a q later e = later e
 
-  one_more : (x : Given) → P x.kind → (o : Option (List Given)) → Found P o → Found P (map (λ gs. x ∷ gs) o)
-  one_more x h none k = tt
-  one_more x h (some gs) k = (h, k)
+  one_more : (x : Given) → P x.kind → (o : Option (List Given)) → Found P o → Found P (option_map (λ gs. x ∷ gs) o)
+  one_more x h None k = tt
+  one_more x h (Some gs) k = (h, k)
 
-  pub each_given : (n : ℕ) (gs : List Given) → Each P gs → (g : Given) → given_of n gs ≡ some g → P g.kind
+  pub each_given : (n : ℕ) (gs : List Given) → Each P gs → (g : Given) → given_of n gs ≡ Some g → P g.kind
   unfolding given_of
   each_given n [] e g h = impossible cc
   each_given n (x ∷ xs) e g h = go (eqb (group x.kind) n) (each_given n xs e.1 g) h
     where
-      go : (t : Bool) → (given_of n xs ≡ some g → P g.kind) → cond t (some x) (given_of n xs) ≡ some g → P g.kind
+      go : (t : Bool) → (given_of n xs ≡ Some g → P g.kind) → cond t (Some x) (given_of n xs) ≡ Some g → P g.kind
       go true later q =
           let m : x ≡ g = cc in
           rw m at e.0
       go false later q = later q
 
   -- a scan finds only what the table names
-  module _ (al : List ℕ) (named : (w : Word) (m : OptionKind) → option_named options al w ≡ some m → P m) where
+  module _ (al : List ℕ) (named : (w : Word) (m : OptionKind) → option_named options al w ≡ Some m → P m) where
     scan_each : (o : Option OptionKind) (ws : List Word) → Pending P o → Found P (scan al o ws)
     unfolding scan or_else
-    scan_each none [] h = tt
-    scan_each (some m) [] h = tt
-    scan_each (some m) (w ∷ ws) h = one_more (m with w) h (scan al none ws) (scan_each none ws tt)
-    scan_each none (w ∷ ws) h = go (option_named options al w) refl (scan_each none ws tt) (λ m. scan_each (some m) ws)
+    scan_each None [] h = tt
+    scan_each (Some m) [] h = tt
+    scan_each (Some m) (w ∷ ws) h = one_more (m with w) h (scan al None ws) (scan_each None ws tt)
+    scan_each None (w ∷ ws) h = go (option_named options al w) refl (scan_each None ws tt) (λ m. scan_each (Some m) ws)
       where
-        at : (m : OptionKind) → P m → (o : Option Range) → Found P (scan al none ws) → (P m → Found P (scan al (some m) ws))
-            → Found P (or_else o (map (λ gs. m with [] ∷ gs) (scan al none ws)) (λ r. scan al (some m) ws))
-        at m q none bare after = one_more (m with []) q (scan al none ws) bare
-        at m q (some r) bare after = after q
+        at : (m : OptionKind) → P m → (o : Option Range) → Found P (scan al None ws) → (P m → Found P (scan al (Some m) ws))
+            → Found P (or_else o (option_map (λ gs. m with [] ∷ gs) (scan al None ws)) (λ r. scan al (Some m) ws))
+        at m q None bare after = one_more (m with []) q (scan al None ws) bare
+        at m q (Some r) bare after = after q
 
-        go : (o : Option OptionKind) → option_named options al w ≡ o → Found P (scan al none ws) → ((m : OptionKind) → P m → Found P (scan al (some m) ws))
-            → Found P (or_else o none λ m. or_else (operand_range m) (map (λ gs. m with [] ∷ gs) (scan al none ws)) (λ r. scan al (some m) ws))
-        go none e bare after = tt
-        go (some m) e bare after = at m (named w m e) (operand_range m) bare (after m)
+        go : (o : Option OptionKind) → option_named options al w ≡ o → Found P (scan al None ws) → ((m : OptionKind) → P m → Found P (scan al (Some m) ws))
+            → Found P (or_else o None λ m. or_else (operand_range m) (option_map (λ gs. m with [] ∷ gs) (scan al None ws)) (λ r. scan al (Some m) ws))
+        go None e bare after = tt
+        go (Some m) e bare after = at m (named w m e) (operand_range m) bare (after m)
 
-    pub scanned_each : (ws : List Word) → Each P (get_or (scan al none ws) [])
-    scanned_each ws = go (scan al none ws) (scan_each none ws tt)
+    pub scanned_each : (ws : List Word) → Each P (unwrap_or (scan al None ws) [])
+    scanned_each ws = go (scan al None ws) (scan_each None ws tt)
       where
-        go : (o : Option (List Given)) → Found P o → Each P (get_or o [])
-        go none h = tt
-        go (some gs) h = h
+        go : (o : Option (List Given)) → Found P o → Each P (unwrap_or o [])
+        go None h = tt
+        go (Some gs) h = h
 
 -- ---- groups that are allowed
 
@@ -106,16 +106,16 @@ module _ (al : List ℕ) where
   each_permitted (g ∷ gs) h = and_both h.0 (each_permitted gs h.1)
 
   -- a scan finds only options of groups that are allowed
-  pub scan_allowed : (ws : List Word) → or_else (scan al none ws) true (all permitted) ≡ true
+  pub scan_allowed : (ws : List Word) → or_else (scan al None ws) true (all permitted) ≡ true
   unfolding or_else
-  scan_allowed ws = go (scan al none ws) (scan_each (λ m. any (eqb (group m)) al ≡ true) al named none ws tt)
+  scan_allowed ws = go (scan al None ws) (scan_each (λ m. any (eqb (group m)) al ≡ true) al named None ws tt)
     where
-      named : (w : Word) (m : OptionKind) → option_named options al w ≡ some m → any (eqb (group m)) al ≡ true
+      named : (w : Word) (m : OptionKind) → option_named options al w ≡ Some m → any (eqb (group m)) al ≡ true
       named w m e = (named_row (λ k. Unit {0}) al options (any_row options) w m e).1
 
       go : (o : Option (List Given)) → Found (λ m. any (eqb (group m)) al ≡ true) o → or_else o true (all permitted) ≡ true
-      go none h = refl
-      go (some gs) h = each_permitted gs h
+      go None h = refl
+      go (Some gs) h = each_permitted gs h
 
 -- ---- one option a group
 
@@ -141,7 +141,7 @@ all_each h [] = refl
 all_each h (n ∷ ns) = and_both (h n) (all_each h ns)
 
 -- none of a group
-none_of : (n : ℕ) (gs : List Given) → any (λ h. eqb n (group h.kind)) gs ≡ false → given_of n gs ≡ none
+none_of : (n : ℕ) (gs : List Given) → any (λ h. eqb n (group h.kind)) gs ≡ false → given_of n gs ≡ None
 unfolding any given_of
 none_of n [] h = refl
 none_of n (g ∷ gs) h =
@@ -155,7 +155,7 @@ module _ (p : Given → Bool) where
   given_all n [] h = refl
   given_all n (g ∷ gs) h = go (eqb (group g.kind) n) (given_all n gs (and_right (p g) (all p gs) h))
     where
-      go : (t : Bool) → or_else (given_of n gs) true p ≡ true → or_else (cond t (some g) (given_of n gs)) true p ≡ true
+      go : (t : Bool) → or_else (given_of n gs) true p ≡ true → or_else (cond t (Some g) (given_of n gs)) true p ≡ true
       go true later = and_left (p g) (all p gs) h
       go false later = later
 
@@ -173,17 +173,17 @@ module _ (p : Given → Bool) where
         (all_given gs (or_right (any same gs) (conflicting gs) c) (and_right this rest m)
         (λ n a. go n (eqb (group g.kind) n) refl (h n a) (none_of (group g.kind) gs (or_left (any same gs) (conflicting gs) c))))
       where
-        go : (n : ℕ) (t : Bool) → eqb (group g.kind) n ≡ t → or_else (cond t (some g) (given_of n gs)) true p ≡ true → given_of (group g.kind) gs ≡ none
+        go : (n : ℕ) (t : Bool) → eqb (group g.kind) n ≡ t → or_else (cond t (Some g) (given_of n gs)) true p ≡ true → given_of (group g.kind) gs ≡ None
             → or_else (given_of n gs) true p ≡ true
         go n true e k z = rw (← eqb-true (group g.kind) n e, z)
         go n false e k z = k
 
     -- what holds of all options that were given holds of the one of each group
     pub all_groups : (o : Option (List Given)) → or_else o true conflicting ≡ false → or_else o true (all (permitted al)) ≡ true
-        → all p (get_or o []) ≡ all (λ n. or_else (given_of n (get_or o [])) true p) al
+        → all p (unwrap_or o []) ≡ all (λ n. or_else (given_of n (unwrap_or o [])) true p) al
     unfolding or_else
-    all_groups none c m = both_ways refl c
-    all_groups (some gs) c m =
+    all_groups None c m = both_ways refl c
+    all_groups (Some gs) c m =
         iff_same
         (all p gs)
         (all (λ n. or_else (given_of n gs) true p) al)

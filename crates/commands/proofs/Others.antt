@@ -1,8 +1,8 @@
 -- A command changes no live entry that it does not name, and makes no other entry that it does not name.
+use Rattle.std.specs.Prelude.{Option, None, Some}
 use mathlib.Core.Path.{◌≡◌, refl, ◌∙◌}
 use mathlib.Core.Bool.{Bool, true, false, cond, ◌&&◌, ◌||◌}
 use mathlib.Core.List.{List, [], ◌∷◌, map}
-use mathlib.Core.Option.{Option, none, some}
 use Prim.Native.Nat.{ℕ}
 use lib.ListN.{get_or}
 use Rattle.wire.specs.Lists.{any, or_else}
@@ -29,18 +29,18 @@ use Rattle.commands.proofs.Sweep.{sweep_keeps_live, sweep_from}
 
 -- whether a change is of the entry's key and field
 unfoldable pub concerns : Entry → Change → Bool
-concerns e (write x) = holds x.key x.field (some e)
-concerns e (remove k f) = holds k f (some e)
+concerns e (write x) = holds x.key x.field (Some e)
+concerns e (remove k f) = holds k f (Some e)
 
-change_keeps : (now : ℕ) (c : Change) (ss : List Slot) (i : ℕ) (e : Entry) → get_or ss i none ≡ some e → live now e ≡ true → concerns e c ≡ false
-    → get_or (change now c ss) i none ≡ some e
+change_keeps : (now : ℕ) (c : Change) (ss : List Slot) (i : ℕ) (e : Entry) → get_or ss i None ≡ Some e → live now e ≡ true → concerns e c ≡ false
+    → get_or (change now c ss) i None ≡ Some e
 unfolding change concerns live_slot or_else holds
 change_keeps now (write x) ss i e h l n = put_keeps now x ss i (rw h l) (rw h n) ∙ h
 change_keeps now (remove k f) ss i e h l n = without_keeps _ ss i e h n
 
 -- Changes keep a live entry that none of them concerns in its slot.
-pub changes_keep : (now : ℕ) (cs : List Change) (ss : List Slot) (i : ℕ) (e : Entry) → get_or ss i none ≡ some e → live now e ≡ true
-    → any (concerns e) cs ≡ false → get_or (change_all now cs ss) i none ≡ some e
+pub changes_keep : (now : ℕ) (cs : List Change) (ss : List Slot) (i : ℕ) (e : Entry) → get_or ss i None ≡ Some e → live now e ≡ true
+    → any (concerns e) cs ≡ false → get_or (change_all now cs ss) i None ≡ Some e
 unfolding change_all any
 changes_keep now [] ss i e h l n = h
 changes_keep now (c ∷ cs) ss i e h l n =
@@ -50,14 +50,14 @@ changes_keep now (c ∷ cs) ss i e h l n =
     (or_right (concerns e c) (any (concerns e) cs) n)
 
 -- An entry that no change concerns and that stands in a slot then stood there before.
-change_from : (now : ℕ) (c : Change) (ss : List Slot) (i : ℕ) (e : Entry) → concerns e c ≡ false → get_or (change now c ss) i none ≡ some e
-    → get_or ss i none ≡ some e
+change_from : (now : ℕ) (c : Change) (ss : List Slot) (i : ℕ) (e : Entry) → concerns e c ≡ false → get_or (change now c ss) i None ≡ Some e
+    → get_or ss i None ≡ Some e
 unfolding change concerns
 change_from now (write x) ss i e n h = put_from now x ss i e n h
 change_from now (remove k f) ss i e n h = without_from _ ss i e h
 
 changes_from : (now : ℕ) (cs : List Change) (ss : List Slot) (i : ℕ) (e : Entry) → any (concerns e) cs ≡ false
-    → get_or (change_all now cs ss) i none ≡ some e → get_or ss i none ≡ some e
+    → get_or (change_all now cs ss) i None ≡ Some e → get_or ss i None ≡ Some e
 unfolding change_all any
 changes_from now [] ss i e n h = h
 changes_from now (c ∷ cs) ss i e n h =
@@ -68,15 +68,15 @@ changes_from now (c ∷ cs) ss i e n h =
 
 -- an entry that is found has the key and the field that were looked for
 abbrev FoundNamed : Word → Word → Option Entry → Type 0
-FoundNamed k f none = Unit {0}
-FoundNamed k f (some x) = Named k f x
+FoundNamed k f None = Unit {0}
+FoundNamed k f (Some x) = Named k f x
 
 found_named : (k f : Word) (ss : List Slot) → FoundNamed k f (entry_of k f ss)
 found_named k f ss = go (entry_of k f ss) refl
   where
     go : (o : Option Entry) → entry_of k f ss ≡ o → FoundNamed k f o
-    go none q = tt
-    go (some x) q = (entry_some k f ss x q).named
+    go None q = tt
+    go (Some x) q = (entry_some k f ss x q).named
 
 and_or_left : (a b c : Bool) → (a && (b || c)) ≡ false → (a && b) ≡ false
 and_or_left true b c h = or_left b c h
@@ -100,12 +100,12 @@ other_deed : (now : ℕ) (ss : List Slot) (e : Entry) (k f : Word) (d : Deed) (f
 unfolding deed_effect set_effect increment_effect expire_effect persist_effect renumber_effect or_else written any concerns holds
 other_deed now ss e k f (assign v c n t) found h m = other_either e (barred c found) _ _ refl (or_neither h refl)
 other_deed now ss e k f (increment a l g n t) found h m = or_neither h refl
-other_deed now ss e k f (expire t n) none h m = refl
-other_deed now ss e k f (expire t n) (some x) h m = or_neither (other_found e x k f m h) refl
-other_deed now ss e k f persist none h m = refl
-other_deed now ss e k f persist (some x) h m = other_either e (has_expiry x.expiry) _ _ (or_neither (other_found e x k f m h) refl) refl
-other_deed now ss e k f (renumber v) none h m = refl
-other_deed now ss e k f (renumber v) (some x) h m = or_neither (other_found e x k f m h) refl
+other_deed now ss e k f (expire t n) None h m = refl
+other_deed now ss e k f (expire t n) (Some x) h m = or_neither (other_found e x k f m h) refl
+other_deed now ss e k f persist None h m = refl
+other_deed now ss e k f persist (Some x) h m = other_either e (has_expiry x.expiry) _ _ (or_neither (other_found e x k f m h) refl) refl
+other_deed now ss e k f (renumber v) None h m = refl
+other_deed now ss e k f (renumber v) (Some x) h m = or_neither (other_found e x k f m h) refl
 other_deed now ss e k f (ask q) found h m = refl
 
 -- The pairs of an EXHMSET concern no entry of another name.
@@ -143,11 +143,11 @@ effect_concerns now (list k l) ss e h = refl
 
 -- Every live entry that an accepted command does not name keeps its slot.
 pub others_kept : (clock : ℕ) (command : List ℕ) (s : Store) (c : Command) → parse (now_at clock s) clock command ≡ accepted c
-    → (i : ℕ) (e : Entry) → get_or s.slots i none ≡ some e → live (now_at clock s) e ≡ true → names c e ≡ false
-    → get_or (exec clock command s).store.slots i none ≡ some e
+    → (i : ℕ) (e : Entry) → get_or s.slots i None ≡ Some e → live (now_at clock s) e ≡ true → names c e ≡ false
+    → get_or (exec clock command s).store.slots i None ≡ Some e
 others_kept clock command s c a i e h l n = go (went clock command s)
   where
-    go : {o : Outcome} → Went clock command s o → get_or o.store.slots i none ≡ some e
+    go : {o : Outcome} → Went clock command s o → get_or o.store.slots i None ≡ Some e
     go (early k p) = h
     go (late d k p r) = sweep_keeps_live (now_at clock s) (key_of d) (fields_of d) s.slots i e h l
     go (done d p r) =
@@ -159,10 +159,10 @@ others_kept clock command s c a i e h l n = go (went clock command s)
 
 -- Every entry that an accepted command does not name and that stands in a slot after it stood there before.
 pub others_from : (clock : ℕ) (command : List ℕ) (s : Store) (c : Command) → parse (now_at clock s) clock command ≡ accepted c
-    → (i : ℕ) (e : Entry) → names c e ≡ false → get_or (exec clock command s).store.slots i none ≡ some e → get_or s.slots i none ≡ some e
+    → (i : ℕ) (e : Entry) → names c e ≡ false → get_or (exec clock command s).store.slots i None ≡ Some e → get_or s.slots i None ≡ Some e
 others_from clock command s c a i e n = go (went clock command s)
   where
-    go : {o : Outcome} → Went clock command s o → get_or o.store.slots i none ≡ some e → get_or s.slots i none ≡ some e
+    go : {o : Outcome} → Went clock command s o → get_or o.store.slots i None ≡ Some e → get_or s.slots i None ≡ Some e
     go (early k p) h = h
     go (late d k p r) h = sweep_from (now_at clock s) (key_of d) (fields_of d) s.slots i e h
     go (done d p r) h =

@@ -1,25 +1,22 @@
 -- Loops over the pairs that the words of a command say: what is left does the same.
+use Rattle.std.specs.Prelude.{Option, None, Some, is_some}
 use mathlib.Core.Path.{◌≡◌, refl, sym, ap, subst, ◌∙◌}
 use mathlib.Core.Bool.{Bool, true, false, cond, not, ◌||◌}
 use mathlib.Core.List.{List, [], ◌∷◌, map}
-use mathlib.Core.Option.{Option, none, some}
 use Prim.Native.Nat.{ℕ, suc, ◌+◌, ◌-◌, ◌≤◌, ◌<◌}
 use native.Mathlib.Omega.{arith}
 use borrow.Author.Tests.{ltb-false, lt-ltb, le-ltb, ne_eqb}
 use lib.Dec.{ltb, eqb}
 use lib.ListN.{length, drop, length-map}
-use Rattle.wire.specs.Lists.{any, keep, is_some}
+use Rattle.wire.specs.Lists.{any, keep}
 use Rattle.wire.specs.Bytes.{same}
 use Rattle.wire.specs.Words.{Word, words_most, word_at}
 use Rattle.wire.specs.Promises.{words_in, Inside}
 use Rattle.wire.proofs.Lists.{or_left, or_right, or_neither, length_keep}
 use Rattle.store.specs.Layout.{key_most, field_most, value_most, version_most}
-use Rattle.store.specs.declared.Found.{Found}
-use Rattle.store.specs.declared.Found.TheVariants as founds
 use Rattle.store.specs.Store.{Entry, entry, Slot, Store, decode, holds, well_formed}
 use Rattle.store.specs.Time.{lowest_slot, put}
-use Rattle.store.specs.declared.Expiry.TheVariants.{Never}
-use Rattle.store.specs.Promises.{Holds, found_for}
+use Rattle.store.specs.Promises.{Holds}
 use Rattle.store.specs.Valid.{Short}
 use Rattle.store.proofs.Finding.{any_lowest}
 use Rattle.commands.specs.declared.pairs.Survey.TheVariants as surveys
@@ -133,11 +130,11 @@ module _ (s : List ℕ) (places : List (List ℕ)) (i : ℕ) {f : Word} {r : ℕ
 -- ---- what these times tell
 
 -- they tell it themselves
-pub telling_all : {found : Found} {held times n : ℕ} → n ≡ times → Telling found held times n
+pub telling_all : {found : Option ℕ} {held times n : ℕ} → n ≡ times → Telling found held times n
 telling_all e = record { most = omega arith; passes = rw e; added = rw e }
 
 -- of a field that is held, with a version far from the largest, 0 tells as much
-pub telling_none : {found : Found} {held times j : ℕ} → found ≡ founds.At j → held < version_most - words_most → times ≤ words_most → Telling found held times 0
+pub telling_none : {found : Option ℕ} {held times j : ℕ} → found ≡ Some j → held < version_most - words_most → times ≤ words_most → Telling found held times 0
 unfolding new_field
 telling_none {found} {held} {times} e l m =
     record {
@@ -150,7 +147,7 @@ module _ (s : List ℕ) (places : List (List ℕ)) (i : ℕ) where
   pub times_few : Inside s places → times_in (word_at i (words_in s places)) (fields_in (drop (i + 2) (words_in s places))) ≤ words_most
   times_few w = again_few s places i refl refl w
 
-  pub telling_is : {found : Found} {held n : ℕ} {f : Word} → f ≡ word_at i (words_in s places)
+  pub telling_is : {found : Option ℕ} {held n : ℕ} {f : Word} → f ≡ word_at i (words_in s places)
       → Telling found held (times_in (word_at i (words_in s places)) (fields_in (drop (i + 2) (words_in s places)))) n
       → Telling found held (times_in f (named_from s places (i + 2))) n
   unfolding named_from words_from
@@ -170,17 +167,17 @@ named_times f (g ∷ gs) = go (same g f) (named_times f gs)
     go false q = q
 
 -- one more field that is missing, or not
-missing_more : (k f : Word) (fs : List Word) (ss : List Slot) {found : Found} {again : ℕ} → found ≡ found_for (lowest_slot (holds k f) ss)
+missing_more : (k f : Word) (fs : List Word) (ss : List Slot) {found : Option ℕ} {again : ℕ} → found ≡ (lowest_slot (holds k f) ss)
     → again ≡ times_in f fs
     → missing k (f ∷ fs) ss ≡ new_field found again + missing k fs ss
-unfolding missing new_field found_for is_some
+unfolding missing new_field
 missing_more k f fs ss h q = rw (h, q, any_lowest (holds k f) ss, named_times f fs) (go (lowest_slot (holds k f) ss) (eqb (times_in f fs) 0) refl)
   where
     go : (o : Option ℕ) (t : Bool) → eqb (times_in f fs) 0 ≡ t
-        → cond (not (is_some o || not t)) (suc (missing k fs ss)) (missing k fs ss) ≡ new_field (found_for o) (times_in f fs) + missing k fs ss
-    go (some i) t e = omega arith
-    go none true e = rw e (omega arith)
-    go none false e = rw e (omega arith)
+        → cond (not (is_some o || not t)) (suc (missing k fs ss)) (missing k fs ss) ≡ new_field (o) (times_in f fs) + missing k fs ss
+    go (Some i) t e = omega arith
+    go None true e = rw e (omega arith)
+    go None false e = rw e (omega arith)
 
 pub missing_most : (k : Word) (fs : List Word) (ss : List Slot) → missing k fs ss ≤ length fs
 unfolding missing
@@ -207,7 +204,7 @@ module _ {k : Word} {fields rest : List Word} {ss : List Slot} {n : ℕ} (s : Su
       let m : n ≡ missing k fields ss = omega (arith, s.sum, ap (λ (fs : List Word). missing k fs ss) q) in
       rw (← s.same, q, ← m)
 
-  module _ {f : Word} {more : List Word} {found : Found} {held again : ℕ} (q : rest ≡ f ∷ more) (v : held ≡ version_in k ss f)
+  module _ {f : Word} {more : List Word} {found : Option ℕ} {held again : ℕ} (q : rest ≡ f ∷ more) (v : held ≡ version_in k ss f)
       (a : Telling found held (times_in f more) again) where
     passes_here : ltb version_most (held + (again + 1)) || overflowing (version_in k ss) more ≡ overflowing (version_in k ss) fields
     unfolding overflowing
@@ -221,7 +218,7 @@ module _ {k : Word} {fields rest : List Word} {ss : List Slot} {n : ℕ} (s : Su
     surveying_over h = rw (← passes_here, lt-ltb version_most (held + (again + 1)) h)
 
     -- or not
-    pub surveying_on : held + (again + 1) ≤ version_most → {r : ℕ} → found ≡ found_for (lowest_slot (holds k f) ss)
+    pub surveying_on : held + (again + 1) ≤ version_most → {r : ℕ} → found ≡ (lowest_slot (holds k f) ss)
         → r ≡ new_field found again
         → Surveying k fields more ss (n + r)
     surveying_on h g w =
@@ -322,24 +319,24 @@ module _ {now : ℕ} {k : Word} {pairs left : List Pair} {b d : List ℕ} (w : W
 -- ---- one pair
 
 -- the version that is held in the slot that was found
-pub version_sought : {b k f : List ℕ} {r : Found} {n : ℕ} → Sought b k f r → n ≡ held_version (entry_for (decode b).slots r)
+pub version_sought : {b k f : List ℕ} {r : Option ℕ} {n : ℕ} → Sought b k f r → n ≡ held_version (entry_for (decode b).slots r)
     → n ≡ version_in k (decode b).slots f
 unfolding version_in
 version_sought s q = q ∙ ap held_version (sym (sought_entry s))
 
 -- the entry that is placed is the pair's
-pub placed_entry : (k f v : Word) (ss : List Slot) {n : ℕ} → n ≡ version_in k ss f → entry k f v (n + 1) Never ≡ pair_entry k f v ss
+pub placed_entry : (k f v : Word) (ss : List Slot) {n : ℕ} → n ≡ version_in k ss f → entry k f v (n + 1) None ≡ pair_entry k f v ss
 unfolding written next_expiry
-placed_entry k f v ss q = ap (λ (m : ℕ). entry k f v m Never) (rw q (sym (next_is k (record { field = f; value = v }) ss)))
+placed_entry k f v ss q = ap (λ (m : ℕ). entry k f v m None) (rw q (sym (next_is k (record { field = f; value = v }) ss)))
 
 pub placed_pair : (now : ℕ) (k f v : Word) (s : Store) {n : ℕ} {d : List ℕ} → n ≡ version_in k s.slots f
-    → Holds d (with_put now (entry k f v (n + 1) Never) s) → Holds d (with_put now (pair_entry k f v s.slots) s)
+    → Holds d (with_put now (entry k f v (n + 1) None) s) → Holds d (with_put now (pair_entry k f v s.slots) s)
 placed_pair now k f v s {d = d} q h = subst (λ (e : Entry). Holds d (with_put now e s)) (placed_entry k f v s.slots q) h
 
 -- What the code knows of the field at i tells whether it passes the largest version.
 abbrev pub Passing : List ℕ → List (List ℕ) → List ℕ → Word → ℕ → Type 0
-Passing s places b k i = (f : Word) (found : Found) (held again : ℕ) → i + 1 < length places → f ≡ word_at i (words_in s places)
-    → found ≡ found_for (lowest_slot (holds k f) (decode b).slots) → held ≡ held_version (entry_for (decode b).slots found)
+Passing s places b k i = (f : Word) (found : Option ℕ) (held again : ℕ) → i + 1 < length places → f ≡ word_at i (words_in s places)
+    → found ≡ (lowest_slot (holds k f) (decode b).slots) → held ≡ held_version (entry_for (decode b).slots found)
     → Telling found held (times_in (word_at i (words_in s places)) (fields_in (drop (i + 2) (words_in s places)))) again → version_most < held + (again + 1)
     → surveys.Overflow ≡ survey_of k (fields_in (words_in s places)) (decode b).slots
 

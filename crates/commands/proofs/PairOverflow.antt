@@ -1,8 +1,8 @@
 -- The versions that an EXHMSET would write pass their largest exactly where the code's test of the fields says so, also where the store is too full.
+use Rattle.std.specs.Prelude.{Option, None, Some}
 use mathlib.Core.Path.{◌≡◌, refl, sym, ap, subst, ◌∙◌}
 use mathlib.Core.Bool.{Bool, true, false, cond, ◌||◌, and-false}
 use mathlib.Core.List.{List, [], ◌∷◌, map}
-use mathlib.Core.Option.{Option, none, some}
 use Prim.Native.Nat.{ℕ, suc, ◌+◌, ◌≤◌}
 use native.Mathlib.Omega.{arith}
 use borrow.Author.Tests.{le-ltb}
@@ -63,44 +63,44 @@ overflow_raised f version (g ∷ gs) = go (same g f) refl (overflow_raised f ver
 -- ---- what a pair does to the other fields
 
 module _ (now : ℕ) (e : Entry) (ss : List Slot) (a : Apart ss) (g : Word) (d : same e.field g ≡ false)
-    (alive : (x : Entry) → entry_of e.key g ss ≡ some x → live now x ≡ true) where
+    (alive : (x : Entry) → entry_of e.key g ss ≡ Some x → live now x ≡ true) where
   -- the entry of another field stays
-  stays : (x : Entry) → entry_of e.key g ss ≡ some x → entry_of e.key g (put now e ss) ≡ some x
+  stays : (x : Entry) → entry_of e.key g ss ≡ Some x → entry_of e.key g (put now e ss) ≡ Some x
   unfolding live_slot or_else holds
   stays x h =
       let s : Stands e.key g ss x = entry_some e.key g ss x h in
-      let away : holds e.key e.field (get_or ss s.slot none) ≡ false =
+      let away : holds e.key e.field (get_or ss s.slot None) ≡ false =
       rw s.here (simp (s.named.field, same_sym g e.field ∙ d, and-false)) in
-      let kept : get_or (put now e ss) s.slot none ≡ some x = put_keeps now e ss s.slot (rw s.here (alive x h)) away ∙ s.here in
-      subst (λ (k : Word). entry_of k g (put now e ss) ≡ some x) s.named.key
-      (subst (λ (f : Word). entry_of x.key f (put now e ss) ≡ some x) s.named.field
+      let kept : get_or (put now e ss) s.slot None ≡ Some x = put_keeps now e ss s.slot (rw s.here (alive x h)) away ∙ s.here in
+      subst (λ (k : Word). entry_of k g (put now e ss) ≡ Some x) s.named.key
+      (subst (λ (f : Word). entry_of x.key f (put now e ss) ≡ Some x) s.named.field
       (entry_is (put now e ss) s.slot x (put_apart now e ss a) kept))
 
   -- a missing one is missing
-  gone : entry_of e.key g ss ≡ none → entry_of e.key g (put now e ss) ≡ none
+  gone : entry_of e.key g ss ≡ None → entry_of e.key g (put now e ss) ≡ None
   unfolding put or_else holds
   gone h = go (slot_for now e.key e.field ss) refl
     where
-      at_slot : (i : ℕ) → slot_for now e.key e.field ss ≡ some i → (o : Option Entry) → entry_of e.key g (set ss i (some e)) ≡ o → o ≡ none
-      at_slot i q none r = refl
-      at_slot i q (some y) r =
-          let s : Stands e.key g (set ss i (some e)) y = entry_some e.key g (set ss i (some e)) y r in
-          absurd (other s (eqb s.slot i) (sym (get_d_set ss i (some e) (slot_place now e.key e.field ss i q).inside s.slot) ∙ s.here))
+      at_slot : (i : ℕ) → slot_for now e.key e.field ss ≡ Some i → (o : Option Entry) → entry_of e.key g (set ss i (Some e)) ≡ o → o ≡ None
+      at_slot i q None r = refl
+      at_slot i q (Some y) r =
+          let s : Stands e.key g (set ss i (Some e)) y = entry_some e.key g (set ss i (Some e)) y r in
+          absurd (other s (eqb s.slot i) (sym (get_d_set ss i (Some e) (slot_place now e.key e.field ss i q).inside s.slot) ∙ s.here))
         where
-          other : (s : Stands e.key g (set ss i (some e)) y) → (t : Bool) → cond t (some e) (get_or ss s.slot none) ≡ some y → ⊥
+          other : (s : Stands e.key g (set ss i (Some e)) y) → (t : Bool) → cond t (Some e) (get_or ss s.slot None) ≡ Some y → ⊥
           other s true z = let m : e ≡ y = cc in both_ways (rw (ap (λ (w : Entry). w.field) m, s.named.field, same_refl g) refl) d
           other s false z = both_ways (rw (z, s.named.key, s.named.field, same_refl e.key, same_refl g) refl) (entry_none e.key g ss h s.slot)
 
-      go : (o : Option ℕ) → slot_for now e.key e.field ss ≡ o → entry_of e.key g (or_else o ss (λ i. set ss i (some e))) ≡ none
-      go none q = h
-      go (some i) q = at_slot i q (entry_of e.key g (set ss i (some e))) refl
+      go : (o : Option ℕ) → slot_for now e.key e.field ss ≡ o → entry_of e.key g (or_else o ss (λ i. set ss i (Some e))) ≡ None
+      go None q = h
+      go (Some i) q = at_slot i q (entry_of e.key g (set ss i (Some e))) refl
 
   pub other_entry : entry_of e.key g (put now e ss) ≡ entry_of e.key g ss
   other_entry = go (entry_of e.key g ss) refl
     where
       go : (o : Option Entry) → entry_of e.key g ss ≡ o → entry_of e.key g (put now e ss) ≡ o
-      go none h = gone h
-      go (some x) h = stays x h
+      go None h = gone h
+      go (Some x) h = stays x h
 
 -- ---- the pairs
 
@@ -132,7 +132,7 @@ fields_of ps = map (λ p. p.field) ps
 -- slots in which no named field is dead, and versions that are near those of the slots
 record Tracks (now : ℕ) (k : Word) (ps : List Pair) (ss : List Slot) (version : Word → ℕ) : Type 0 where
   apart : Apart ss
-  alive : (g : Word) → named g (fields_of ps) ≡ true → (x : Entry) → entry_of k g ss ≡ some x → live now x ≡ true
+  alive : (g : Word) → named g (fields_of ps) ≡ true → (x : Entry) → entry_of k g ss ≡ Some x → live now x ≡ true
   near : (g : Word) → named g (fields_of ps) ≡ true → Near (length ps) (version g) (version_in k ss g)
 
 pub next_is : (k : Word) (p : Pair) (ss : List Slot) → (pair_entry k p.field p.value ss).version ≡ version_in k ss p.field + 1
@@ -140,16 +140,16 @@ unfolding written next_version version_in held_version or_else
 next_is k p ss = go (entry_of k p.field ss)
   where
     go : (o : Option Entry) → or_else o 1 (λ e. e.version + 1) ≡ or_else o 0 (λ e. e.version) + 1
-    go none = refl
-    go (some e) = refl
+    go None = refl
+    go (Some e) = refl
 
-slot_missing : (now : ℕ) (k f : Word) (ss : List Slot) → slot_for now k f ss ≡ none → entry_of k f ss ≡ none
+slot_missing : (now : ℕ) (k f : Word) (ss : List Slot) → slot_for now k f ss ≡ None → entry_of k f ss ≡ None
 unfolding slot_for or_else
 slot_missing now k f ss h = lowest_entry_none k f ss (go (lowest_slot (holds k f) ss) h)
   where
-    go : (o : Option ℕ) → or_else o (or_else (lowest_slot empty_slot ss) (lowest_slot (dead_slot now) ss) some) some ≡ none → o ≡ none
-    go none q = refl
-    go (some i) q = cc
+    go : (o : Option ℕ) → or_else o (or_else (lowest_slot empty_slot ss) (lowest_slot (dead_slot now) ss) Some) Some ≡ None → o ≡ None
+    go None q = refl
+    go (Some i) q = cc
 
 module _ (now : ℕ) (k : Word) (p : Pair) (ps : List Pair) (ss : List Slot) (version : Word → ℕ)
     (few : length ps ≤ words_most) (s : Tracks now k (p ∷ ps) ss version) where
@@ -169,15 +169,15 @@ module _ (now : ℕ) (k : Word) (p : Pair) (ps : List Pair) (ss : List Slot) (ve
   other g n d = other_entry now own ss s.apart g d (λ x h. s.alive g (later g n) x h)
 
   -- its own field afterwards: the entry that was put, or none, where there was none
-  itself : (P : Option Entry → Type 0) → P (some own) → (entry_of k p.field ss ≡ none → P none) → P (entry_of k p.field (put now own ss))
+  itself : (P : Option Entry → Type 0) → P (Some own) → (entry_of k p.field ss ≡ None → P None) → P (entry_of k p.field (put now own ss))
   unfolding own written
   itself P here nowhere = go (slot_for now k p.field ss) refl
     where
       go : (o : Option ℕ) → slot_for now k p.field ss ≡ o → P (entry_of k p.field (put now own ss))
-      go none q =
-          let missing : entry_of k p.field ss ≡ none = slot_missing now k p.field ss q in
+      go None q =
+          let missing : entry_of k p.field ss ≡ None = slot_missing now k p.field ss q in
           rw (put_nowhere now own ss q, missing) (nowhere missing)
-      go (some i) q = rw (put_entry now own ss i s.apart q) here
+      go (Some i) q = rw (put_entry now own ss i s.apart q) here
 
   near_own : Near (length ps) (raised p.field version p.field) (version_in k (put now own ss) p.field)
   unfolding version_in held_version or_else own
@@ -197,10 +197,10 @@ module _ (now : ℕ) (k : Word) (p : Pair) (ps : List Pair) (ss : List Slot) (ve
       }
     where
       alive_at : (g : Word) → named g (fields_of ps) ≡ true → (t : Bool) → same p.field g ≡ t → (x : Entry)
-          → entry_of k g (put now own ss) ≡ some x → live now x ≡ true
+          → entry_of k g (put now own ss) ≡ Some x → live now x ≡ true
       alive_at g n true q x h =
           let e : p.field ≡ g = same_true p.field g q in
-          itself (λ o. o ≡ some x → live now x ≡ true) (λ z. let m : own ≡ x = cc in rw (← m) refl) (λ u z. cc)
+          itself (λ o. o ≡ Some x → live now x ≡ true) (λ z. let m : own ≡ x = cc in rw (← m) refl) (λ u z. cc)
           (ap (λ (w : Word). entry_of k w (put now own ss)) e ∙ h)
       alive_at g n false q x h = s.alive g (later g n) x (sym (other g n q) ∙ h)
 
@@ -227,6 +227,6 @@ passing now k (p ∷ ps) ss version l s =
     (sym (overflow_raised p.field version (fields_of ps)))
 
 pub pairs_overflow : (now : ℕ) (k : Word) (ps : List Pair) (ss : List Slot) → length ps ≤ words_most → Apart ss
-    → ((g : Word) → named g (map (λ p. p.field) ps) ≡ true → (x : Entry) → entry_of k g ss ≡ some x → live now x ≡ true)
+    → ((g : Word) → named g (map (λ p. p.field) ps) ≡ true → (x : Entry) → entry_of k g ss ≡ Some x → live now x ≡ true)
     → any passes (writes_of now k ps ss) ≡ overflowing (version_in k ss) (map (λ p. p.field) ps)
 pairs_overflow now k ps ss l a alive = passing now k ps ss (version_in k ss) l (record { apart = a; alive = alive; near = λ g n. equal refl })

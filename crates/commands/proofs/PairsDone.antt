@@ -1,8 +1,8 @@
 -- What an EXHMSET comes to.
+use Rattle.std.specs.Prelude.{Some}
 use mathlib.Core.Path.{◌≡◌, refl, sym, ap, ◌∙◌}
 use mathlib.Core.Bool.{Bool, true, false, cond}
 use mathlib.Core.List.{List}
-use mathlib.Core.Option.{some}
 use Prim.Native.Nat.{ℕ, ◌≤◌}
 use native.Mathlib.Omega.{arith}
 use lib.Dec.{ltb}
@@ -45,7 +45,7 @@ module _ (now : ℕ) (k : Word) (ws : List Word) (s : Store) {b : List ℕ} (h :
   changes = writes_of now k pairs slots
 
   -- what is held of its fields is live
-  alive : (g : Word) → named g (fields_in ws) ≡ true → (x : Entry) → entry_of k g slots ≡ some x → live now x ≡ true
+  alive : (g : Word) → named g (fields_in ws) ≡ true → (x : Entry) → entry_of k g slots ≡ Some x → live now x ≡ true
   alive g n x q =
       found_alive now k (fields_in ws) s.slots g x (named_flip g (fields_in ws) ∙ n)
       (ap (λ (t : Store). entry_of k g t.slots) (sym h.means) ∙ q)

@@ -1,8 +1,8 @@
 -- What a command's checks say, and the ways in which its bytes are read.
+use Rattle.std.specs.Prelude.{Option, None, Some, unwrap_or}
 use mathlib.Core.Path.{◌≡◌, refl}
 use mathlib.Core.Bool.{Bool, true, false, cond, not, ◌&&◌}
 use mathlib.Core.List.{List, []}
-use mathlib.Core.Option.{Option, none, some, get_or}
 use Prim.Native.Nat.{ℕ, ◌≤◌, ◌<◌}
 use lib.Dec.{leb}
 use lib.ListN.{length}
@@ -25,7 +25,7 @@ use Rattle.commands.specs.ParsePromises.{is_refusal}
 
 -- A command that these checks refuse is refused with one of 13 to 18.
 pub checks_number : (form : Form) (count : Count) (ws : List Word) (scanned : Option (List Given)) (c : Command) (n : ℕ)
-    → first_applying (checks form count ws scanned c) ≡ some n → (13 ≤ n) × (n ≤ early_most)
+    → first_applying (checks form count ws scanned c) ≡ Some n → (13 ≤ n) × (n ≤ early_most)
 unfolding checks later_checks all
 checks_number form count ws scanned c n h = first_between 13 early_most (checks form count ws scanned c) n refl h
 
@@ -34,13 +34,13 @@ pub record Clear (form : Form) (count : Count) (ws : List Word) (scanned : Optio
   pub counted : not (count_fits count (length ws)) ≡ false
   pub short : too_long c ≡ false
   pub clean : or_else scanned true conflicting ≡ false
-  pub readable : not (or_else (number_range form) true (λ r. readable r (word_at 3 ws)) && all readable_operand (get_or scanned [])) ≡ false
+  pub readable : not (or_else (number_range form) true (λ r. readable r (word_at 3 ws)) && all readable_operand (unwrap_or scanned [])) ≡ false
   pub versioned : on_deed (λ d. is_zero (deed_versioning d)) c ≡ false
   pub timed : on_deed (λ d. beyond (deed_lifetime d)) c ≡ false
 
 -- Where none of 13 to 18 is given, none applies.
 pub checks_clear : (form : Form) (count : Count) (ws : List Word) (scanned : Option (List Given)) (c : Command)
-    → first_applying (checks form count ws scanned c) ≡ none → Clear form count ws scanned c
+    → first_applying (checks form count ws scanned c) ≡ None → Clear form count ws scanned c
 unfolding checks later_checks
 checks_clear form count ws scanned c h =
     let a = first_none _ _ h in
@@ -55,40 +55,40 @@ checks_clear form count ws scanned c h =
 
 -- not the protocol's array, the clock out of range, no command of that name, refused by 13 to 18, or accepted
 pub data Reads (now clock : ℕ) (s : List ℕ) : Parsed → Type 0 where
-  damaged : words_of s ≡ none → Reads now clock s (refused 10)
-  clock_out : (ws : List Word) → words_of s ≡ some ws → time_limit ≤ clock → Reads now clock s (refused 11)
-  unknown : (ws : List Word) → words_of s ≡ some ws → clock < time_limit → command_named commands (word_at 0 ws) ≡ none → Reads now clock s (refused 12)
+  damaged : words_of s ≡ None → Reads now clock s (refused 10)
+  clock_out : (ws : List Word) → words_of s ≡ Some ws → time_limit ≤ clock → Reads now clock s (refused 11)
+  unknown : (ws : List Word) → words_of s ≡ Some ws → clock < time_limit → command_named commands (word_at 0 ws) ≡ None → Reads now clock s (refused 12)
   checked :
-      (ws : List Word) (r : CommandRow) (n : ℕ) → words_of s ≡ some ws → clock < time_limit → command_named commands (word_at 0 ws) ≡ some r
-      → first_applying (checks_of now r ws) ≡ some n → Reads now clock s (refused n)
+      (ws : List Word) (r : CommandRow) (n : ℕ) → words_of s ≡ Some ws → clock < time_limit → command_named commands (word_at 0 ws) ≡ Some r
+      → first_applying (checks_of now r ws) ≡ Some n → Reads now clock s (refused n)
   passed :
-      (ws : List Word) (r : CommandRow) → words_of s ≡ some ws → clock < time_limit → command_named commands (word_at 0 ws) ≡ some r
-      → first_applying (checks_of now r ws) ≡ none → Reads now clock s (accepted (said_by now r.form ws))
+      (ws : List Word) (r : CommandRow) → words_of s ≡ Some ws → clock < time_limit → command_named commands (word_at 0 ws) ≡ Some r
+      → first_applying (checks_of now r ws) ≡ None → Reads now clock s (accepted (said_by now r.form ws))
 
-reads_row : (now clock : ℕ) (s : List ℕ) (ws : List Word) (r : CommandRow) → words_of s ≡ some ws → clock < time_limit
-    → command_named commands (word_at 0 ws) ≡ some r → Reads now clock s (parse_words now r ws)
+reads_row : (now clock : ℕ) (s : List ℕ) (ws : List Word) (r : CommandRow) → words_of s ≡ Some ws → clock < time_limit
+    → command_named commands (word_at 0 ws) ≡ Some r → Reads now clock s (parse_words now r ws)
 unfolding parse_words or_else
 reads_row now clock s ws r w k m = go (first_applying (checks_of now r ws)) refl
   where
     go : (o : Option ℕ) → first_applying (checks_of now r ws) ≡ o → Reads now clock s (or_else o (accepted (said_by now r.form ws)) refused)
-    go none e = passed ws r w k m e
-    go (some n) e = checked ws r n w k m e
+    go None e = passed ws r w k m e
+    go (Some n) e = checked ws r n w k m e
 
-reads_named : (now clock : ℕ) (s : List ℕ) (ws : List Word) → words_of s ≡ some ws → clock < time_limit
+reads_named : (now clock : ℕ) (s : List ℕ) (ws : List Word) → words_of s ≡ Some ws → clock < time_limit
     → Reads now clock s (or_else (command_named commands (word_at 0 ws)) (refused 12) λ r. parse_words now r ws)
 unfolding or_else
 reads_named now clock s ws w k = go (command_named commands (word_at 0 ws)) refl
   where
     go : (o : Option CommandRow) → command_named commands (word_at 0 ws) ≡ o → Reads now clock s (or_else o (refused 12) λ r. parse_words now r ws)
-    go none e = unknown ws w k e
-    go (some r) e = reads_row now clock s ws r w k e
+    go None e = unknown ws w k e
+    go (Some r) e = reads_row now clock s ws r w k e
 
 -- Every command is read in one of the five ways.
 pub reads : (now clock : ℕ) (s : List ℕ) → Reads now clock s (parse now clock s)
 unfolding parse or_else
 reads now clock s = go (words_of s) refl
   where
-    at : (ws : List Word) (t : Bool) → words_of s ≡ some ws → leb time_limit clock ≡ t
+    at : (ws : List Word) (t : Bool) → words_of s ≡ Some ws → leb time_limit clock ≡ t
         → Reads now clock s (cond t (refused 11) (or_else (command_named commands (word_at 0 ws)) (refused 12) λ r. parse_words now r ws))
     at ws true e f = clock_out ws e (leb-true time_limit clock f)
     at ws false e f = reads_named now clock s ws e (leb-false time_limit clock f)
@@ -98,8 +98,8 @@ reads now clock s = go (words_of s) refl
         (or_else o (refused 10) λ ws.
         cond (leb time_limit clock) (refused 11)
         (or_else (command_named commands (word_at 0 ws)) (refused 12) λ r. parse_words now r ws))
-    go none e = damaged e
-    go (some ws) e = at ws (leb time_limit clock) e refl
+    go None e = damaged e
+    go (Some ws) e = at ws (leb time_limit clock) e refl
 
 reads_refused : {now clock : ℕ} {s : List ℕ} {p : Parsed} (n : ℕ) → Reads now clock s p → p ≡ refused n → (early_least ≤ n) × (n ≤ early_most)
 reads_refused n (damaged w) e = let m : n ≡ 10 = cc in omega arith
@@ -133,10 +133,10 @@ parse_known now clock s n e = reads_known n (reads now clock s) e
 pub record Accepted (now clock : ℕ) (s : List ℕ) (c : Command) : Type 0 where
   pub words : List Word
   pub row : CommandRow
-  pub split : words_of s ≡ some words
+  pub split : words_of s ≡ Some words
   pub early : clock < time_limit
-  pub named : command_named commands (word_at 0 words) ≡ some row
-  pub clear : first_applying (checks_of now row words) ≡ none
+  pub named : command_named commands (word_at 0 words) ≡ Some row
+  pub clear : first_applying (checks_of now row words) ≡ None
   pub built : said_by now row.form words ≡ c
 
 -- An accepted command has passed them.

@@ -1,20 +1,18 @@
 -- Each family of commands, from the scan of its options to what it says.
+use Rattle.std.specs.Prelude.{Option, None, Some, option_map, is_some}
 use mathlib.Core.Path.{◌≡◌, refl, sym, ap, ◌∙◌}
 use mathlib.Core.Bool.{Bool, true, false, cond, ◌&&◌, and-true, and-false}
 use mathlib.Core.List.{List, [], ◌∷◌}
-use mathlib.Core.Option.{Option, none, some}
 use Prim.Native.Nat.{ℕ, ◌≤◌, ◌<◌}
 use native.Mathlib.Omega.{arith}
 use borrow.Author.Tests.{lt-ltb, le-ltb}
 use lib.IntN.{ℤ, pos}
 use lib.ListN.{get_or, drop, get_or-eq_default}
 use Rattle.wire.specs.declared.integers.Signed.{Signed}
-use Rattle.wire.specs.declared.integers.Integer.{Integer}
-use Rattle.wire.specs.declared.integers.Integer.TheVariants as integers
-use Rattle.wire.specs.Lists.{all, is_some, or_else}
+use Rattle.wire.specs.Lists.{all, or_else}
 use Rattle.wire.specs.Integers.{read_integer, lowest64, highest64}
 use Rattle.wire.specs.Words.{Word, word_at}
-use Rattle.wire.specs.Promises.{integer_for, integer_of}
+use Rattle.wire.specs.Promises.{integer_of, signed_for}
 use Rattle.wire.proofs.Lists.{impossible}
 use Rattle.store.specs.Layout.{time_limit, version_most}
 use Rattle.commands.specs.declared.Condition.{Condition}
@@ -77,37 +75,37 @@ module _ (time : ℕ) {ws : List Word} {r : ScannedOptions} (y : Ready set_form 
 
 -- ---- EXHINCRBY
 
-sum_refused : (a l g : Integer) → sum_for a l g ≡ addeds.Refused → has_read a && (has_read l && has_read g) ≡ false
+sum_refused : (a l g : Option Signed) → sum_for a l g ≡ addeds.Refused → has_read a && (has_read l && has_read g) ≡ false
 unfolding sum_for on_integer has_read
-sum_refused (integers.Value x) (integers.Value y) (integers.Value z) e = impossible cc
-sum_refused (integers.Value x) (integers.Value y) integers.Refused e = refl
-sum_refused (integers.Value x) integers.Refused g e = refl
-sum_refused integers.Refused l g e = refl
+sum_refused (Some x) (Some y) (Some z) e = impossible cc
+sum_refused (Some x) (Some y) None e = refl
+sum_refused (Some x) None g e = refl
+sum_refused None l g e = refl
 
-pub sum_value : (a l g : Integer) (s : Sum) → sum_for a l g ≡ addeds.Value s
-    → (a ≡ integers.Value s.amount) × (l ≡ integers.Value s.least) × (g ≡ integers.Value s.greatest)
+pub sum_value : (a l g : Option Signed) (s : Sum) → sum_for a l g ≡ addeds.Value s
+    → (a ≡ Some s.amount) × (l ≡ Some s.least) × (g ≡ Some s.greatest)
 unfolding sum_for on_integer
-sum_value (integers.Value x) (integers.Value y) (integers.Value z) s e =
+sum_value (Some x) (Some y) (Some z) s e =
     let q : ◌≡◌ {A = Sum} (record { amount = x; least = y; greatest = z }) s = cc in
     (rw (← q), rw (← q), rw (← q))
-sum_value (integers.Value x) (integers.Value y) integers.Refused s e = impossible cc
-sum_value (integers.Value x) integers.Refused g s e = impossible cc
-sum_value integers.Refused l g s e = impossible cc
+sum_value (Some x) (Some y) None s e = impossible cc
+sum_value (Some x) None g s e = impossible cc
+sum_value None l g s e = impossible cc
 
 -- what the code answers at each of the three
-pub sum_0 : (a l g : Integer) → a ≡ integers.Refused → addeds.Refused ≡ sum_for a l g
+pub sum_0 : (a l g : Option Signed) → a ≡ None → addeds.Refused ≡ sum_for a l g
 unfolding sum_for on_integer
 sum_0 a l g e = rw e
 
-pub sum_1 : (a l g : Integer) (x : Signed) → a ≡ integers.Value x → l ≡ integers.Refused → addeds.Refused ≡ sum_for a l g
+pub sum_1 : (a l g : Option Signed) (x : Signed) → a ≡ Some x → l ≡ None → addeds.Refused ≡ sum_for a l g
 unfolding sum_for on_integer
 sum_1 a l g x e f = rw (e, f)
 
-pub sum_2 : (a l g : Integer) (x y : Signed) → a ≡ integers.Value x → l ≡ integers.Value y → g ≡ integers.Refused → addeds.Refused ≡ sum_for a l g
+pub sum_2 : (a l g : Option Signed) (x y : Signed) → a ≡ Some x → l ≡ Some y → g ≡ None → addeds.Refused ≡ sum_for a l g
 unfolding sum_for on_integer
 sum_2 a l g x y e f h = rw (e, f, h)
 
-pub sum_3 : (a l g : Integer) (x y z : Signed) → a ≡ integers.Value x → l ≡ integers.Value y → g ≡ integers.Value z
+pub sum_3 : (a l g : Option Signed) (x y z : Signed) → a ≡ Some x → l ≡ Some y → g ≡ Some z
     → addeds.Value (record { amount = x; least = y; greatest = z }) ≡ sum_for a l g
 unfolding sum_for on_integer
 sum_3 a l g x y z e f h = rw (e, f, h)
@@ -130,10 +128,10 @@ module _ (time : ℕ) {ws : List Word} {r : ScannedOptions} (y : Ready increment
   abbrev amount : Option ℤ
   amount = read_integer lowest64 highest64 (word_at 3 ws)
 
-  abbrev low : Integer
+  abbrev low : Option Signed
   low = bound_given lowest_signed min_group ws r
 
-  abbrev high : Integer
+  abbrev high : Option Signed
   high = bound_given highest_signed max_group ws r
 
   increment_all : all_read increment_form ws
@@ -153,16 +151,16 @@ module _ (time : ℕ) {ws : List Word} {r : ScannedOptions} (y : Ready increment
     pub increment_unread : x ≡ addeds.Refused → meant ws (parses.Refused 16) ≡ parse_rest time increment_form ws
     unfolding sum_of
     increment_unread q =
-        let no-sum : has_read (integer_for amount) && (has_read low && has_read high) ≡ false = sum_refused (integer_for amount) low high (sym ex ∙ q) in
+        let no-sum : has_read (option_map signed_for amount) && (has_read low && has_read high) ≡ false = sum_refused (option_map signed_for amount) low high (sym ex ∙ q) in
         rest_16 time increment_form ws y.clean
         (increment_all
         ∙ one_fails (is_some amount) (number_read expiry_group) (number_read version_group) (number_read min_group) (number_read max_group)
         (rw (integer_read amount, low_read, high_read) at no-sum))
 
     module _ {sum : Sum} (es : x ≡ addeds.Value sum) {m : Terms} (em : m ≡ terms_for time (given_at ws r expiry_group) (given_at ws r version_group)) where
-      parts : (integer_for amount ≡ integers.Value sum.amount) × (low ≡ integers.Value sum.least) × (high ≡ integers.Value sum.greatest)
+      parts : (option_map signed_for amount ≡ Some sum.amount) × (low ≡ Some sum.least) × (high ≡ Some sum.greatest)
       unfolding sum_of
-      parts = sum_value (integer_for amount) low high sum (sym ex ∙ es)
+      parts = sum_value (option_map signed_for amount) low high sum (sym ex ∙ es)
 
       increment_left : all_read increment_form ws ≡ number_read expiry_group && number_read version_group
       unfolding has_read
@@ -211,17 +209,15 @@ module _ (time unit : ℕ) {ws : List Word} {r : ScannedOptions} (y : Ready (exp
   unfolding allowed number_range or_else all readable read_in
   expire_all = ap (λ b. is_some number && b) y.read
 
-  pub expire_unread : number ≡ none → meant ws (parses.Refused 16) ≡ parse_rest time (expiring unit) ws
-  unfolding is_some
+  pub expire_unread : number ≡ None → meant ws (parses.Refused 16) ≡ parse_rest time (expiring unit) ws
   expire_unread e = rest_16 time (expiring unit) ws y.clean (expire_all ∙ rw e)
 
   module _ {v : Versioned} (ev : v ≡ versioned_for (given_at ws r version_group)) where
     pub expire_unversioned : v ≡ versioneds.Refused → meant ws (parses.Refused 16) ≡ parse_rest time (expiring unit) ws
     expire_unversioned q = rest_16 time (expiring unit) ws y.clean (expire_all ∙ rw (version_refused y ev q, and-false (is_some number)))
 
-    module _ {k : ℕ} (ek : number ≡ some (pos k)) {n : Versioning} (en : v ≡ versioneds.Value n) where
+    module _ {k : ℕ} (ek : number ≡ Some (pos k)) {n : Versioning} (en : v ≡ versioneds.Value n) where
       expire_read : all_read (expiring unit) ws ≡ true
-      unfolding is_some
       expire_read = expire_all ∙ rw (ek, (version_said y ev en).0)
 
       pub expire_zero : {b : Bool} → b ≡ is_zero n → b ≡ true → meant ws (parses.Refused 17) ≡ parse_rest time (expiring unit) ws
@@ -253,12 +249,12 @@ module _ (time : ℕ) (ws : List Word) where
   unfolding allowed option_words scan or_else conflicting
   renumber_clean = refl
 
-  pub renumber_unread : read_integer (pos 0) (pos version_most) (word_at 3 ws) ≡ none → meant ws (parses.Refused 16) ≡ parse_rest time renumber_form ws
-  unfolding number_range or_else readable read_in is_some
+  pub renumber_unread : read_integer (pos 0) (pos version_most) (word_at 3 ws) ≡ None → meant ws (parses.Refused 16) ≡ parse_rest time renumber_form ws
+  unfolding number_range or_else readable read_in
   renumber_unread e = rest_16 time renumber_form ws renumber_clean (rw e)
 
-  pub renumber_done : (n : ℕ) → read_integer (pos 0) (pos version_most) (word_at 3 ws) ≡ some (pos n) → meant ws (parses.OnField (fieldDeeds.Renumber n)) ≡ parse_rest time renumber_form ws
-  unfolding allowed option_words scan number_range or_else readable read_in is_some all build meant deed_of natural_in number_in on_deed deed_versioning is_zero deed_lifetime beyond
+  pub renumber_done : (n : ℕ) → read_integer (pos 0) (pos version_most) (word_at 3 ws) ≡ Some (pos n) → meant ws (parses.OnField (fieldDeeds.Renumber n)) ≡ parse_rest time renumber_form ws
+  unfolding allowed option_words scan number_range or_else readable read_in all build meant deed_of natural_in number_in on_deed deed_versioning is_zero deed_lifetime beyond
   renumber_done n e = rw e at (rest_said time renumber_form ws renumber_clean (rw e) refl refl)
 
 -- ---- EXHLEN
@@ -288,22 +284,22 @@ module _ (time : ℕ) {ws : List Word} {r : ScannedOptions} (y : Ready count_for
       no_deed test false = refl
 
   pub count_live_lem : get_or r.said no_exp_group 0 < not_given → meant ws (parses.OnKey keyDeeds.CountLive) ≡ parse_rest time count_form ws
-  unfolding meant command_for is_some
+  unfolding meant command_for
   count_live_lem l = count_said true (rw (y.given no_exp_group (omega arith), option_some ws no_exp_group _ _ l))
 
   pub count_held_lem : not_given ≤ get_or r.said no_exp_group 0 → meant ws (parses.OnKey keyDeeds.CountHeld) ≡ parse_rest time count_form ws
-  unfolding meant command_for is_some
+  unfolding meant command_for
   count_held_lem l = count_said false (rw (y.given no_exp_group (omega arith), option_none ws no_exp_group _ _ l))
 
 -- ---- commands of fixed words with no number among them
 
 module _ (time : ℕ) (ws : List Word) where
   -- a form that has no options and no number
-  fixed : (f : Form) → option_words f ws ≡ [] → number_range f ≡ none → (c : Command) → build time f ws [] ≡ c
+  fixed : (f : Form) → option_words f ws ≡ [] → number_range f ≡ None → (c : Command) → build time f ws [] ≡ c
       → on_deed (λ d. is_zero (deed_versioning d)) c ≡ false → on_deed (λ d. beyond (deed_lifetime d)) c ≡ false → accepted c ≡ parse_rest time f ws
   unfolding scan or_else conflicting all
   fixed f words number c ec z b =
-      let scanned : scan (allowed f) none (option_words f ws) ≡ some [] = rw words in
+      let scanned : scan (allowed f) None (option_words f ws) ≡ Some [] = rw words in
       let said : said_by time f ws ≡ c = rw scanned ec in
       rw (← said) (rest_said time f ws (rw scanned) (rw (scanned, number)) (rw said z) (rw said b))
 

@@ -1,16 +1,14 @@
 -- From a command's bytes to the checks of its row.
+use Rattle.std.specs.Prelude.{Option, None, Some}
 use mathlib.Core.Path.{◌≡◌, sym, ap, ◌∙◌}
 use mathlib.Core.Bool.{Bool, true, false, not}
 use mathlib.Core.List.{List}
-use mathlib.Core.Option.{Option, none, some}
 use Prim.Native.Nat.{ℕ, ◌≤◌, ◌<◌}
 use borrow.Author.Tests.{not-true, not-false, le-leb, lt-leb, ne_eqb}
 use lib.ListN.{length}
-use Rattle.wire.specs.declared.names.RowFound.{RowFound}
-use Rattle.wire.specs.declared.names.RowFound.TheVariants as rows
 use Rattle.wire.specs.Lists.{or_else}
 use Rattle.wire.specs.Words.{Word, words_of, word_at}
-use Rattle.wire.specs.Promises.{words_in, row_for, row_named}
+use Rattle.wire.specs.Promises.{words_in, row_named}
 use Rattle.wire.proofs.NameRows.{row_nothing, row_at}
 use Rattle.wire.proofs.WordPlaces.{length_words}
 use Rattle.store.specs.Layout.{time_limit}
@@ -37,7 +35,7 @@ module _ (time i : ℕ) (ws : List Word) where
   abbrev refusal : Option ℕ
   refusal = first_applying (checks (command_of i).form (command_of i).count ws (scanned_of (command_of i).form ws) said)
 
-  words_refused : (n : ℕ) → refusal ≡ some n → parse_words time (command_of i) ws ≡ refused n
+  words_refused : (n : ℕ) → refusal ≡ Some n → parse_words time (command_of i) ws ≡ refused n
   unfolding parse_words or_else
   words_refused n e = rw e
 
@@ -65,30 +63,30 @@ module _ {s : List ℕ} {places : List (List ℕ)} (p : Divided s places) (time 
   pub parse_10 : length places ≡ 0 → meant words (parses.Refused 10) ≡ P.parse time clock s
   unfolding meant P.parse or_else
   parse_10 e =
-      let damaged : words_of s ≡ none = p.words ∙ rw e in
+      let damaged : words_of s ≡ None = p.words ∙ rw e in
       rw damaged
 
   module _ (n : length places ≡ 0 → ⊥) where
-    whole : words_of s ≡ some words
+    whole : words_of s ≡ Some words
     whole = p.words ∙ rw (ne_eqb (length places) 0 n)
 
     pub parse_11 : time_limit ≤ clock → meant words (parses.Refused 11) ≡ P.parse time clock s
     unfolding meant P.parse or_else
     parse_11 l = rw (whole, le-leb time_limit clock l)
 
-    module _ (l : clock < time_limit) {w : Word} (ew : w ≡ word_at 0 words) {r : RowFound} (er : r ≡ row_for (row_named command_table w)) where
+    module _ (l : clock < time_limit) {w : Word} (ew : w ≡ word_at 0 words) {r : Option ℕ} (er : r ≡ (row_named command_table w)) where
       named : P.parse time clock s ≡ or_else (command_named commands (word_at 0 words)) (refused 12) (λ c. parse_words time c words)
       unfolding P.parse or_else
       named = rw (whole, lt-leb time_limit clock l)
 
-      pub parse_12 : r ≡ rows.Nothing → meant words (parses.Refused 12) ≡ P.parse time clock s
+      pub parse_12 : r ≡ None → meant words (parses.Refused 12) ≡ P.parse time clock s
       unfolding meant or_else
       parse_12 h =
-          let unknown : row_named command_table (word_at 0 words) ≡ none = row_nothing (row_named command_table (word_at 0 words)) (rw ew at (sym er ∙ h)) in
+          let unknown : row_named command_table (word_at 0 words) ≡ None = row_nothing (row_named command_table (word_at 0 words)) (rw ew at (sym er ∙ h)) in
           rw (named, command_row (word_at 0 words), unknown)
 
-      module _ (i : ℕ) (h : r ≡ rows.At i) where
-        numbered_so : row_named command_table (word_at 0 words) ≡ some i
+      module _ (i : ℕ) (h : r ≡ Some i) where
+        numbered_so : row_named command_table (word_at 0 words) ≡ Some i
         numbered_so = row_at (row_named command_table (word_at 0 words)) i (rw ew at (sym er ∙ h))
 
         known : P.parse time clock s ≡ parse_words time (command_of i) words

@@ -1,9 +1,8 @@
 -- From the words of a command to what it says: checks 15 to 18, and what the options that were given say.
+use Rattle.std.specs.Prelude.{Option, None, Some, option_map, unwrap_or, is_some}
 use mathlib.Core.Path.{◌≡◌, refl, sym, ap, ◌∙◌}
 use mathlib.Core.Bool.{Bool, true, false, cond, not, ◌&&◌}
 use mathlib.Core.List.{List, []}
-use mathlib.Core.Option
-use mathlib.Core.Option.{Option, none, some}
 use Prim.Native.Nat.{ℕ, ◌≤◌, ◌<◌}
 use native.Mathlib.Omega.{arith}
 use borrow.Author.Tests.{ltb-true, ltb-false}
@@ -11,12 +10,10 @@ use lib.Dec.{ltb}
 use lib.IntN.{ℤ, pos}
 use lib.ListN.{get_or, drop}
 use Rattle.wire.specs.declared.integers.Signed.{Signed}
-use Rattle.wire.specs.declared.integers.Integer.{Integer}
-use Rattle.wire.specs.declared.integers.Integer.TheVariants as integers
-use Rattle.wire.specs.Lists.{all, is_some, or_else}
+use Rattle.wire.specs.Lists.{all, or_else}
 use Rattle.wire.specs.Integers.{read_integer, lowest64, highest64}
 use Rattle.wire.specs.Words.{Word, word_at}
-use Rattle.wire.specs.Promises.{signed_for, integer_for, integer_of}
+use Rattle.wire.specs.Promises.{signed_for, integer_of}
 use Rattle.wire.proofs.Lists.{impossible}
 use Rattle.wire.proofs.IntegerSigns.{sign_said}
 use Rattle.commands.specs.declared.Condition.TheVariants as conditions
@@ -45,7 +42,7 @@ use Rattle.commands.proofs.OptionsOneEach.{scan_allowed, all_groups}
 
 -- the options of a command of a form, and the command that they and its words say
 abbrev pub given_in : Form → List Word → List Given
-given_in f ws = Option.get_or (scanned_of f ws) []
+given_in f ws = unwrap_or (scanned_of f ws) []
 
 -- the tests of 15 to 18; the one of 16 passes where all numbers are read
 abbrev pub unclean : Form → List Word → Bool
@@ -65,11 +62,11 @@ module _ (time : ℕ) (f : Form) (ws : List Word) where
   abbrev refusal : Option ℕ
   refusal = first_applying (later_checks f ws (scanned_of f ws) (said_by time f ws))
 
-  rest_refused : (n : ℕ) → refusal ≡ some n → meant ws (parses.Refused n) ≡ parse_rest time f ws
+  rest_refused : (n : ℕ) → refusal ≡ Some n → meant ws (parses.Refused n) ≡ parse_rest time f ws
   unfolding meant parse_rest or_else
   rest_refused n e = rw e
 
-  rest_passed : refusal ≡ none → accepted (said_by time f ws) ≡ parse_rest time f ws
+  rest_passed : refusal ≡ None → accepted (said_by time f ws) ≡ parse_rest time f ws
   unfolding parse_rest or_else
   rest_passed e = rw e
 
@@ -110,7 +107,7 @@ pub record Ready (f : Form) (ws : List Word) (r : ScannedOptions) : Type 0 where
   pub read : all readable_operand (given_in f ws) ≡ all (λ n. read_of (given_of n (given_in f ws))) (allowed f)
 
 module _ {f : Form} {al : List ℕ} {from : ℕ} (k : Takes f al from) {ws : List Word} {r : ScannedOptions} (s : Scanned ws al from r) where
-  same_scan : scan al none (drop from ws) ≡ scanned_of f ws
+  same_scan : scan al None (drop from ws) ≡ scanned_of f ws
   same_scan = rw (k.groups, k.words ws)
 
   refusal_so : r.refusal ≡ cond (unclean f ws) 15 0
@@ -169,11 +166,11 @@ module _ (x : Option Given) {v : Versioned} (e : v ≡ versioned_for x) where
 
 -- what the code answers of both, x of the expiry and y of the version
 module _ (time : ℕ) (x y : Option Given) where
-  terms_given : (n : ℕ) → first_applying (term_checks time x y) ≡ some n → terms.Refused n ≡ terms_for time x y
+  terms_given : (n : ℕ) → first_applying (term_checks time x y) ≡ Some n → terms.Refused n ≡ terms_for time x y
   unfolding terms_for or_else
   terms_given n e = rw e
 
-  terms_passed : first_applying (term_checks time x y) ≡ none → terms.Value (version_by y) (lifetime_by time x) ≡ terms_for time x y
+  terms_passed : first_applying (term_checks time x y) ≡ None → terms.Value (version_by y) (lifetime_by time x) ≡ terms_for time x y
   unfolding terms_for or_else
   terms_passed e = rw e
 
@@ -213,19 +210,18 @@ module _ (time : ℕ) (x y : Option Given) where
               (terms_passed (check_passed _ _ both_read ∙ check_passed _ _ (zero_so false eb qb) ∙ check_passed _ _ (late_so false e q) ∙ checks_end))
 
 -- whether an integer was read
-unfoldable pub has_read : Integer → Bool
-has_read (integers.Value z) = true
-has_read integers.Refused = false
+unfoldable pub has_read : Option Signed → Bool
+has_read (Some z) = true
+has_read None = false
 
-pub integer_read : (o : Option ℤ) → has_read (integer_for o) ≡ is_some o
-unfolding has_read integer_for is_some
-integer_read none = refl
-integer_read (some z) = refl
+pub integer_read : (o : Option ℤ) → has_read (option_map signed_for o) ≡ is_some o
+unfolding has_read
+integer_read None = refl
+integer_read (Some z) = refl
 
-pub integer_value : (o : Option ℤ) (z : Signed) → integer_for o ≡ integers.Value z → Option.get_or o (pos 0) ≡ integer_of z
-unfolding integer_for
-integer_value none z e = impossible cc
-integer_value (some k) z e =
+pub integer_value : (o : Option ℤ) (z : Signed) → option_map signed_for o ≡ Some z → unwrap_or o (pos 0) ≡ integer_of z
+integer_value None z e = impossible cc
+integer_value (Some k) z e =
     let q : signed_for k ≡ z = cc in
     rw (← q) (sym (sign_said k))
 
@@ -255,13 +251,13 @@ module _ {f : Form} {ws : List Word} {r : ScannedOptions} (y : Ready f ws r) whe
   condition_said = rw (y.given condition_group (omega arith)) (go (ltb (said condition_group) not_given))
     where
       go : (t : Bool)
-          → or_else (cond t (some (numbered ws condition_group (said condition_group) (operand condition_group))) none) conditions.Always (λ g. condition_of g.kind)
+          → or_else (cond t (Some (numbered ws condition_group (said condition_group) (operand condition_group))) None) conditions.Always (λ g. condition_of g.kind)
           ≡ cond t (condition_of (kind_in condition_group (said condition_group))) conditions.Always
       go true = refl
       go false = refl
 
   -- what takes no operand has none to be read
-  pub bare_read : (n : ℕ) → n < group_count → ((s : ℕ) → operand_range (kind_in n s) ≡ none) → read_of (found n) ≡ true
+  pub bare_read : (n : ℕ) → n < group_count → ((s : ℕ) → operand_range (kind_in n s) ≡ None) → read_of (found n) ≡ true
   unfolding read_of or_else readable_operand numbered
   bare_read n l h = rw (y.given n l) (go (ltb (said n) not_given) refl)
     where
@@ -274,26 +270,26 @@ module _ {f : Form} {ws : List Word} {r : ScannedOptions} (y : Ready f ws r) whe
     abbrev number : Option ℤ
     number = read_integer lowest64 highest64 (word_at (operand n) ws)
 
-    given_bound : said n < not_given → found n ≡ some (bound n with word_at (operand n) ws)
-    unfolding numbered operand_range is_some
+    given_bound : said n < not_given → found n ≡ Some (bound n with word_at (operand n) ws)
+    unfolding numbered operand_range
     given_bound h = y.given n l ∙ option_some ws n (said n) (operand n) h ∙ rw (m (said n))
 
-    given_none : not_given ≤ said n → found n ≡ none
+    given_none : not_given ≤ said n → found n ≡ None
     given_none h = y.given n l ∙ option_none ws n (said n) (operand n) h
 
     pub bound_readable : has_read (bound_given u n ws r) ≡ read_of (found n)
     unfolding bound_given bound_for read_of or_else readable_operand operand_range readable read_in has_read
     bound_readable = go (ltb (said n) not_given) refl
       where
-        go : (t : Bool) → ltb (said n) not_given ≡ t → has_read (cond t (integer_for number) (integers.Value u)) ≡ read_of (found n)
+        go : (t : Bool) → ltb (said n) not_given ≡ t → has_read (cond t (option_map signed_for number) (Some u)) ≡ read_of (found n)
         go true q = rw (given_bound (ltb-true (said n) not_given q)) (integer_read number)
         go false q = rw (given_none (ltb-false (said n) not_given q))
 
-    pub bound_said : {z : Signed} → bound_given u n ws r ≡ integers.Value z → bound_in n (integer_of u) (given_in f ws) ≡ integer_of z
+    pub bound_said : {z : Signed} → bound_given u n ws r ≡ Some z → bound_in n (integer_of u) (given_in f ws) ≡ integer_of z
     unfolding bound_given bound_for bound_in or_else number_in read_in
     bound_said {z} e = go (ltb (said n) not_given) refl e
       where
-        go : (t : Bool) → ltb (said n) not_given ≡ t → cond t (integer_for number) (integers.Value u) ≡ integers.Value z
+        go : (t : Bool) → ltb (said n) not_given ≡ t → cond t (option_map signed_for number) (Some u) ≡ Some z
             → or_else (found n) (integer_of u) (λ g. number_in signed64 g.operand) ≡ integer_of z
         go true q k = rw (given_bound (ltb-true (said n) not_given q)) (integer_value number z k)
         go false q k =
@@ -324,8 +320,8 @@ module _ {f : Form} {ws : List Word} {r : ScannedOptions} (y : Ready f ws r) whe
       where
         go : (o : Option ℕ) → or_else o (terms.Value (versioning (given_in f ws)) (lifetime time (given_in f ws))) terms.Refused ≡ terms.Refused n
             → refused n ≡ or_else o (accepted (said_by time f ws)) refused
-        go none k = impossible cc
-        go (some j) k = cc
+        go None k = impossible cc
+        go (Some j) k = cc
 
     pub terms_said : {v : Versioning} {l : Lifetime} → m ≡ terms.Value v l
         → (accepted (said_by time f ws) ≡ parse_rest time f ws) × (versioning (given_in f ws) ≡ v) × (lifetime time (given_in f ws) ≡ l)
@@ -334,5 +330,5 @@ module _ {f : Form} {ws : List Word} {r : ScannedOptions} (y : Ready f ws r) whe
       where
         go : (o : Option ℕ) → or_else o (terms.Value (versioning (given_in f ws)) (lifetime time (given_in f ws))) terms.Refused ≡ terms.Value v l
             → (accepted (said_by time f ws) ≡ or_else o (accepted (said_by time f ws)) refused) × (versioning (given_in f ws) ≡ v) × (lifetime time (given_in f ws) ≡ l)
-        go none k = (refl, cc, cc)
-        go (some j) k = impossible cc
+        go None k = (refl, cc, cc)
+        go (Some j) k = impossible cc

@@ -1,9 +1,8 @@
 -- The replies of refused commands and those about one field: their bytes, and how many there are.
+use Rattle.std.specs.Prelude.{Option, None, Some, unwrap_or}
 use mathlib.Core.Path.{◌≡◌, refl}
 use mathlib.Core.Bool.{Bool, true, false, cond, ◌&&◌}
 use mathlib.Core.List.{List, [], ◌∷◌}
-use mathlib.Core.Option
-use mathlib.Core.Option.{Option, none, some}
 use Prim.Native.Nat.{◌<◌, ◌^◌, ℕ, zero, suc, ◌-◌, ◌*◌, ◌/◌, ◌≤◌, ◌+◌}
 use lib.Pow.{are_bytes}
 use lib.Dec.{leb, eqb}
@@ -19,8 +18,6 @@ use Rattle.wire.specs.Replies.{nil, line, integer, number, bulk, array}
 use Rattle.wire.proofs.Lists.{and_left, and_right}
 use Rattle.wire.proofs.ReplyLaws.{bytes_nil, bytes_integer, bytes_bulk, bytes_array, length_number, length_bulk, length_array, length_nil, length_integer, length_integer64}
 use Rattle.store.specs.Layout.{time_limit}
-use Rattle.store.specs.declared.Expiry.{Expiry}
-use Rattle.store.specs.declared.Expiry.TheVariants.{Never, At}
 use Rattle.store.specs.Store.{Entry, Slot, instant_of}
 use Rattle.store.specs.Time.{key_exists}
 use Rattle.store.specs.Valid.{Fits, FitsSlot}
@@ -91,10 +88,10 @@ minus_short n h = record { short = length_integer 1 (negsuc n) (omega arith) (om
 pub few_short : (n : ℕ) → n ≤ 999 → Bounded 6 (number n)
 few_short n h = number_short 3 n (omega arith) (omega arith)
 
-left_short : (now unit : ℕ) (x : Expiry) → ((n : ℕ) → n / unit ≤ n) → instant_of x ≤ time_limit → Bounded 16 (integer (time_left now unit x))
+left_short : (now unit : ℕ) (x : Option ℕ) → ((n : ℕ) → n / unit ≤ n) → instant_of x ≤ time_limit → Bounded 16 (integer (time_left now unit x))
 unfolding time_left instant_of
-left_short now unit Never d h = loosen 16 (omega arith) (minus_short 0 (omega arith))
-left_short now unit (At t) d h = number_short 13 ((t - now) / unit) (omega arith) (omega (arith, d (t - now)))
+left_short now unit None d h = loosen 16 (omega arith) (minus_short 0 (omega arith))
+left_short now unit (Some t) d h = number_short 13 ((t - now) / unit) (omega arith) (omega (arith, d (t - now)))
 
 -- An array of elements of at most m bytes each
 pub array_short : (d m : ℕ) (xs : List (List ℕ)) → 1 ≤ d → length xs < 10 ^ d
@@ -106,30 +103,30 @@ array_short d m xs one small each =
 pub answer_short : (now : ℕ) (ss : List Slot) (k : Word) (q : Question) (found : Option Entry) → FitsSlot found
     → Bounded answer_most (reply now ss k q found)
 unfolding reply or_else
-answer_short now ss k Value none h = loosen answer_most (omega arith) nil_short
-answer_short now ss k Value (some e) h = loosen answer_most (omega arith) (value_short e h)
-answer_short now ss k Length none h = loosen answer_most (omega arith) (few_short 0 (omega arith))
-answer_short now ss k Length (some e) h = loosen answer_most (omega arith) (few_short (length e.value) (omega (arith, h.short.value)))
-answer_short now ss k Exists none h = loosen answer_most (omega arith) (few_short 0 (omega arith))
-answer_short now ss k Exists (some e) h = loosen answer_most (omega arith) (few_short 1 (omega arith))
-answer_short now ss k Versioned none h = loosen answer_most (omega arith) nil_short
-answer_short now ss k Versioned (some e) h =
+answer_short now ss k Value None h = loosen answer_most (omega arith) nil_short
+answer_short now ss k Value (Some e) h = loosen answer_most (omega arith) (value_short e h)
+answer_short now ss k Length None h = loosen answer_most (omega arith) (few_short 0 (omega arith))
+answer_short now ss k Length (Some e) h = loosen answer_most (omega arith) (few_short (length e.value) (omega (arith, h.short.value)))
+answer_short now ss k Exists None h = loosen answer_most (omega arith) (few_short 0 (omega arith))
+answer_short now ss k Exists (Some e) h = loosen answer_most (omega arith) (few_short 1 (omega arith))
+answer_short now ss k Versioned None h = loosen answer_most (omega arith) nil_short
+answer_short now ss k Versioned (Some e) h =
     loosen answer_most (omega arith) (array_short 1 71 (bulk e.value ∷ number e.version ∷ []) (omega arith) (omega arith) each)
   where
     each : (i : ℕ) → Bounded 71 (get_or (bulk e.value ∷ number e.version ∷ []) i [])
     each zero = value_short e h
     each (suc zero) = loosen 71 (omega arith) (version_short e h)
     each (suc (suc i)) = record { short = omega arith; bytes = refl }
-answer_short now ss k Version none h = go (key_exists now k ss)
+answer_short now ss k Version None h = go (key_exists now k ss)
   where
     go : (t : Bool) → Bounded answer_most (integer (cond t (negsuc 1) (negsuc 0)))
     go true = loosen answer_most (omega arith) (minus_short 1 (omega arith))
     go false = loosen answer_most (omega arith) (minus_short 0 (omega arith))
-answer_short now ss k Version (some e) h = loosen answer_most (omega arith) (version_short e h)
-answer_short now ss k Seconds none h = loosen answer_most (omega arith) (minus_short 1 (omega arith))
-answer_short now ss k Seconds (some e) h = loosen answer_most (omega arith) (left_short now 1000 e.expiry (λ n. omega arith) h.expiry)
-answer_short now ss k Milliseconds none h = loosen answer_most (omega arith) (minus_short 1 (omega arith))
-answer_short now ss k Milliseconds (some e) h = loosen answer_most (omega arith) (left_short now 1 e.expiry (λ n. omega arith) h.expiry)
+answer_short now ss k Version (Some e) h = loosen answer_most (omega arith) (version_short e h)
+answer_short now ss k Seconds None h = loosen answer_most (omega arith) (minus_short 1 (omega arith))
+answer_short now ss k Seconds (Some e) h = loosen answer_most (omega arith) (left_short now 1000 e.expiry (λ n. omega arith) h.expiry)
+answer_short now ss k Milliseconds None h = loosen answer_most (omega arith) (minus_short 1 (omega arith))
+answer_short now ss k Milliseconds (Some e) h = loosen answer_most (omega arith) (left_short now 1 e.expiry (λ n. omega arith) h.expiry)
 
 -- the one of two effects that is taken replies in at most as many bytes
 either_short : (most : ℕ) (t : Bool) (a b : Effect) → Bounded most a.reply → Bounded most b.reply → Bounded most (cond t a b).reply
@@ -138,8 +135,8 @@ either_short most false a b h g = g
 
 one_most : (found : Option Entry) → or_else found 1 (λ e. 0) ≤ 999
 unfolding or_else
-one_most none = omega arith
-one_most (some e) = omega arith
+one_most None = omega arith
+one_most (Some e) = omega arith
 
 -- What is done with one field is replied in at most `answer_most` bytes.
 pub deed_short : (now : ℕ) (ss : List Slot) (k f : Word) (d : Deed) (found : Option Entry) → FitsSlot found
@@ -149,16 +146,16 @@ deed_short now ss k f (assign v c n t) found h o =
     either_short answer_most (barred c found) _ _ (loosen answer_most (omega arith) (minus_short 0 (omega arith)))
     (loosen answer_most (omega arith) (few_short (or_else found 1 (λ e. 0)) (one_most found)))
 deed_short now ss k f (increment a l g n t) found h o =
-    let sum : ℤ = Option.get_or (counted found) (pos 0) +ℤ a in
+    let sum : ℤ = unwrap_or (counted found) (pos 0) +ℤ a in
     let w : within lowest64 highest64 sum ≡ true =
     and_left (within lowest64 highest64 sum) (within l g sum) (not-false (within lowest64 highest64 sum && within l g sum) o) in
     record { short = omega (arith, length_integer64 sum w); bytes = bytes_integer sum }
-deed_short now ss k f (expire t n) none h o = loosen answer_most (omega arith) (few_short 0 (omega arith))
-deed_short now ss k f (expire t n) (some e) h o = loosen answer_most (omega arith) (few_short 1 (omega arith))
-deed_short now ss k f persist none h o = loosen answer_most (omega arith) (few_short 0 (omega arith))
-deed_short now ss k f persist (some e) h o =
+deed_short now ss k f (expire t n) None h o = loosen answer_most (omega arith) (few_short 0 (omega arith))
+deed_short now ss k f (expire t n) (Some e) h o = loosen answer_most (omega arith) (few_short 1 (omega arith))
+deed_short now ss k f persist None h o = loosen answer_most (omega arith) (few_short 0 (omega arith))
+deed_short now ss k f persist (Some e) h o =
     either_short answer_most (has_expiry e.expiry) _ _ (loosen answer_most (omega arith) (few_short 1 (omega arith)))
     (loosen answer_most (omega arith) (few_short 0 (omega arith)))
-deed_short now ss k f (renumber v) none h o = loosen answer_most (omega arith) (few_short 0 (omega arith))
-deed_short now ss k f (renumber v) (some e) h o = loosen answer_most (omega arith) (few_short 1 (omega arith))
+deed_short now ss k f (renumber v) None h o = loosen answer_most (omega arith) (few_short 0 (omega arith))
+deed_short now ss k f (renumber v) (Some e) h o = loosen answer_most (omega arith) (few_short 1 (omega arith))
 deed_short now ss k f (ask q) found h o = answer_short now ss k q found h

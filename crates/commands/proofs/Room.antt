@@ -1,8 +1,8 @@
 -- How many slots are empty or dead, before and after an entry is put.
+use Rattle.std.specs.Prelude.{Option, None, Some}
 use mathlib.Core.Path.{◌≡◌, refl, ap}
 use mathlib.Core.Bool.{Bool, true, false, cond}
 use mathlib.Core.List.{List, [], ◌∷◌}
-use mathlib.Core.Option.{Option, none, some}
 use Prim.Native.Nat.{ℕ, zero, suc, ◌<◌}
 use lib.ListN.{length, get_or, set}
 use native.Mathlib.Omega.{arith}
@@ -58,20 +58,20 @@ keep_none p d (x ∷ xs) h = rw (h 0 (omega arith)) (keep_none p d xs (λ i l. h
 -- a slot that is neither empty nor dead is live
 room_slot_lem : (now : ℕ) (s : Slot) → empty_slot s ≡ false → dead_slot now s ≡ false → room_slot now s ≡ false
 unfolding empty_slot dead_slot room_slot live_slot or_else
-room_slot_lem now none e d = cc
-room_slot_lem now (some x) e d = d
+room_slot_lem now None e d = cc
+room_slot_lem now (Some x) e d = d
 
 -- A name is given no slot only where none holds it and none is empty or dead.
-pub slot_none : (now : ℕ) (k f : List ℕ) (ss : List Slot) → slot_for now k f ss ≡ none → (any (holds k f) ss ≡ false) × (room now ss ≡ 0)
+pub slot_none : (now : ℕ) (k f : List ℕ) (ss : List Slot) → slot_for now k f ss ≡ None → (any (holds k f) ss ≡ false) × (room now ss ≡ 0)
 unfolding slot_for or_else room
 slot_none now k f ss = go (lowest_slot (holds k f) ss) refl (lowest_slot empty_slot ss) refl
   where
     go : (a : Option ℕ) → lowest_slot (holds k f) ss ≡ a → (b : Option ℕ) → lowest_slot empty_slot ss ≡ b
-        → or_else a (or_else b (lowest_slot (dead_slot now) ss) some) some ≡ none → (any (holds k f) ss ≡ false) × (room now ss ≡ 0)
-    go (some i) a b e h = (cc, cc)
-    go none a (some i) e h = (cc, cc)
-    go none a none e h = (
-      any_none (holds k f) ss none (lowest_none (holds k f) ss a),
-      keep_none (room_slot now) none ss
-          (λ i l. room_slot_lem now (get_or ss i none) (lowest_none empty_slot ss e i l) (lowest_none (dead_slot now) ss h i l)),
+        → or_else a (or_else b (lowest_slot (dead_slot now) ss) Some) Some ≡ None → (any (holds k f) ss ≡ false) × (room now ss ≡ 0)
+    go (Some i) a b e h = (cc, cc)
+    go None a (Some i) e h = (cc, cc)
+    go None a None e h = (
+      any_none (holds k f) ss None (lowest_none (holds k f) ss a),
+      keep_none (room_slot now) None ss
+          (λ i l. room_slot_lem now (get_or ss i None) (lowest_none empty_slot ss e i l) (lowest_none (dead_slot now) ss h i l)),
     )

@@ -1,8 +1,8 @@
 -- How an effect settles: what is replied and what the store then holds, by the first of 20 to 24 that applies.
+use Rattle.std.specs.Prelude.{Option, None, Some}
 use mathlib.Core.Path.{◌≡◌, refl, ◌∙◌}
 use mathlib.Core.Bool.{Bool, true, false, cond, not, ◌||◌}
 use mathlib.Core.List.{List, [], ◌∷◌}
-use mathlib.Core.Option.{Option, none, some}
 use Prim.Native.Nat.{ℕ, ◌≤◌, ◌<◌}
 use lib.Dec.{ltb}
 use lib.ListN.{get_or}
@@ -15,7 +15,6 @@ use Rattle.wire.specs.declared.integers.Signed.{Signed}
 use Rattle.wire.specs.Promises.{integer_of, Laid}
 use Rattle.wire.proofs.Lists.{any_at, both_ways}
 use Rattle.store.specs.Layout.{version_most}
-use Rattle.store.specs.declared.Found.TheVariants as founds
 use Rattle.store.specs.Store.{Entry, Slot, Store, with_slots, decode, well_formed, holds}
 use Rattle.store.specs.Time.{before, live, live_slot, room_slot, slot_for, put}
 use Rattle.store.specs.Promises.{Holds, with_slot}
@@ -58,7 +57,7 @@ changes_as time h w = rw h w
 -- ---- refused, or nothing to change
 
 module _ (time : ℕ) (E : Effect) {b : List ℕ} (w : well_formed b ≡ true) where
-  changes_refused : (n : ℕ) → first_applying (late_checks time E (decode b).slots) ≡ some n → Changes time E b b (settleds.Refused n)
+  changes_refused : (n : ℕ) → first_applying (late_checks time E (decode b).slots) ≡ Some n → Changes time E b b (settleds.Refused n)
   unfolding settle or_else settled_reply
   changes_refused n h about = rw h (refused_settles (holds_self w) n (late_known time E (decode b).slots n h) about refl)
 
@@ -79,7 +78,7 @@ module _ (time : ℕ) (E : Effect) {b : List ℕ} (w : well_formed b ≡ true) w
     changes_overflow g h =
         changes_refused 22 (check_passed 20 _ f ∙ check_passed 21 _ g ∙ check_applies 22 _ h)
 
-answer_clear : (time : ℕ) (y : List ℕ) (ss : List Slot) → first_applying (late_checks time (answer y) ss) ≡ none
+answer_clear : (time : ℕ) (y : List ℕ) (ss : List Slot) → first_applying (late_checks time (answer y) ss) ≡ None
 unfolding late_checks first_applying any added
 answer_clear time y ss = rw (le-ltb (room time ss) 0 (omega arith)) refl
 
@@ -99,16 +98,16 @@ changes_answer time z {b} w k about = rw (answer_settle time (integer (integer_o
 -- ---- one entry written
 
 -- a name that is given a slot, though none holds it, finds room
-slot_room : (time : ℕ) (k f : List ℕ) (ss : List Slot) (i : ℕ) → slot_for time k f ss ≡ some i → any (holds k f) ss ≡ false → 1 ≤ room time ss
+slot_room : (time : ℕ) (k f : List ℕ) (ss : List Slot) (i : ℕ) → slot_for time k f ss ≡ Some i → any (holds k f) ss ≡ false → 1 ≤ room time ss
 unfolding room room_slot live_slot live before or_else
 slot_room time k f ss i h n =
-    omega (arith, keep_set_less (room_slot time) none (some (versioned 0)) ss i p.inside (rw (go (live_slot time (get_or ss i none)) refl) refl) refl)
+    omega (arith, keep_set_less (room_slot time) None (Some (versioned 0)) ss i p.inside (rw (go (live_slot time (get_or ss i None)) refl) refl) refl)
   where
     p : Place time k f ss i
     p = slot_place time k f ss i h
 
-    go : (t : Bool) → live_slot time (get_or ss i none) ≡ t → live_slot time (get_or ss i none) ≡ false
-    go true q = both_ways (p.own q) (any_at (holds k f) ss none n i p.inside)
+    go : (t : Bool) → live_slot time (get_or ss i None) ≡ t → live_slot time (get_or ss i None) ≡ false
+    go true q = both_ways (p.own q) (any_at (holds k f) ss None n i p.inside)
     go false q = q
 
 module _ (time : ℕ) (e : Entry) (y : List ℕ) (ss : List Slot) where
@@ -120,7 +119,7 @@ module _ (time : ℕ) (e : Entry) (y : List ℕ) (ss : List Slot) where
   unfolding late_of late_checks
   late_write = check_passed 20 _ refl ∙ check_passed 21 _ refl ∙ check_passed 22 _ refl
 
-  passing : version_most < e.version → late_of ≡ some 23
+  passing : version_most < e.version → late_of ≡ Some 23
   unfolding any passes
   passing h = late_write ∙ check_applies 23 _ (rw (lt-ltb version_most e.version h))
 
@@ -129,11 +128,11 @@ module _ (time : ℕ) (e : Entry) (y : List ℕ) (ss : List Slot) where
     unfolding any passes
     late_last = late_write ∙ check_passed 23 _ (rw (le-ltb version_most e.version l))
 
-    full : slot_for time e.key e.field ss ≡ none → late_of ≡ some 24
+    full : slot_for time e.key e.field ss ≡ None → late_of ≡ Some 24
     unfolding any added adds
     full h = let n = slot_none time e.key e.field ss h in late_last ∙ check_applies 24 [] (rw (n.0, n.1))
 
-    clear : (i : ℕ) → slot_for time e.key e.field ss ≡ some i → late_of ≡ none
+    clear : (i : ℕ) → slot_for time e.key e.field ss ≡ Some i → late_of ≡ None
     unfolding first_applying any added adds
     clear i h = late_last ∙ check_passed 24 [] (go (any (holds e.key e.field) ss) refl)
       where
@@ -154,19 +153,19 @@ module _ (time : ℕ) (e : Entry) {b : List ℕ} (w : well_formed b ≡ true) wh
 
   module _ (l : e.version ≤ version_most) where
     -- There is no place for it.
-    pub wrote_full : founds.Nothing ≡ look_for time e.key e.field (decode b).slots → Wrote time e b b (writes.Refused 24)
+    pub wrote_full : None ≡ look_for time e.key e.field (decode b).slots → Wrote time e b b (writes.Refused 24)
     unfolding settle or_else late_of outcome_for look_for
     wrote_full h =
         let given = found_nothing (slot_for time e.key e.field (decode b).slots) h in
         wrote time e b (refused_with 24 (decode b)) (rw (full time e [] (decode b).slots l given) refl) refl (holds_self w)
 
     -- It stands in its place.
-    pub wrote_done : {i : ℕ} {d : List ℕ} → founds.At i ≡ look_for time e.key e.field (decode b).slots
-        → Holds d (with_slot i (some e) (decode b)) → Wrote time e b d writes.Done
+    pub wrote_done : {i : ℕ} {d : List ℕ} → Some i ≡ look_for time e.key e.field (decode b).slots
+        → Holds d (with_slot i (Some e) (decode b)) → Wrote time e b d writes.Done
     unfolding settle or_else late_of outcome_for look_for change_all change put
     wrote_done {i} h x =
         let given = found_at (slot_for time e.key e.field (decode b).slots) i h in
-        wrote time e b (done_with [] (with_slot i (some e) (decode b))) (rw (clear time e [] (decode b).slots l i given, given) refl) refl x
+        wrote time e b (done_with [] (with_slot i (Some e) (decode b))) (rw (clear time e [] (decode b).slots l i given, given) refl) refl x
 
 -- A write that is replied with an integer settles by its outcome.
 pub wrote_settles : (time : ℕ) (e : Entry) (z : Signed) {b after : List ℕ} {w : WriteOutcome} {r : Settled}
@@ -183,5 +182,5 @@ wrote_settles time e z {b} {after} {w} {r} k h q about =
         → w ≡ outcome_for (or_else o (done []) (λ m. refused_with m (decode b))).refusal
         → Holds after (or_else o (done []) (λ m. refused_with m (decode b))).store
         → Settles about (or_else o (done (integer (integer_of z))) (λ m. refused_with m (decode b))) b after r
-    go none p a s = rw (q, a) (replied_settles s z k about refl)
-    go (some m) p a s = rw (q, a) (refused_settles s m (late_known time (writing false e []) (decode b).slots m p) about refl)
+    go None p a s = rw (q, a) (replied_settles s z k about refl)
+    go (Some m) p a s = rw (q, a) (refused_settles s m (late_known time (writing false e []) (decode b).slots m p) about refl)

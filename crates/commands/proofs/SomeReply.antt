@@ -1,9 +1,9 @@
 -- No reply is empty, and what a record says tells whether it was refused, and with which number.
+use Rattle.std.specs.Prelude.{Option, None, Some}
 use mathlib.Core.Path.{◌≡◌, refl, sym, ap, ◌∙◌}
 use mathlib.Core.Logic.{◌↔◌}
 use mathlib.Core.Bool.{Bool, true, false, cond, ◌&&◌, ◌||◌}
 use mathlib.Core.List.{List, [], ◌∷◌}
-use mathlib.Core.Option.{Option, none, some}
 use Prim.Native.Nat.{ℕ, ◌≤◌}
 use lib.Dec.{leb, eqb}
 use lib.IntN.{ℤ}
@@ -31,66 +31,66 @@ use Rattle.commands.proofs.Went.Went.{early, late, done}
 use Rattle.commands.proofs.Refused.{refusal_known, refused_reply}
 
 -- a reply that is not empty and begins with no minus, as no line of a refusal does
-record Some (r : List ℕ) : Type 0 where
+record Said (r : List ℕ) : Type 0 where
   long : 1 ≤ length r
   plain : eqb (get_or r 0 0) 45 ≡ false
 
 -- ---- the forms of a reply
 
-integer_some : (z : ℤ) → Some (integer z)
+integer_some : (z : ℤ) → Said (integer z)
 unfolding integer text
 integer_some z = record { long = omega arith; plain = refl }
 
-bulk_some : (w : Word) → Some (bulk w)
+bulk_some : (w : Word) → Said (bulk w)
 unfolding bulk text
 bulk_some w = record { long = omega arith; plain = refl }
 
-array_some : (xs : List (List ℕ)) → Some (array xs)
+array_some : (xs : List (List ℕ)) → Said (array xs)
 unfolding array header text
 array_some xs = record { long = omega arith; plain = refl }
 
-nil_some : Some nil
+nil_some : Said nil
 unfolding nil line text
 nil_some = record { long = omega arith; plain = refl }
 
-ok_some : Some (line "+OK")
+ok_some : Said (line "+OK")
 unfolding line text
 ok_some = record { long = omega arith; plain = refl }
 
 -- ---- one field
 
-answer_some : (now : ℕ) (ss : List Slot) (k : Word) (q : Question) (found : Option Entry) → Some (reply now ss k q found)
+answer_some : (now : ℕ) (ss : List Slot) (k : Word) (q : Question) (found : Option Entry) → Said (reply now ss k q found)
 unfolding reply or_else
-answer_some now ss k Value none = nil_some
-answer_some now ss k Value (some e) = bulk_some e.value
+answer_some now ss k Value None = nil_some
+answer_some now ss k Value (Some e) = bulk_some e.value
 answer_some now ss k Length found = integer_some _
 answer_some now ss k Exists found = integer_some _
-answer_some now ss k Versioned none = nil_some
-answer_some now ss k Versioned (some e) = array_some _
+answer_some now ss k Versioned None = nil_some
+answer_some now ss k Versioned (Some e) = array_some _
 answer_some now ss k Version found = integer_some _
 answer_some now ss k Seconds found = integer_some _
 answer_some now ss k Milliseconds found = integer_some _
 
 -- one of two effects
-either_some : (t : Bool) (a b : Effect) → Some a.reply → Some b.reply → Some (cond t a b).reply
+either_some : (t : Bool) (a b : Effect) → Said a.reply → Said b.reply → Said (cond t a b).reply
 either_some true a b h g = h
 either_some false a b h g = g
 
-deed_some : (now : ℕ) (ss : List Slot) (k f : Word) (d : Deed) (found : Option Entry) → Some (deed_effect now ss k f d found).reply
+deed_some : (now : ℕ) (ss : List Slot) (k f : Word) (d : Deed) (found : Option Entry) → Said (deed_effect now ss k f d found).reply
 unfolding deed_effect set_effect increment_effect expire_effect persist_effect renumber_effect or_else
 deed_some now ss k f (assign v c n t) found = either_some (barred c found) _ _ (integer_some _) (integer_some _)
 deed_some now ss k f (increment a l g n t) found = integer_some _
-deed_some now ss k f (expire t n) none = integer_some _
-deed_some now ss k f (expire t n) (some e) = integer_some _
-deed_some now ss k f persist none = integer_some _
-deed_some now ss k f persist (some e) = either_some (has_expiry e.expiry) _ _ (integer_some _) (integer_some _)
-deed_some now ss k f (renumber v) none = integer_some _
-deed_some now ss k f (renumber v) (some e) = integer_some _
+deed_some now ss k f (expire t n) None = integer_some _
+deed_some now ss k f (expire t n) (Some e) = integer_some _
+deed_some now ss k f persist None = integer_some _
+deed_some now ss k f persist (Some e) = either_some (has_expiry e.expiry) _ _ (integer_some _) (integer_some _)
+deed_some now ss k f (renumber v) None = integer_some _
+deed_some now ss k f (renumber v) (Some e) = integer_some _
 deed_some now ss k f (ask q) found = answer_some now ss k q found
 
 -- ---- every record
 
-effect_some : (now : ℕ) (c : Command) (ss : List Slot) → Some (effect now c ss).reply
+effect_some : (now : ℕ) (c : Command) (ss : List Slot) → Said (effect now c ss).reply
 unfolding effect
 effect_some now (on_field k f d) ss = deed_some now ss k f d (entry_of k f ss)
 effect_some now (set_many k ps) ss = ok_some
@@ -164,20 +164,20 @@ module _ (clock : ℕ) (command : List ℕ) (s : Store) where
   pub exec_some : 1 ≤ length (exec clock command s).reply
   exec_some = go (went clock command s) (λ n e. (error_minus n (refusal_known clock command s n e)).0)
     where
-      go : {o : Outcome} → Went clock command s o → ((n : ℕ) → o.refusal ≡ some n → 1 ≤ length (error_line n)) → 1 ≤ length o.reply
+      go : {o : Outcome} → Went clock command s o → ((n : ℕ) → o.refusal ≡ Some n → 1 ≤ length (error_line n)) → 1 ≤ length o.reply
       go (early n p) Line-of = Line-of n refl
       go (late c n p l) Line-of = Line-of n refl
       go (done c p l) Line-of = (effect_some (now_at clock s) c (swept_by (now_at clock s) c s)).long
 
   -- A record says the line of a number exactly if it is refused with it.
-  pub refused_said : (n : ℕ) → ((exec clock command s).reply ≡ error_line n) ↔ ((exec clock command s).refusal ≡ some n)
+  pub refused_said : (n : ℕ) → ((exec clock command s).reply ≡ error_line n) ↔ ((exec clock command s).refusal ≡ Some n)
   refused_said n =
       (λ e. go (went clock command s) (line_known n exec_some e) (λ k r. refusal_known clock command s k r) e, refused_reply clock command s n)
     where
-      go : {o : Outcome} → Went clock command s o → is_refusal n ≡ true → ((k : ℕ) → o.refusal ≡ some k → is_refusal k ≡ true)
-          → o.reply ≡ error_line n → o.refusal ≡ some n
-      go (early k p) known knows e = ap some (sym (error_number k (knows k refl)) ∙ ap (number_in table) e ∙ error_number n known)
-      go (late c k p l) known knows e = ap some (sym (error_number k (knows k refl)) ∙ ap (number_in table) e ∙ error_number n known)
+      go : {o : Outcome} → Went clock command s o → is_refusal n ≡ true → ((k : ℕ) → o.refusal ≡ Some k → is_refusal k ≡ true)
+          → o.reply ≡ error_line n → o.refusal ≡ Some n
+      go (early k p) known knows e = ap Some (sym (error_number k (knows k refl)) ∙ ap (number_in table) e ∙ error_number n known)
+      go (late c k p l) known knows e = ap Some (sym (error_number k (knows k refl)) ∙ ap (number_in table) e ∙ error_number n known)
       go (done c p l) known knows e =
           let x = effect_some (now_at clock s) c (swept_by (now_at clock s) c s) in
           let m : eqb (get_or (error_line n) 0 0) 45 ≡ false = rw e at x.plain in

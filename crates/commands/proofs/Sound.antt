@@ -1,16 +1,15 @@
 -- What the checks 10 to 18 promise of an accepted command.
+use Rattle.std.specs.Prelude.{Some, unwrap_or, is_some}
 use mathlib.Core.Path.{◌≡◌, refl}
 use mathlib.Core.Bool.{Bool, true, false, cond, ◌||◌}
 use mathlib.Core.List.{List, [], ◌∷◌, map}
-use mathlib.Core.Option
-use mathlib.Core.Option.{some}
 use Prim.Native.Nat.{ℕ, zero, suc, ◌+◌, ◌≤◌, ◌<◌}
 use lib.Dec.{ltb}
 use lib.ListN.{length, drop, get_or, length-drop, length-map, get_or-eq_default}
 use lib.Seq.{get_or-drop}
 use native.Mathlib.Omega.{arith}
 use borrow.Author.Tests.{ltb-false, ltb-true}
-use Rattle.wire.specs.Lists.{any, is_some}
+use Rattle.wire.specs.Lists.{any}
 use Rattle.wire.specs.Bytes.{Bytes}
 use Rattle.wire.specs.Words.{Word, words_most, words_of, word_at}
 use Rattle.wire.proofs.WordLaws.{words_bytes, words_count}
@@ -116,11 +115,11 @@ module _ (P : Word → Type 0) (empty : P []) where
     of_build now gs (list_form l) = record { key = h 1; fields = λ i. empty; values = λ i. empty; few = omega arith }
 
   parse_taken : (now clock : ℕ) (s : List ℕ) (c : Command)
-      → ((ws : List Word) → words_of s ≡ some ws → AllHave P ws) → Accepted now clock s c → Taken P c
+      → ((ws : List Word) → words_of s ≡ Some ws → AllHave P ws) → Accepted now clock s c → Taken P c
   parse_taken now clock s c h a =
       rw a.built at
       (of_build a.words (h a.words a.split) (words_count s a.words a.split).1 now
-      (Option.get_or (scanned_of a.row.form a.words) [])
+      (unwrap_or (scanned_of a.row.form a.words) [])
       a.row.form)
 
 -- ---- no word is too long

@@ -1,9 +1,9 @@
 -- What the number of a row means: rows of names, the commands and the options.
+use Rattle.std.specs.Prelude.{Option, None, Some, option_map}
 use mathlib.Core.Path.{◌≡◌, refl, sym, ap, ◌∙◌}
 use mathlib.Core.Bool.{Bool, true, false, cond, not, ◌&&◌}
 use mathlib.Core.List.{List, [], ◌∷◌, ◌++◌, map, flat_map, append_assoc}
-use mathlib.Core.Option
-use mathlib.Core.Option.{Option, none, some, none-ne-some}
+use Rattle.std.proofs.lemmas.Option.{none-some}
 use Prim.Native.Nat.{ℕ, zero, suc, ◌+◌, ◌-◌, ◌*◌, ◌/◌, ◌%◌, ◌^◌, ◌≤◌, ◌<◌}
 use Prim.Native.String.{String}
 use native.Mathlib.Omega.{arith}
@@ -12,12 +12,10 @@ use lib.Dec.{ltb, eqb}
 use lib.ListN.{length, get_or, drop, length-append, length-drop, get_or-map}
 use lib.Pow.{are_bytes}
 use lib.Seq.{get_or_at, get_or-append-add, drop_at, take-append_seam}
-use Rattle.wire.specs.declared.names.RowFound.{RowFound}
-use Rattle.wire.specs.declared.names.RowFound.TheVariants as rows
 use Rattle.wire.specs.Lists.{all, any, only_if, or_else}
 use Rattle.wire.specs.Bytes.{from_le, part, same, text, upper, spells}
 use Rattle.wire.specs.Words.{Word}
-use Rattle.wire.specs.Promises.{row_size, name_in, row_from, row_named, row_for, Table}
+use Rattle.wire.specs.Promises.{row_size, name_in, row_from, row_named, Table}
 use Rattle.wire.proofs.Lists.{and_left, and_right, all_at}
 use Rattle.wire.proofs.NameRows.{row_at}
 use Rattle.wire.proofs.ByteLaws.{same_true}
@@ -82,16 +80,16 @@ module _ {A : Type 0} (name : A → String) where
 
   -- the first row whose name a word spells, and its number, counted from i
   unfoldable pub named : List A → Word → Option A
-  named [] w = none
+  named [] w = None
   named (r ∷ rs) w =
       let later : Option A = named rs w in
-      cond (spells (name r) w) (some r) later
+      cond (spells (name r) w) (Some r) later
 
   unfoldable number_from : ℕ → List A → Word → Option ℕ
-  number_from i [] w = none
+  number_from i [] w = None
   number_from i (r ∷ rs) w =
       let later : Option ℕ = number_from (suc i) rs w in
-      cond (spells (name r) w) (some i) later
+      cond (spells (name r) w) (Some i) later
 
   abbrev fits : A → Bool
   fits r = ltb (length (text (name r))) row_size
@@ -162,7 +160,7 @@ module _ {A : Type 0} (name : A → String) where
 
   -- a number says the row
   number_row : (rows before : List A) (w : Word) (i : ℕ) (d : A) → length before ≡ i
-      → Option.map (λ k. get_or (before ++ rows) k d) (number_from i rows w) ≡ named rows w
+      → option_map (λ k. get_or (before ++ rows) k d) (number_from i rows w) ≡ named rows w
   unfolding number_from named
   number_row [] before w i d n = refl
   number_row (r ∷ rs) before w i d n =
@@ -171,28 +169,28 @@ module _ {A : Type 0} (name : A → String) where
       (get_or_at before r rs d i n)
       (rw (append_assoc before (r ∷ []) rs) at (number_row rs (before ++ (r ∷ [])) w (suc i) d (rw length-append (omega arith))))
     where
-      go : (t : Bool) → get_or (before ++ r ∷ rs) i d ≡ r → Option.map (λ k. get_or (before ++ r ∷ rs) k d) (number_from (suc i) rs w) ≡ named rs w
-          → Option.map (λ k. get_or (before ++ r ∷ rs) k d) (cond t (some i) (number_from (suc i) rs w)) ≡ cond t (some r) (named rs w)
-      go true e later = ap some e
+      go : (t : Bool) → get_or (before ++ r ∷ rs) i d ≡ r → option_map (λ k. get_or (before ++ r ∷ rs) k d) (number_from (suc i) rs w) ≡ named rs w
+          → option_map (λ k. get_or (before ++ r ∷ rs) k d) (cond t (Some i) (number_from (suc i) rs w)) ≡ cond t (Some r) (named rs w)
+      go true e later = ap Some e
       go false e later = later
 
   pub row_named_lem : (rows : List A) (w : Word) (d : A) → all_fit rows ≡ true
-      → Option.map (λ k. get_or rows k d) (row_named (table_of rows) w) ≡ named rows w
+      → option_map (λ k. get_or rows k d) (row_named (table_of rows) w) ≡ named rows w
   row_named_lem rows w d h = rw (row_number rows w h) (number_row rows [] w 0 d refl)
 
   -- a number is below the count of the rows
-  number_below : (rows : List A) (w : Word) (i k : ℕ) → number_from i rows w ≡ some k → k < i + length rows
+  number_below : (rows : List A) (w : Word) (i k : ℕ) → number_from i rows w ≡ Some k → k < i + length rows
   unfolding number_from
-  number_below [] w i k e = absurd (none-ne-some k e)
+  number_below [] w i k e = absurd (none-some k e)
   number_below (r ∷ rs) w i k e = go (spells (name r) w) (number_below rs w (suc i) k) e
     where
-      go : (t : Bool) → (number_from (suc i) rs w ≡ some k → k < suc i + length rs) → cond t (some i) (number_from (suc i) rs w) ≡ some k → k < i + suc (length rs)
+      go : (t : Bool) → (number_from (suc i) rs w ≡ Some k → k < suc i + length rs) → cond t (Some i) (number_from (suc i) rs w) ≡ Some k → k < i + suc (length rs)
       go true later e =
           let q : i ≡ k = cc in
           omega arith
       go false later e = omega (arith, later e)
 
-  pub number_inside : (rows : List A) (w : Word) (k : ℕ) → all_fit rows ≡ true → row_named (table_of rows) w ≡ some k → k < length rows
+  pub number_inside : (rows : List A) (w : Word) (k : ℕ) → all_fit rows ≡ true → row_named (table_of rows) w ≡ Some k → k < length rows
   number_inside rows w k h e = omega (arith, number_below rows w 0 k (rw (row_number rows w h) at e))
 
 -- ---- the tables
@@ -295,15 +293,15 @@ command_named_lem [] w = refl
 command_named_lem (r ∷ rs) w = rw (command_named_lem rs w)
 
 -- the command of a word is the row of its number
-pub command_row : (w : Word) → command_named commands w ≡ Option.map command_of (row_named command_table w)
+pub command_row : (w : Word) → command_named commands w ≡ option_map command_of (row_named command_table w)
 unfolding table_of command_table command_of
 command_row w = command_named_lem commands w ∙ sym (row_named_lem (λ r. r.name) commands w (row "EXHSET" (at_least 4) set_form) commands_fit)
 
-command_below : (w : Word) (i : ℕ) → row_named command_table w ≡ some i → i < command_count
+command_below : (w : Word) (i : ℕ) → row_named command_table w ≡ Some i → i < command_count
 unfolding table_of command_table
 command_below w i e = omega (arith, commands_counted, number_inside (λ r. r.name) commands w i commands_fit e)
 
-pub command_number : (w : Word) {r : RowFound} → r ≡ row_for (row_named command_table w) → (i : ℕ) → r ≡ rows.At i → i < command_count
+pub command_number : (w : Word) {r : Option ℕ} → r ≡ (row_named command_table w) → (i : ℕ) → r ≡ Some i → i < command_count
 command_number w e i h = command_below w i (row_at (row_named command_table w) i (sym e ∙ h))
 
 -- no name is another's
@@ -318,7 +316,7 @@ options_distinct = refl
 module _ (w : Word) (allowed : List ℕ) where
   -- a word that spells one name spells none of the others
   spelled_once : (r : OptionRow) (rs : List OptionRow) → spells r.name w ≡ true → all (λ q. not (same (text r.name) (text q.name))) rs ≡ true
-      → option_named rs allowed w ≡ none
+      → option_named rs allowed w ≡ None
   unfolding option_named all spells
   spelled_once r [] e h = refl
   spelled_once r (q ∷ rs) e h =
@@ -330,7 +328,7 @@ module _ (w : Word) (allowed : List ℕ) where
   abbrev pub meant : OptionRow → Option OptionKind
   meant r = only_if (any (eqb (group r.kind)) allowed) r.kind
 
-  option_named_lem : (rows : List OptionRow) → distinct rows ≡ true → option_named rows allowed w ≡ or_else (named (λ r. r.name) rows w) none meant
+  option_named_lem : (rows : List OptionRow) → distinct rows ≡ true → option_named rows allowed w ≡ or_else (named (λ r. r.name) rows w) None meant
   unfolding option_named named distinct or_else only_if
   option_named_lem [] h = refl
   option_named_lem (r ∷ rs) h =
@@ -343,28 +341,28 @@ module _ (w : Word) (allowed : List ℕ) where
       (λ e. spelled_once r rs e (and_left others (distinct rs) h))
       (option_named_lem rs (and_right others (distinct rs) h))
     where
-      go : (t a : Bool) → spells r.name w ≡ t → any (eqb (group r.kind)) allowed ≡ a → (spells r.name w ≡ true → option_named rs allowed w ≡ none)
-          → option_named rs allowed w ≡ or_else (named (λ q. q.name) rs w) none meant
-          → cond (t && a) (some r.kind) (option_named rs allowed w) ≡ or_else (cond t (some r) (named (λ q. q.name) rs w)) none meant
+      go : (t a : Bool) → spells r.name w ≡ t → any (eqb (group r.kind)) allowed ≡ a → (spells r.name w ≡ true → option_named rs allowed w ≡ None)
+          → option_named rs allowed w ≡ or_else (named (λ q. q.name) rs w) None meant
+          → cond (t && a) (Some r.kind) (option_named rs allowed w) ≡ or_else (cond t (Some r) (named (λ q. q.name) rs w)) None meant
       go true true e f once later = rw f
       go true false e f once later = rw f (once e)
       go false a e f once later = later
 
   -- the option of a word is the row of its number, where its group is allowed
-  pub option_row : option_named options allowed w ≡ or_else (row_named option_table w) none (λ i. meant (option_of i))
+  pub option_row : option_named options allowed w ≡ or_else (row_named option_table w) None (λ i. meant (option_of i))
   unfolding table_of option_table option_of or_else
   option_row =
       option_named_lem options options_distinct
-      ∙ ap (λ o. or_else o none meant) (sym (row_named_lem (λ r. r.name) options w ("NOEXP" means no_exp) options_fit))
+      ∙ ap (λ o. or_else o None meant) (sym (row_named_lem (λ r. r.name) options w ("NOEXP" means no_exp) options_fit))
       ∙ go (row_named option_table w)
     where
-      go : (o : Option ℕ) → or_else (Option.map option_of o) none meant ≡ or_else o none (λ i. meant (option_of i))
-      go none = refl
-      go (some i) = refl
+      go : (o : Option ℕ) → or_else (option_map option_of o) None meant ≡ or_else o None (λ i. meant (option_of i))
+      go None = refl
+      go (Some i) = refl
 
-option_below : (w : Word) (i : ℕ) → row_named option_table w ≡ some i → i < option_count
+option_below : (w : Word) (i : ℕ) → row_named option_table w ≡ Some i → i < option_count
 unfolding table_of option_table
 option_below w i e = omega (arith, options_counted, number_inside (λ r. r.name) options w i options_fit e)
 
-pub option_number : (w : Word) {r : RowFound} → r ≡ row_for (row_named option_table w) → (i : ℕ) → r ≡ rows.At i → i < option_count
+pub option_number : (w : Word) {r : Option ℕ} → r ≡ (row_named option_table w) → (i : ℕ) → r ≡ Some i → i < option_count
 option_number w e i h = option_below w i (row_at (row_named option_table w) i (sym e ∙ h))

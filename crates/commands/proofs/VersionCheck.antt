@@ -1,9 +1,9 @@
 -- VER: when it is stale, that VER 0 never is, and what a command with VER comes to.
+use Rattle.std.specs.Prelude.{Option, None, Some}
 use mathlib.Core.Path.{◌≡◌, refl, sym, ◌∙◌}
 use mathlib.Core.Logic.{◌≢◌, ◌↔◌}
 use mathlib.Core.Bool.{Bool, true, false, cond, not, ◌&&◌}
 use mathlib.Core.List.{List, [], ◌∷◌}
-use mathlib.Core.Option.{Option, none, some}
 use Prim.Native.Nat.{ℕ, ◌+◌, ◌≤◌, ◌<◌}
 use lib.Dec.{ltb, eqb}
 use lib.IntN.{ℤ, negsuc}
@@ -14,7 +14,6 @@ use Rattle.wire.specs.Words.{Word}
 use Rattle.wire.specs.Replies.{integer, number}
 use Rattle.wire.proofs.Lists.{impossible, both_ways, and_left, and_right, any_some}
 use Rattle.store.specs.Layout.{version_most}
-use Rattle.store.specs.declared.Expiry.TheVariants.{At}
 use Rattle.store.specs.Store.{Entry, entry, with_version, with_expiry, Slot, Store, holds}
 use Rattle.store.specs.Time.{now_at, live, entry_of}
 use Rattle.store.specs.Valid.{Apart, AllFit}
@@ -40,7 +39,7 @@ match_given v e = impossible cc
 
 -- ---- VER v
 
-match_differs : (v : ℕ) (x : Entry) → (is_stale (Match v) (some x) ≡ true) ↔ ((v ≢ 0) × (x.version ≢ 0) × (x.version ≢ v))
+match_differs : (v : ℕ) (x : Entry) → (is_stale (Match v) (Some x) ≡ true) ↔ ((v ≢ 0) × (x.version ≢ 0) × (x.version ≢ v))
 unfolding is_stale or_else
 match_differs v x = (there, λ (a, b, c). rw (ne_eqb v 0 a, ne_eqb x.version 0 b, ne_eqb x.version v c) refl)
   where
@@ -55,11 +54,11 @@ match_differs v x = (there, λ (a, b, c). rw (ne_eqb v 0 a, ne_eqb x.version 0 b
 module _ (clock : ℕ) (command : List ℕ) (s : Store) (k f : Word) (d : Deed) (v : ℕ)
     (a : parse (now_at clock s) clock command ≡ accepted (on_field k f d)) (h : deed_versioning d ≡ Match v) (apart : Apart s.slots) where
   -- It is refused with 20 exactly if v is not 0, its field is live at another version than 0 and v, and it is not idle.
-  pub match_stale_exactly : ((exec clock command s).refusal ≡ some 20)
+  pub match_stale_exactly : ((exec clock command s).refusal ≡ Some 20)
       ↔ ((x : Entry)
-      × (entry_of k f s.slots ≡ some x)
+      × (entry_of k f s.slots ≡ Some x)
       × (live (now_at clock s) x ≡ true)
-      × (idle d (some x) ≡ false)
+      × (idle d (Some x) ≡ false)
       × (v ≢ 0)
       × (x.version ≢ 0)
       × (x.version ≢ v))
@@ -73,10 +72,10 @@ module _ (clock : ℕ) (command : List ℕ) (s : Store) (k f : Word) (d : Deed) 
       )
 
   -- If it is done and writes its field, it leaves a live one at its version plus 1, and another at 1.
-  pub match_next : (exec clock command s).refusal ≡ none → any (writes k f) (effect_on (now_at clock s) (on_field k f d) s).changes ≡ true
-      → ((x : Entry) → entry_of k f s.slots ≡ some x → live (now_at clock s) x ≡ true
+  pub match_next : (exec clock command s).refusal ≡ None → any (writes k f) (effect_on (now_at clock s) (on_field k f d) s).changes ≡ true
+      → ((x : Entry) → entry_of k f s.slots ≡ Some x → live (now_at clock s) x ≡ true
       → Numbered k f (x.version + 1) (exec clock command s).store.slots)
-      × (((x : Entry) → entry_of k f s.slots ≡ some x → live (now_at clock s) x ≡ false) → Numbered k f 1 (exec clock command s).store.slots)
+      × (((x : Entry) → entry_of k f s.slots ≡ Some x → live (now_at clock s) x ≡ false) → Numbered k f 1 (exec clock command s).store.slots)
   unfolding next_version or_else
   match_next r w =
       let g = (given_leaves clock command s k f d (Match v) (match_given v) a h apart r w).0 in (
@@ -88,8 +87,8 @@ module _ (clock : ℕ) (command : List ℕ) (s : Store) (k f : Word) (d : Deed) 
 
 zero_fresh : (found : Option Entry) → is_stale (Match 0) found ≡ false
 unfolding is_stale or_else
-zero_fresh none = refl
-zero_fresh (some e) = refl
+zero_fresh None = refl
+zero_fresh (Some e) = refl
 
 module _ (clock : ℕ) (command : List ℕ) (s : Store) (k f : Word) (d : Deed)
     (a : parse (now_at clock s) clock command ≡ accepted (on_field k f d)) (h : deed_versioning d ≡ Match 0) where
@@ -105,16 +104,16 @@ module _ (clock : ℕ) (command : List ℕ) (s : Store) (k f : Word) (d : Deed)
       ∙ rw (zero_fresh (entry_of k f left)) (and_none (not (idle d (entry_of k f left))))
 
   -- It is never refused with 20.
-  pub zero_never_stale : (exec clock command s).refusal ≡ some 20 → ⊥
+  pub zero_never_stale : (exec clock command s).refusal ≡ Some 20 → ⊥
   zero_never_stale r = both_ways ((stale_given clock command s (on_field k f d) a).0 r) fresh
 
   -- It is refused with 23 exactly if its field is live at the largest version, it is not idle, and neither 21 nor 22 applies.
   pub zero_overflows_exactly : Apart s.slots → AllFit s.slots
-      → ((exec clock command s).refusal ≡ some 23)
+      → ((exec clock command s).refusal ≡ Some 23)
       ↔ ((x : Entry)
-      × (entry_of k f s.slots ≡ some x)
+      × (entry_of k f s.slots ≡ Some x)
       × (live (now_at clock s) x ≡ true)
-      × (idle d (some x) ≡ false)
+      × (idle d (Some x) ≡ false)
       × (x.version ≡ version_most)
       × (did.not_integer ≡ false)
       × (did.overflows ≡ false))
@@ -147,29 +146,29 @@ module _ (clock : ℕ) (command : List ℕ) (s : Store) (k f : Word) (t v : ℕ)
   abbrev remaining : List Slot
   remaining = sweep (now_at clock s) k (f ∷ []) s.slots
 
-  module _ (x : Entry) (q : entry_of k f s.slots ≡ some x) (l : live (now_at clock s) x ≡ true) (r : (exec clock command s).refusal ≢ some 20) where
+  module _ (x : Entry) (q : entry_of k f s.slots ≡ Some x) (l : live (now_at clock s) x ≡ true) (r : (exec clock command s).refusal ≢ Some 20) where
     abbrev stamped : Entry
-    stamped = with_version (x.version + 1) (with_expiry (At t) x)
+    stamped = with_version (x.version + 1) (with_expiry (Some t) x)
 
-    here : entry_of k f remaining ≡ some x
+    here : entry_of k f remaining ≡ Some x
     here = live_found (now_at clock s) k f s.slots apart x q l
 
     sets : effect_on (now_at clock s) setting s ≡ writing false stamped (number 1)
     unfolding effect deed_effect expire_effect key_of fields_of or_else setter_version next_version
     sets =
-        let stale : effect_on (now_at clock s) setting s ≡ writing (is_stale (Match v) (some x)) stamped (number 1) = rw here refl in
-        let fresh : is_stale (Match v) (some x) ≡ false = rw stale at (not_stale clock command s setting a r) in
+        let stale : effect_on (now_at clock s) setting s ≡ writing (is_stale (Match v) (Some x)) stamped (number 1) = rw here refl in
+        let fresh : is_stale (Match v) (Some x) ≡ false = rw stale at (not_stale clock command s setting a r) in
         rw (stale, fresh) refl
 
     -- A live field below the largest version keeps its value, and takes the expiry and its version plus 1;
     pub set_live : x.version < version_most
-        → ((exec clock command s).refusal ≡ none)
+        → ((exec clock command s).refusal ≡ None)
         × ((exec clock command s).reply ≡ number 1)
-        × (entry_of k f (exec clock command s).store.slots ≡ some (entry k f x.value (x.version + 1) (At t)))
+        × (entry_of k f (exec clock command s).store.slots ≡ Some (entry k f x.value (x.version + 1) (Some t)))
     unfolding key_of fields_of added adds any passes
     set_live m =
         let w = entry_some k f remaining x here in
-        let held = any_some (holds x.key x.field) remaining none w.slot w.inside (rw w.here (holds_own x)) in
+        let held = any_some (holds x.key x.field) remaining None w.slot w.inside (rw w.here (holds_own x)) in
         let done = (done_exactly clock command s setting a).1 (
           record {
             fresh = rw sets refl;
@@ -187,7 +186,7 @@ module _ (clock : ℕ) (command : List ℕ) (s : Store) (k f : Word) (t v : ℕ)
         )
 
     -- at the largest it is refused with 23.
-    pub set_largest : x.version ≡ version_most → (exec clock command s).refusal ≡ some 23
+    pub set_largest : x.version ≡ version_most → (exec clock command s).refusal ≡ Some 23
     unfolding any passes
     set_largest m =
         (overflow_given clock command s setting a).1 (
@@ -198,10 +197,10 @@ module _ (clock : ℕ) (command : List ℕ) (s : Store) (k f : Word) (t v : ℕ)
         )
 
   -- A field that is not live is missing then, and stays so.
-  pub set_none : ((x : Entry) → entry_of k f s.slots ≡ some x → live (now_at clock s) x ≡ false)
-      → ((exec clock command s).refusal ≡ none)
+  pub set_none : ((x : Entry) → entry_of k f s.slots ≡ Some x → live (now_at clock s) x ≡ false)
+      → ((exec clock command s).refusal ≡ None)
       × ((exec clock command s).reply ≡ number 0)
-      × (entry_of k f (exec clock command s).store.slots ≡ none)
+      × (entry_of k f (exec clock command s).store.slots ≡ None)
   unfolding effect deed_effect expire_effect key_of fields_of or_else added any change_all
   set_none dead =
       let gone = dead_gone (now_at clock s) k f s.slots apart dead in
@@ -233,7 +232,7 @@ module _ (clock : ℕ) (command plain : List ℕ) (s : Store) (k f : Word) (v : 
   -- An EXHSET with VER that is not refused with 20 has the outcome of one without,
   pub assigns_as_none : (x : Word) (c : Condition) (t : Lifetime)
       → parse (now_at clock s) clock command ≡ accepted (on_field k f (assign x c (Match v) t))
-      → parse (now_at clock s) clock plain ≡ accepted (on_field k f (assign x c Next t)) → (exec clock command s).refusal ≢ some 20
+      → parse (now_at clock s) clock plain ≡ accepted (on_field k f (assign x c Next t)) → (exec clock command s).refusal ≢ Some 20
       → exec clock command s ≡ exec clock plain s
   unfolding effect deed_effect set_effect written next_version is_stale key_of fields_of
   assigns_as_none x c t a b r =
@@ -254,7 +253,7 @@ module _ (clock : ℕ) (command plain : List ℕ) (s : Store) (k f : Word) (v : 
   -- and so has an EXHINCRBY.
   pub increments_as_none : (m l g : ℤ) (t : Lifetime)
       → parse (now_at clock s) clock command ≡ accepted (on_field k f (increment m l g (Match v) t))
-      → parse (now_at clock s) clock plain ≡ accepted (on_field k f (increment m l g Next t)) → (exec clock command s).refusal ≢ some 20
+      → parse (now_at clock s) clock plain ≡ accepted (on_field k f (increment m l g Next t)) → (exec clock command s).refusal ≢ Some 20
       → exec clock command s ≡ exec clock plain s
   unfolding effect deed_effect increment_effect written next_version is_stale key_of fields_of
   increments_as_none m l g t a b r =

@@ -1,15 +1,15 @@
 -- What a command with VER, ABS or GT does with its field: nothing, or one entry written at the version that the option gives.
+use Rattle.std.specs.Prelude.{Option, None, Some}
 use mathlib.Core.Path.{◌≡◌, refl, sym, ap, ◌∙◌}
 use mathlib.Core.Logic.{◌≢◌, ◌⊎◌, inl, inr, ◌↔◌}
 use mathlib.Core.Bool.{Bool, true, false, cond, not, ◌&&◌, ◌||◌}
 use mathlib.Core.List.{List, [], ◌∷◌}
-use mathlib.Core.Option.{Option, none, some}
 use Prim.Native.Nat.{ℕ, ◌≤◌}
 use lib.Dec.{ltb}
 use lib.IntN.{negsuc}
 use native.Mathlib.Omega.{arith}
 use borrow.Author.Tests.{not-true}
-use Rattle.wire.specs.Lists.{any, is_some, or_else}
+use Rattle.wire.specs.Lists.{any, or_else}
 use Rattle.wire.specs.Words.{Word}
 use Rattle.wire.specs.Replies.{integer, number}
 use Rattle.wire.proofs.Lists.{and_left, and_right, both_ways}
@@ -42,19 +42,19 @@ use Rattle.commands.proofs.VersionPlans.{missing_fresh}
 -- ---- the named field and the sweep
 
 -- an entry that is found by its own name is found by the names that it has
-pub named_entry : (k f : Word) (ss : List Slot) (e : Entry) → Named k f e → entry_of e.key e.field ss ≡ some e → entry_of k f ss ≡ some e
+pub named_entry : (k f : Word) (ss : List Slot) (e : Entry) → Named k f e → entry_of e.key e.field ss ≡ Some e → entry_of k f ss ≡ Some e
 named_entry k f ss e n h = ap (λ x. entry_of x f ss) (sym n.key) ∙ ap (λ y. entry_of e.key y ss) (sym n.field) ∙ h
 
 module _ (now : ℕ) (k f : Word) (ss : List Slot) (apart : Apart ss) where
   -- A live entry is found after the sweep,
-  pub live_found : (e : Entry) → entry_of k f ss ≡ some e → live now e ≡ true → entry_of k f (sweep now k (f ∷ []) ss) ≡ some e
+  pub live_found : (e : Entry) → entry_of k f ss ≡ Some e → live now e ≡ true → entry_of k f (sweep now k (f ∷ []) ss) ≡ Some e
   live_found e h l =
       let t = entry_some k f ss e h in
       named_entry k f (sweep now k (f ∷ []) ss) e t.named
       (entry_is (sweep now k (f ∷ []) ss) t.slot e (sweep_apart now k (f ∷ []) ss apart) (sweep_keeps_live now k (f ∷ []) ss t.slot e t.here l))
 
   -- what is found then was there, and live,
-  found_was : (e : Entry) → entry_of k f (sweep now k (f ∷ []) ss) ≡ some e → (entry_of k f ss ≡ some e) × (live now e ≡ true)
+  found_was : (e : Entry) → entry_of k f (sweep now k (f ∷ []) ss) ≡ Some e → (entry_of k f ss ≡ Some e) × (live now e ≡ true)
   unfolding any
   found_was e q =
       let t = entry_some k f (sweep now k (f ∷ []) ss) e q in (
@@ -63,28 +63,28 @@ module _ (now : ℕ) (k f : Word) (ss : List Slot) (apart : Apart ss) where
       )
 
   -- and a dead one is gone.
-  pub dead_gone : ((e : Entry) → entry_of k f ss ≡ some e → live now e ≡ false) → entry_of k f (sweep now k (f ∷ []) ss) ≡ none
+  pub dead_gone : ((e : Entry) → entry_of k f ss ≡ Some e → live now e ≡ false) → entry_of k f (sweep now k (f ∷ []) ss) ≡ None
   dead_gone dead = go (entry_of k f (sweep now k (f ∷ []) ss)) refl
     where
-      go : (o : Option Entry) → entry_of k f (sweep now k (f ∷ []) ss) ≡ o → entry_of k f (sweep now k (f ∷ []) ss) ≡ none
-      go none q = q
-      go (some e) q = both_ways (found_was e q).1 (dead e (found_was e q).0)
+      go : (o : Option Entry) → entry_of k f (sweep now k (f ∷ []) ss) ≡ o → entry_of k f (sweep now k (f ∷ []) ss) ≡ None
+      go None q = q
+      go (Some e) q = both_ways (found_was e q).1 (dead e (found_was e q).0)
 
   -- So what holds of the entry that is found then holds of a live one.
-  pub live_exactly : (P : Option Entry → Type 0) → (P none → ⊥)
-      → P (entry_of k f (sweep now k (f ∷ []) ss)) ↔ ((e : Entry) × (entry_of k f ss ≡ some e) × (live now e ≡ true) × P (some e))
+  pub live_exactly : (P : Option Entry → Type 0) → (P None → ⊥)
+      → P (entry_of k f (sweep now k (f ∷ []) ss)) ↔ ((e : Entry) × (entry_of k f ss ≡ Some e) × (live now e ≡ true) × P (Some e))
   live_exactly P never = (λ p. go (entry_of k f (sweep now k (f ∷ []) ss)) refl p, λ (e, h, l, p). rw (live_found e h l) p)
     where
-      go : (o : Option Entry) → entry_of k f (sweep now k (f ∷ []) ss) ≡ o → P o → (e : Entry) × (entry_of k f ss ≡ some e) × (live now e ≡ true) × P (some e)
-      go none q p = absurd (never p)
-      go (some e) q p = (e, (found_was e q).0, (found_was e q).1, p)
+      go : (o : Option Entry) → entry_of k f (sweep now k (f ∷ []) ss) ≡ o → P o → (e : Entry) × (entry_of k f ss ≡ Some e) × (live now e ≡ true) × P (Some e)
+      go None q p = absurd (never p)
+      go (Some e) q p = (e, (found_was e q).0, (found_was e q).1, p)
 
 -- ---- one entry written
 
 -- A command that is done and writes just one entry leaves it as the entry of its key and field.
 pub wrote_one : (clock : ℕ) (command : List ℕ) (s : Store) (c : Command) (e : Entry) → Apart s.slots → parse (now_at clock s) clock command ≡ accepted c
-    → (exec clock command s).refusal ≡ none → (effect_on (now_at clock s) c s).changes ≡ write e ∷ []
-    → entry_of e.key e.field (exec clock command s).store.slots ≡ some e
+    → (exec clock command s).refusal ≡ None → (effect_on (now_at clock s) c s).changes ≡ write e ∷ []
+    → entry_of e.key e.field (exec clock command s).store.slots ≡ Some e
 unfolding change_all change added adds any
 wrote_one clock command s c e apart a r w =
     rw ((done_gives clock command s c a r).1, w)
@@ -94,9 +94,9 @@ wrote_one clock command s c e apart a r w =
     left = swept_by (now_at clock s) c s
 
     go : (o : Option ℕ) → slot_for (now_at clock s) e.key e.field left ≡ o → added (write e ∷ []) left ≤ room (now_at clock s) left
-        → entry_of e.key e.field (put (now_at clock s) e left) ≡ some e
-    go (some i) q h = put_entry (now_at clock s) e left i (sweep_apart (now_at clock s) (key_of c) (fields_of c) s.slots apart) q
-    go none q h =
+        → entry_of e.key e.field (put (now_at clock s) e left) ≡ Some e
+    go (Some i) q h = put_entry (now_at clock s) e left i (sweep_apart (now_at clock s) (key_of c) (fields_of c) s.slots apart) q
+    go None q h =
         let full = slot_none (now_at clock s) e.key e.field left q in
         absurd (omega (arith, rw (full.0, full.1) at h))
 
@@ -118,7 +118,7 @@ module _ (clock : ℕ) (command : List ℕ) (s : Store) (c : Command) (a : parse
   says = effect_on (now_at clock s) c s
 
   -- 20 is given exactly if the version is stale,
-  pub stale_given : ((exec clock command s).refusal ≡ some 20) ↔ (says.stale ≡ true)
+  pub stale_given : ((exec clock command s).refusal ≡ Some 20) ↔ (says.stale ≡ true)
   unfolding late_checks
   stale_given = (
     λ r. (late_applied (now_at clock s) says _ 20 ((late_exactly clock command s c a 20).0 r).applies).0 refl,
@@ -126,7 +126,7 @@ module _ (clock : ℕ) (command : List ℕ) (s : Store) (c : Command) (a : parse
   )
 
   -- so where it is not given the version is not stale,
-  pub not_stale : (exec clock command s).refusal ≢ some 20 → says.stale ≡ false
+  pub not_stale : (exec clock command s).refusal ≢ Some 20 → says.stale ≡ false
   not_stale r = go says.stale refl
     where
       go : (t : Bool) → says.stale ≡ t → t ≡ false
@@ -134,7 +134,7 @@ module _ (clock : ℕ) (command : List ℕ) (s : Store) (c : Command) (a : parse
       go false q = refl
 
   -- and 23 exactly if none of 20 to 22 applies and a version would pass its largest.
-  pub overflow_given : ((exec clock command s).refusal ≡ some 23)
+  pub overflow_given : ((exec clock command s).refusal ≡ Some 23)
       ↔ ((says.stale ≡ false) × (says.not_integer ≡ false) × (says.overflows ≡ false) × (any passes says.changes ≡ true))
   unfolding late_checks
   overflow_given = (
@@ -162,11 +162,11 @@ Changed k f n d found E =
 
 -- an entry that is found has the names by which it was looked for
 FoundBy : Word → Word → Option Entry → Type 0
-FoundBy k f none = Unit {0}
-FoundBy k f (some e) = Named k f e
+FoundBy k f None = Unit {0}
+FoundBy k f (Some e) = Named k f e
 
 -- with an option a setter changes the version as any other command does
-setter_next : (n : Versioning) (e : Entry) → n ≢ Next → setter_version n e ≡ next_version n (some e)
+setter_next : (n : Versioning) (e : Entry) → n ≢ Next → setter_version n e ≡ next_version n (Some e)
 unfolding setter_version
 setter_next Next e g = absurd (g refl)
 setter_next (Match v) e g = refl
@@ -175,7 +175,7 @@ setter_next (Above v) e g = refl
 
 module _ (now : ℕ) (ss : List Slot) (k f : Word) (n : Versioning) (g : n ≢ Next) where
   given_changes : (d : Deed) (found : Option Entry) → FoundBy k f found → deed_versioning d ≡ n → Changed k f n d found (deed_effect now ss k f d found)
-  unfolding deed_effect deed_versioning set_effect increment_effect expire_effect written idle is_some or_else FoundBy
+  unfolding deed_effect deed_versioning set_effect increment_effect expire_effect written idle or_else FoundBy
   given_changes (assign x c m t) found b h = go (barred c found) refl
     where
       go : (p : Bool) → barred c found ≡ p
@@ -184,8 +184,8 @@ module _ (now : ℕ) (ss : List Slot) (k f : Word) (n : Versioning) (g : n ≢ N
       go true q = inl (q, refl, refl)
       go false q = inr (written k f x m t found, q, refl, record { key = refl; field = refl }, rw h refl, rw h refl)
   given_changes (increment a l u m t) found b h = inr (_, refl, refl, record { key = refl; field = refl }, rw h refl, rw h refl)
-  given_changes (expire t m) none b h = inl (refl, refl, refl)
-  given_changes (expire t m) (some e) b h = inr (_, refl, refl, record { key = b.key; field = b.field }, rw h (setter_next n e g), rw h refl)
+  given_changes (expire t m) None b h = inl (refl, refl, refl)
+  given_changes (expire t m) (Some e) b h = inr (_, refl, refl, record { key = b.key; field = b.field }, rw h (setter_next n e g), rw h refl)
   given_changes persist found b h = absurd (g (sym h))
   given_changes (renumber m) found b h = absurd (g (sym h))
   given_changes (ask q) found b h = absurd (g (sym h))
@@ -195,8 +195,8 @@ unfolding FoundBy
 found_by k f ss = go (entry_of k f ss) refl
   where
     go : (o : Option Entry) → entry_of k f ss ≡ o → FoundBy k f o
-    go none h = tt
-    go (some e) h = (entry_some k f ss e h).named
+    go None h = tt
+    go (Some e) h = (entry_some k f ss e h).named
 
 pub and_none : (t : Bool) → t && false ≡ false
 and_none true = refl
@@ -249,7 +249,7 @@ module _ (clock : ℕ) (command : List ℕ) (s : Store) (k f : Word) (d : Deed) 
       go (inr (e, i, q, m, v, st)) = rw (q, i) (or_none (ltb version_most e.version) ∙ rw v refl)
 
   -- If it is done and writes its field, it leaves it at the version that the option gives, and the option was not stale.
-  pub given_leaves : Apart s.slots → (exec clock command s).refusal ≡ none → any (writes k f) did.changes ≡ true
+  pub given_leaves : Apart s.slots → (exec clock command s).refusal ≡ None → any (writes k f) did.changes ≡ true
       → Numbered k f (next_version n (entry_of k f left)) (exec clock command s).store.slots × (is_stale n (entry_of k f left) ≡ false)
   unfolding any
   given_leaves apart r w = go changed
@@ -268,8 +268,8 @@ module _ (clock : ℕ) (command : List ℕ) (s : Store) (k f : Word) (d : Deed) 
 
   -- It is refused with 20 exactly if its field is live and the option stale there, and it is not idle.
   pub given_stale_exactly : Apart s.slots
-      → ((exec clock command s).refusal ≡ some 20)
-      ↔ ((x : Entry) × (entry_of k f s.slots ≡ some x) × (live (now_at clock s) x ≡ true) × (idle d (some x) ≡ false) × (is_stale n (some x) ≡ true))
+      → ((exec clock command s).refusal ≡ Some 20)
+      ↔ ((x : Entry) × (entry_of k f s.slots ≡ Some x) × (live (now_at clock s) x ≡ true) × (idle d (Some x) ≡ false) × (is_stale n (Some x) ≡ true))
   given_stale_exactly apart =
       let found = live_exactly (now_at clock s) k f s.slots apart (λ o. (idle d o ≡ false) × (is_stale n o ≡ true)) (λ p. both_ways p.1 (sym (missing_fresh n))) in
       let given = stale_given clock command s (on_field k f d) a in (

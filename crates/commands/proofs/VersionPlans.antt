@@ -1,18 +1,14 @@
 -- What decides a version, an expiry and a condition, said of plain values: each case of the code, and that they are the field's.
+use Rattle.std.specs.Prelude.{Option, None, Some}
 use mathlib.Core.Path.{◌≡◌, refl, sym}
 use mathlib.Core.Logic.{◌≢◌}
 use mathlib.Core.Bool.{Bool, true, false, not}
 use mathlib.Core.List.{List, []}
-use mathlib.Core.Option.{Option, none, some}
 use Prim.Native.Nat.{ℕ, ◌+◌, ◌≤◌, ◌<◌}
 use lib.Dec.{leb, eqb}
 use native.Mathlib.Omega.{arith}
 use borrow.Author.Tests.{lt-leb, ne_eqb}
-use Rattle.wire.specs.Lists.{or_else, is_some}
-use Rattle.store.specs.declared.Expiry.{Expiry}
-use Rattle.store.specs.declared.Expiry.TheVariants.{Never, At}
-use Rattle.store.specs.declared.Found.{Found}
-use Rattle.store.specs.declared.Found.TheVariants as founds
+use Rattle.wire.specs.Lists.{or_else}
 use Rattle.store.specs.Store.{Entry, Slot}
 use Rattle.commands.specs.declared.Versioning.{Versioning}
 use Rattle.commands.specs.declared.Versioning.TheVariants.{Next, Match, Exactly, Above}
@@ -26,43 +22,43 @@ use Rattle.commands.specs.Promises.{entry_for, held_version, held_expiry, versio
 -- ---- the cases
 
 module _ {n : Versioning} (v : ℕ) where
-  pub match_stale : {w : ℕ} → n ≡ Match w → 1 ≤ w → v ≢ 0 → not (eqb v w) ≡ is_stale n (some (versioned v))
+  pub match_stale : {w : ℕ} → n ≡ Match w → 1 ≤ w → v ≢ 0 → not (eqb v w) ≡ is_stale n (Some (versioned v))
   unfolding is_stale or_else
   match_stale {w} h l d = rw (h, ne_eqb w 0 (omega arith), ne_eqb v 0 d) refl
 
-  pub match_zero : {w : ℕ} → n ≡ Match w → 1 ≤ w → v ≡ 0 → not (eqb v 0) ≡ is_stale n (some (versioned v))
+  pub match_zero : {w : ℕ} → n ≡ Match w → 1 ≤ w → v ≡ 0 → not (eqb v 0) ≡ is_stale n (Some (versioned v))
   unfolding is_stale or_else
   match_zero {w} h l z = rw (h, z, ne_eqb w 0 (omega arith)) refl
 
-  pub match_none : {w least : ℕ} → n ≡ Match w → w ≡ 0 → w < least → leb least w ≡ is_stale n (some (versioned v))
+  pub match_none : {w least : ℕ} → n ≡ Match w → w ≡ 0 → w < least → leb least w ≡ is_stale n (Some (versioned v))
   unfolding is_stale or_else
   match_none {w} {least} h z l = rw (lt-leb least w l, h, z) refl
 
-  pub above_stale : {w : ℕ} → n ≡ Above w → leb w v ≡ is_stale n (some (versioned v))
+  pub above_stale : {w : ℕ} → n ≡ Above w → leb w v ≡ is_stale n (Some (versioned v))
   unfolding is_stale or_else
   above_stale h = rw h refl
 
-  pub next_fresh : n ≡ Next → false ≡ is_stale n (some (versioned v))
+  pub next_fresh : n ≡ Next → false ≡ is_stale n (Some (versioned v))
   unfolding is_stale or_else
   next_fresh h = rw h refl
 
-  pub exactly_fresh : {w : ℕ} → n ≡ Exactly w → false ≡ is_stale n (some (versioned v))
+  pub exactly_fresh : {w : ℕ} → n ≡ Exactly w → false ≡ is_stale n (Some (versioned v))
   unfolding is_stale or_else
   exactly_fresh h = rw h refl
 
-  pub next_version_lem : n ≡ Next → v + 1 ≡ next_version n (some (versioned v))
+  pub next_version_lem : n ≡ Next → v + 1 ≡ next_version n (Some (versioned v))
   unfolding next_version or_else
   next_version_lem h = rw h refl
 
-  pub match_version : {w : ℕ} → n ≡ Match w → v + 1 ≡ next_version n (some (versioned v))
+  pub match_version : {w : ℕ} → n ≡ Match w → v + 1 ≡ next_version n (Some (versioned v))
   unfolding next_version or_else
   match_version h = rw h refl
 
-  pub exactly_version : {w : ℕ} → n ≡ Exactly w → w ≡ next_version n (some (versioned v))
+  pub exactly_version : {w : ℕ} → n ≡ Exactly w → w ≡ next_version n (Some (versioned v))
   unfolding next_version or_else
   exactly_version h = rw h refl
 
-  pub above_version : {w : ℕ} → n ≡ Above w → w ≡ next_version n (some (versioned v))
+  pub above_version : {w : ℕ} → n ≡ Above w → w ≡ next_version n (Some (versioned v))
   unfolding next_version or_else
   above_version h = rw h refl
 
@@ -82,46 +78,46 @@ module _ {n : Versioning} (v : ℕ) where
   unfolding setter_version next_version or_else
   above_setter h = rw h refl
 
-module _ {t : Lifetime} (x : Expiry) where
-  pub clear_expiry : t ≡ Clear → Never ≡ next_expiry t (some (expiring x))
+module _ {t : Lifetime} (x : Option ℕ) where
+  pub clear_expiry : t ≡ Clear → None ≡ next_expiry t (Some (expiring x))
   unfolding next_expiry or_else
   clear_expiry h = rw h refl
 
-  pub keep_expiry : t ≡ Keep → x ≡ next_expiry t (some (expiring x))
+  pub keep_expiry : t ≡ Keep → x ≡ next_expiry t (Some (expiring x))
   unfolding next_expiry or_else
   keep_expiry h = rw h refl
 
-  pub until_expiry : {i : ℕ} → t ≡ Until i → At i ≡ next_expiry t (some (expiring x))
+  pub until_expiry : {i : ℕ} → t ≡ Until i → Some i ≡ next_expiry t (Some (expiring x))
   unfolding next_expiry or_else
   until_expiry h = rw h refl
 
 -- Whether a field is there, and whether a condition keeps it from being written.
-module _ {c : Condition} (r : Found) where
+module _ {c : Condition} (r : Option ℕ) where
   pub always_open : c ≡ Always → false ≡ barred c (entry_for [] r)
   unfolding barred
   always_open h = rw h refl
 
-  module _ {i : ℕ} (h : r ≡ founds.At i) where
+  module _ {i : ℕ} (h : r ≡ Some i) where
     pub missing_barred : c ≡ Missing → true ≡ barred c (entry_for [] r)
-    unfolding barred entry_for is_some
+    unfolding barred entry_for
     missing_barred g = rw (g, h) refl
 
     pub live_open : c ≡ Live → false ≡ barred c (entry_for [] r)
-    unfolding barred entry_for is_some
+    unfolding barred entry_for
     live_open g = rw (g, h) refl
 
-  module _ (h : r ≡ founds.Nothing) where
+  module _ (h : r ≡ None) where
     pub missing_open : c ≡ Missing → false ≡ barred c (entry_for [] r)
-    unfolding barred entry_for is_some
+    unfolding barred entry_for
     missing_open g = rw (g, h) refl
 
     pub live_barred : c ≡ Live → true ≡ barred c (entry_for [] r)
-    unfolding barred entry_for is_some
+    unfolding barred entry_for
     live_barred g = rw (g, h) refl
 
 -- ---- they are the field's
 
-stale_held : (n : Versioning) (e : Entry) → is_stale n (some (versioned e.version)) ≡ is_stale n (some e)
+stale_held : (n : Versioning) (e : Entry) → is_stale n (Some (versioned e.version)) ≡ is_stale n (Some e)
 unfolding is_stale or_else
 stale_held Next e = refl
 stale_held (Match v) e = refl
@@ -129,19 +125,19 @@ stale_held (Exactly v) e = refl
 stale_held (Above v) e = refl
 
 -- of a missing field nothing is stale
-pub missing_fresh : (n : Versioning) → false ≡ is_stale n none
+pub missing_fresh : (n : Versioning) → false ≡ is_stale n None
 unfolding is_stale or_else
 missing_fresh Next = refl
 missing_fresh (Match v) = refl
 missing_fresh (Exactly v) = refl
 missing_fresh (Above v) = refl
 
-version_held : (n : Versioning) (found : Option Entry) → next_version n (some (versioned (held_version found))) ≡ next_version n found
+version_held : (n : Versioning) (found : Option Entry) → next_version n (Some (versioned (held_version found))) ≡ next_version n found
 unfolding next_version held_version or_else
-version_held Next none = refl
-version_held Next (some e) = refl
-version_held (Match v) none = refl
-version_held (Match v) (some e) = refl
+version_held Next None = refl
+version_held Next (Some e) = refl
+version_held (Match v) None = refl
+version_held (Match v) (Some e) = refl
 version_held (Exactly v) found = refl
 version_held (Above v) found = refl
 
@@ -152,32 +148,32 @@ setter_held (Match v) e = refl
 setter_held (Exactly v) e = refl
 setter_held (Above v) e = refl
 
-expiry_held : (t : Lifetime) (found : Option Entry) → next_expiry t (some (expiring (held_expiry found))) ≡ next_expiry t found
+expiry_held : (t : Lifetime) (found : Option Entry) → next_expiry t (Some (expiring (held_expiry found))) ≡ next_expiry t found
 unfolding next_expiry held_expiry or_else
 expiry_held Clear found = refl
-expiry_held Keep none = refl
-expiry_held Keep (some e) = refl
+expiry_held Keep None = refl
+expiry_held Keep (Some e) = refl
 expiry_held (Until i) found = refl
 
-barred_held : (c : Condition) (ss : List Slot) (r : Found) → barred c (entry_for [] r) ≡ barred c (entry_for ss r)
-unfolding barred entry_for is_some
+barred_held : (c : Condition) (ss : List Slot) (r : Option ℕ) → barred c (entry_for [] r) ≡ barred c (entry_for ss r)
+unfolding barred entry_for
 barred_held Always ss r = refl
-barred_held Missing ss (founds.At i) = refl
-barred_held Missing ss founds.Nothing = refl
-barred_held Live ss (founds.At i) = refl
-barred_held Live ss founds.Nothing = refl
+barred_held Missing ss (Some i) = refl
+barred_held Missing ss None = refl
+barred_held Live ss (Some i) = refl
+barred_held Live ss None = refl
 
 -- ---- so what the code decides is what the definitions say
 
-pub stale_is : (e : Entry) (n : Versioning) {v : ℕ} {t : Bool} → v ≡ e.version → t ≡ is_stale n (some (versioned v)) → t ≡ is_stale n (some e)
+pub stale_is : (e : Entry) (n : Versioning) {v : ℕ} {t : Bool} → v ≡ e.version → t ≡ is_stale n (Some (versioned v)) → t ≡ is_stale n (Some e)
 stale_is e n h q = rw (q, h) (stale_held n e)
 
 module _ (found : Option Entry) where
-  pub version_is : (n : Versioning) {v m : ℕ} → v ≡ held_version found → m ≡ next_version n (some (versioned v)) → m ≡ next_version n found
+  pub version_is : (n : Versioning) {v m : ℕ} → v ≡ held_version found → m ≡ next_version n (Some (versioned v)) → m ≡ next_version n found
   version_is n h q = rw (q, h) (version_held n found)
 
-  pub expiry_is : (t : Lifetime) {x y : Expiry} → x ≡ held_expiry found → y ≡ next_expiry t (some (expiring x)) → y ≡ next_expiry t found
+  pub expiry_is : (t : Lifetime) {x y : Option ℕ} → x ≡ held_expiry found → y ≡ next_expiry t (Some (expiring x)) → y ≡ next_expiry t found
   expiry_is t h q = rw (q, h) (expiry_held t found)
 
-pub barred_is : (c : Condition) (ss : List Slot) (r : Found) {t : Bool} → t ≡ barred c (entry_for [] r) → barred c (entry_for ss r) ≡ t
+pub barred_is : (c : Condition) (ss : List Slot) (r : Option ℕ) {t : Bool} → t ≡ barred c (entry_for [] r) → barred c (entry_for ss r) ≡ t
 barred_is c ss r q = rw q (sym (barred_held c ss r))

@@ -1,7 +1,7 @@
 -- The three ways in which one record goes. Every law about `exec` looks at these, and at nothing else of the frame.
+use Rattle.std.specs.Prelude.{Option, None, Some}
 use mathlib.Core.Path.{◌≡◌, refl}
 use mathlib.Core.List.{List}
-use mathlib.Core.Option.{Option, none, some}
 use Prim.Native.Nat.{ℕ}
 use Rattle.wire.specs.Lists.{or_else}
 use Rattle.store.specs.Store.{Slot, Store}
@@ -34,10 +34,10 @@ doing now c s = done_with (effect_on now c s).reply (store_of now (change_all no
 pub data Went (clock : ℕ) (command : List ℕ) (s : Store) : Outcome → Type 0 where
   early : (n : ℕ) → parse (now_at clock s) clock command ≡ refused n → Went clock command s (refused_with n s)
   late :
-      (c : Command) (n : ℕ) → parse (now_at clock s) clock command ≡ accepted c → late_refusal (now_at clock s) c s ≡ some n
+      (c : Command) (n : ℕ) → parse (now_at clock s) clock command ≡ accepted c → late_refusal (now_at clock s) c s ≡ Some n
       → Went clock command s (refused_with n (store_of (now_at clock s) (swept_by (now_at clock s) c s)))
   done :
-      (c : Command) → parse (now_at clock s) clock command ≡ accepted c → late_refusal (now_at clock s) c s ≡ none
+      (c : Command) → parse (now_at clock s) clock command ≡ accepted c → late_refusal (now_at clock s) c s ≡ None
       → Went clock command s (doing (now_at clock s) c s)
 
 -- an accepted command: refused late, or done
@@ -47,8 +47,8 @@ unfolding run run_on settle or_else
 went_accepted clock command s c p = go (late_refusal (now_at clock s) c s) refl
   where
     go : (r : Option ℕ) → late_refusal (now_at clock s) c s ≡ r → Went clock command s (run (now_at clock s) c s)
-    go none e = rw e (done c p e)
-    go (some n) e = rw e (late c n p e)
+    go None e = rw e (done c p e)
+    go (Some n) e = rw e (late c n p e)
 
 -- Every record goes in one of the three ways.
 pub went : (clock : ℕ) (command : List ℕ) (s : Store) → Went clock command s (exec clock command s)

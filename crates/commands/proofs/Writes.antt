@@ -1,8 +1,8 @@
 -- Every entry that a sound command writes fits, if its version does not pass its largest.
+use Rattle.std.specs.Prelude.{Option, None, Some, unwrap_or}
 use mathlib.Core.Path.{◌≡◌, refl, ◌∙◌}
 use mathlib.Core.Bool.{Bool, true, false, cond, not, ◌&&◌}
 use mathlib.Core.List.{List, [], ◌∷◌, map}
-use mathlib.Core.Option.{Option, none, some, get_or}
 use Prim.Native.Nat.{ℕ, suc, ◌≤◌}
 use lib.IntN.{ℤ, pos, negsuc, ◌+ℤ◌}
 use lib.ListN.{length}
@@ -15,8 +15,6 @@ use Rattle.wire.specs.Replies.{integer, number}
 use Rattle.wire.proofs.IntegerLaws.{bytes_integer_text, length_integer_text}
 use Rattle.wire.proofs.Lists.{and_left, or_left, or_right}
 use Rattle.store.specs.Layout.{key_most, field_most, value_most, version_most, time_limit}
-use Rattle.store.specs.declared.Expiry.{Expiry}
-use Rattle.store.specs.declared.Expiry.TheVariants.{Never, At}
 use Rattle.store.specs.Store.{Entry, Slot, instant_of}
 use Rattle.store.specs.Time.{entry_of, put}
 use Rattle.store.specs.Promises.{stamped}
@@ -90,15 +88,15 @@ pub found_fits : (k f : Word) (ss : List Slot) → AllFit ss → FitsSlot (entry
 found_fits k f ss h = go (entry_of k f ss) refl
   where
     go : (o : Option Entry) → entry_of k f ss ≡ o → FitsSlot o
-    go none e = tt
-    go (some e) q = entry_fits k f ss e h q
+    go None e = tt
+    go (Some e) q = entry_fits k f ss e h q
 
 -- An expiry that a field is given lies within the limit.
 pub next_expiry_lem : (t : Lifetime) (found : Option Entry) → beyond t ≡ false → FitsSlot found → instant_of (next_expiry t found) ≤ time_limit
 unfolding beyond next_expiry or_else instant_of
 next_expiry_lem Clear found b h = omega arith
-next_expiry_lem Keep none b h = omega arith
-next_expiry_lem Keep (some e) b h = h.expiry
+next_expiry_lem Keep None b h = omega arith
+next_expiry_lem Keep (Some e) b h = h.expiry
 next_expiry_lem (Until t) found b h = ltb-false time_limit t b
 
 writing_fits : (k f v : Word) (n : Versioning) (t : Lifetime) (found : Option Entry) → Bounded key_most k → Bounded field_most f → Bounded value_most v
@@ -114,7 +112,7 @@ writing_fits k f v n t found hk hf hv x m =
       value_bytes = hv.bytes;
     }
 
-stamped_fits : (e : Entry) (v : ℕ) (t : Expiry) → Fits e → instant_of t ≤ time_limit → FitsOnce (write (stamped v t e))
+stamped_fits : (e : Entry) (v : ℕ) (t : Option ℕ) → Fits e → instant_of t ≤ time_limit → FitsOnce (write (stamped v t e))
 stamped_fits e v t h x m =
     record {
       short = h.short;
@@ -147,16 +145,16 @@ module _ (now : ℕ) (ss : List Slot) (k f : Word) (hk : Bounded key_most k) (hf
       tt
       (writing_fits k f v n t found hk hf (hv 0) (next_expiry_lem t found b h), tt)
   deed_writable (increment a l g n t) found hv b h o =
-      (writing_fits k f (integer_text (get_or (counted found) (pos 0) +ℤ a)) n t found hk hf (sum_short _ _ o) (next_expiry_lem t found b h), tt)
-  deed_writable (expire t n) none hv b h o = tt
-  deed_writable (expire t n) (some e) hv b h o = (stamped_fits e _ (At t) h (ltb-false time_limit t b), tt)
-  deed_writable persist none hv b h o = tt
-  deed_writable persist (some e) hv b h o =
-      either_writable (has_expiry e.expiry) (writing false (stamped e.version Never e) (number 1)) (answer (number 0))
-      (stamped_fits e e.version Never h (omega arith), tt)
+      (writing_fits k f (integer_text (unwrap_or (counted found) (pos 0) +ℤ a)) n t found hk hf (sum_short _ _ o) (next_expiry_lem t found b h), tt)
+  deed_writable (expire t n) None hv b h o = tt
+  deed_writable (expire t n) (Some e) hv b h o = (stamped_fits e _ (Some t) h (ltb-false time_limit t b), tt)
+  deed_writable persist None hv b h o = tt
+  deed_writable persist (Some e) hv b h o =
+      either_writable (has_expiry e.expiry) (writing false (stamped e.version None e) (number 1)) (answer (number 0))
+      (stamped_fits e e.version None h (omega arith), tt)
       tt
-  deed_writable (renumber v) none hv b h o = tt
-  deed_writable (renumber v) (some e) hv b h o = (stamped_fits e v e.expiry h h.expiry, tt)
+  deed_writable (renumber v) None hv b h o = tt
+  deed_writable (renumber v) (Some e) hv b h o = (stamped_fits e v e.expiry h h.expiry, tt)
   deed_writable (ask q) found hv b h o = tt
 
 pairs_writable : (now : ℕ) (k : Word) (ps : List Pair) (ss : List Slot) → Bounded key_most k → AllBounded field_most (map (λ p. p.field) ps)

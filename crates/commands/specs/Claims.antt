@@ -1,11 +1,10 @@
 -- What the claims about commands speak of.
+use Rattle.std.specs.Prelude.{Option, None, Some, unwrap_or, is_some}
 use Rattle.std.specs.Prelude.{◌≡◌, ◌⊎◌, Bool, true, false, cond, not, ◌&&◌, List, [], ◌∷◌, ℕ, ◌≤◌, ◌<◌, leb}
-use Rattle.std.proofs.Math.Option.{Option, none, some, get_or}
-use Rattle.wire.specs.Lists.{any, is_some, or_else}
+use Rattle.wire.specs.Lists.{any, or_else}
 use Rattle.wire.specs.Bytes.{same}
 use Rattle.wire.specs.Words.{Word, word_at, words_of}
 use Rattle.store.specs.Layout.{time_limit}
-use Rattle.store.specs.declared.Expiry.TheVariants.{Never}
 use Rattle.store.specs.Store.{Entry, Slot, Store}
 use Rattle.store.specs.Time.{live, entry_of}
 use Rattle.wire.specs.Checks.{Check, ◌when◌}
@@ -23,7 +22,7 @@ Applies n (c ∷ cs) = ((c.number ≡ n) × (c.applies ≡ true)) ⊎ Applies n 
 -- "10: not RESP as above; 11: record clock 4,102,444,800,000 or more; 12: unknown name"; then 13 to 18 of a command whose name is known
 unfoldable pub early_checks : ℕ → ℕ → List ℕ → List Check
 early_checks now clock s =
-    let ws : List Word = get_or (words_of s) [] in
+    let ws : List Word = unwrap_or (words_of s) [] in
     let row : Option CommandRow = command_named commands (word_at 0 ws) in
     10 when not (is_some (words_of s))
     ∷ 11 when leb time_limit clock
@@ -48,20 +47,20 @@ names c e = same e.key (key_of c) && any (same e.field) (fields_of c)
 
 -- the value of the last pair of a field
 unfoldable pub last_of : Word → List Pair → Option Word
-last_of f [] = none
-last_of f (p ∷ ps) = or_else (last_of f ps) (cond (same p.field f) (some p.value) none) some
+last_of f [] = None
+last_of f (p ∷ ps) = or_else (last_of f ps) (cond (same p.field f) (Some p.value) None) Some
 
 -- the entry of a key and a field has a value, and no expiry
 pub record Written (k f v : Word) (ss : List Slot) : Type 0 where
   pub entry : Entry
-  pub here : entry_of k f ss ≡ some entry
+  pub here : entry_of k f ss ≡ Some entry
   pub value : entry.value ≡ v
-  pub expiry : entry.expiry ≡ Never
+  pub expiry : entry.expiry ≡ None
 
 -- the entry of a key and a field has a version
 pub record Numbered (k f : Word) (v : ℕ) (ss : List Slot) : Type 0 where
   pub entry : Entry
-  pub here : entry_of k f ss ≡ some entry
+  pub here : entry_of k f ss ≡ Some entry
   pub version : entry.version ≡ v
 
 -- a deed that takes VER, ABS or GT and does not write its field: an EXHSET that NX or XX bars, an expiry setter of a missing field. The last three
@@ -76,8 +75,8 @@ idle (ask q) found = true
 
 -- at the store's own clock a field is live without expiry at a version below v, or missing while a slot is empty or dead
 pub data Behind (k f : Word) (v : ℕ) (s : Store) : Type 0 where
-  below : (e : Entry) → entry_of k f s.slots ≡ some e → e.expiry ≡ Never → e.version < v → Behind k f v s
-  missing : ((e : Entry) → entry_of k f s.slots ≡ some e → live s.clock e ≡ false) → 1 ≤ room s.clock s.slots → Behind k f v s
+  below : (e : Entry) → entry_of k f s.slots ≡ Some e → e.expiry ≡ None → e.version < v → Behind k f v s
+  missing : ((e : Entry) → entry_of k f s.slots ≡ Some e → live s.clock e ≡ false) → 1 ≤ room s.clock s.slots → Behind k f v s
 
 -- a record of the stream
 pub record Step : Type 0 where

@@ -1,15 +1,13 @@
 -- What each command does to the slots and replies (01, "Versions (000)" and "Command by command"). The named dead entries have been removed
 -- before, so an entry that is found is live.
+use Rattle.std.specs.Prelude.{Option, None, Some, unwrap_or, is_some}
 use Rattle.std.specs.Prelude.{Bool, true, false, cond, not, ◌&&◌, ℕ, ◌+◌, ◌-◌, ◌/◌, leb, eqb, ℤ, pos, negsuc, ◌+ℤ◌, length}
 use mathlib.Core.List.{List, [], ◌∷◌, map, flat_map}
-use Rattle.std.proofs.Math.Option.{Option, some, get_or}
-use Rattle.wire.specs.Lists.{any, keep, is_some, or_else}
+use Rattle.wire.specs.Lists.{any, keep, or_else}
 use Rattle.wire.specs.Bytes.{same}
 use Rattle.wire.specs.Integers.{read_integer, lowest64, highest64, within, integer_text}
 use Rattle.wire.specs.Words.{Word}
 use Rattle.wire.specs.Replies.{line, nil, integer, number, bulk, array}
-use Rattle.store.specs.declared.Expiry.{Expiry}
-use Rattle.store.specs.declared.Expiry.TheVariants.{Never, At}
 use Rattle.store.specs.Store.{Entry, entry, with_version, with_expiry, Slot, holds}
 use Rattle.store.specs.Time.{key_exists, of_key, live_of_key, entry_of, put, without}
 use Rattle.commands.specs.declared.Versioning.{Versioning}
@@ -79,17 +77,17 @@ is_stale (Above v) found = or_else found false (λ e. leb v e.version)
 -- "The four expiry setters change the version only when VER or ABS is given." M-100: GT is taken there too. M-101: VER 0 is given like any VER
 unfoldable pub setter_version : Versioning → Entry → ℕ
 setter_version Next e = e.version
-setter_version (Match v) e = next_version (Match v) (some e)
-setter_version (Exactly v) e = next_version (Exactly v) (some e)
-setter_version (Above v) e = next_version (Above v) (some e)
+setter_version (Match v) e = next_version (Match v) (Some e)
+setter_version (Exactly v) e = next_version (Exactly v) (Some e)
+setter_version (Above v) e = next_version (Above v) (Some e)
 
 -- ---- one field
 
 -- "Expiry is cleared unless an option sets it or KEEPTTL keeps it."
-unfoldable pub next_expiry : Lifetime → Option Entry → Expiry
-next_expiry Clear found = Never
-next_expiry Keep found = or_else found Never (λ e. e.expiry)
-next_expiry (Until t) found = At t
+unfoldable pub next_expiry : Lifetime → Option Entry → Option ℕ
+next_expiry Clear found = None
+next_expiry Keep found = or_else found None (λ e. e.expiry)
+next_expiry (Until t) found = Some t
 
 -- "NX on a live field or XX on a missing one: reply -1"
 unfoldable pub barred : Condition → Option Entry → Bool
@@ -110,12 +108,12 @@ set_effect k f v c n t found =
 
 -- "A missing field counts as 0."
 unfoldable pub counted : Option Entry → Option ℤ
-counted found = or_else found (some (pos 0)) (λ e. read_integer lowest64 highest64 e.value)
+counted found = or_else found (Some (pos 0)) (λ e. read_integer lowest64 highest64 e.value)
 
 -- "The sum is stored as a plain integer's text and replied as a number."
 unfoldable pub increment_effect : Word → Word → ℤ → ℤ → ℤ → Versioning → Lifetime → Option Entry → Effect
 increment_effect k f amount least greatest n t found =
-    let sum : ℤ = get_or (counted found) (pos 0) +ℤ amount in
+    let sum : ℤ = unwrap_or (counted found) (pos 0) +ℤ amount in
     record {
       stale = is_stale n found;
       not_integer = not (is_some (counted found));
@@ -129,19 +127,19 @@ unfoldable pub expire_effect : ℕ → Versioning → Option Entry → Effect
 expire_effect t n found =
     or_else found (answer (number 0)) λ e.
     writing (is_stale n found)
-    (with_version (setter_version n e) (with_expiry (At t) e))
+    (with_version (setter_version n e) (with_expiry (Some t) e))
     (number 1)
 
-unfoldable pub has_expiry : Expiry → Bool
-has_expiry Never = false
-has_expiry (At t) = true
+unfoldable pub has_expiry : Option ℕ → Bool
+has_expiry None = false
+has_expiry (Some t) = true
 
 -- "EXHPERSIST: 1 if an expiry was removed, else 0."
 unfoldable pub persist_effect : Option Entry → Effect
 persist_effect found =
     or_else found (answer (number 0)) λ e.
     cond (has_expiry e.expiry)
-    (writing false (with_expiry Never e) (number 1))
+    (writing false (with_expiry None e) (number 1))
     (answer (number 0))
 
 -- "EXHSETVER (0 allowed): missing 0, else 1."
@@ -151,9 +149,9 @@ renumber_effect v found =
     writing false (with_version v e) (number 1)
 
 -- "EXHPTTL: missing -2, no expiry -1, else expiry less now. EXHTTL: .. that difference divided by 1,000 and rounded down."
-unfoldable pub time_left : ℕ → ℕ → Expiry → ℤ
-time_left now unit Never = negsuc 0
-time_left now unit (At t) = pos ((t - now) / unit)
+unfoldable pub time_left : ℕ → ℕ → Option ℕ → ℤ
+time_left now unit None = negsuc 0
+time_left now unit (Some t) = pos ((t - now) / unit)
 
 -- "EXHGET, EXHSTRLEN, EXHEXISTS: missing gives nil, 0, 0. EXHGETWITHVER: nil, or an array of value and version." "EXHVER: no such key -1, no
 -- such field -2, else the version."

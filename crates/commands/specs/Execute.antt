@@ -1,6 +1,6 @@
 -- One record: its clock and its command, done on a store (01, "Time" and "Answers that say no").
+use Rattle.std.specs.Prelude.{Option, None, Some}
 use Rattle.std.specs.Prelude.{Bool, false, cond, not, ◌&&◌, ◌||◌, List, [], ◌∷◌, ℕ, suc, ltb, length}
-use Rattle.std.proofs.Math.Option.{Option, none, some}
 use Rattle.wire.specs.Lists.{any, keep, or_else}
 use Rattle.wire.specs.Bytes.{same}
 use Rattle.wire.specs.Words.{Word}
@@ -33,7 +33,7 @@ passes (remove k f) = false
 
 -- whether a change writes the entry of a key and a field
 unfoldable pub writes : Word → Word → Change → Bool
-writes k f (write e) = holds k f (some e)
+writes k f (write e) = holds k f (Some e)
 writes k f (remove _ _) = false
 
 -- a field that a change would add, unless a later change writes it too
@@ -70,10 +70,10 @@ pub record Outcome : Type 0 where
   pub store : Store
 
 abbrev pub refused_with : ℕ → Store → Outcome
-refused_with n s = record { refusal = some n; reply = error_line n; store = s }
+refused_with n s = record { refusal = Some n; reply = error_line n; store = s }
 
 abbrev pub done_with : List ℕ → Store → Outcome
-done_with reply s = record { refusal = none; reply = reply; store = s }
+done_with reply s = record { refusal = None; reply = reply; store = s }
 
 -- an effect on a store whose clock is set and whose named dead entries are gone: "20 to 24 set the clock and remove named dead entries only."
 unfoldable pub settle : ℕ → Effect → Store → Outcome

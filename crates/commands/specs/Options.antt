@@ -1,8 +1,8 @@
 -- Options: "Names and option words are read without regard to case. Options follow the fixed words in any order; each at most once."
+use Rattle.std.specs.Prelude.{Option, None, Some, option_map, unwrap_or, is_some}
 use Rattle.std.specs.Prelude.{Bool, true, false, cond, ◌&&◌, ◌||◌, List, [], ◌∷◌, ℕ, ◌+◌, ◌*◌, eqb, ℤ, pos, nat_abs}
-use Rattle.std.proofs.Math.Option.{Option, none, some, map, get_or}
 use Prim.Native.String.{String}
-use Rattle.wire.specs.Lists.{any, is_some, or_else}
+use Rattle.wire.specs.Lists.{any, or_else}
 use Rattle.wire.specs.Bytes.{spells}
 use Rattle.wire.specs.Integers.{read_integer, lowest64, highest64}
 use Rattle.wire.specs.Words.{Word}
@@ -38,7 +38,7 @@ readable r w = is_some (read_in r w)
 
 -- the number of a word, 0 where it is not in its range (refusal 16 has been given then)
 unfoldable pub number_in : Range → Word → ℤ
-number_in r w = get_or (read_in r w) (pos 0)
+number_in r w = unwrap_or (read_in r w) (pos 0)
 
 unfoldable pub natural_in : Range → Word → ℕ
 natural_in r w = nat_abs (number_in r w)
@@ -129,19 +129,19 @@ group no_exp = no_exp_group
 
 -- the range of an option's operand, where it takes one
 unfoldable pub operand_range : OptionKind → Option Range
-operand_range (expires u) = some times
-operand_range keep_ttl = none
-operand_range (only c) = none
-operand_range (versioned f) = some versions
-operand_range (bound n) = some signed64
-operand_range no_exp = none
+operand_range (expires u) = Some times
+operand_range keep_ttl = None
+operand_range (only c) = None
+operand_range (versioned f) = Some versions
+operand_range (bound n) = Some signed64
+operand_range no_exp = None
 
 -- the option that a word names, among the groups that a command allows
 unfoldable pub option_named : List OptionRow → List ℕ → Word → Option OptionKind
-option_named [] allowed w = none
+option_named [] allowed w = None
 option_named (r ∷ rs) allowed w =
     let later : Option OptionKind = option_named rs allowed w in
-    cond (spells r.name w && any (eqb (group r.kind)) allowed) (some r.kind) later
+    cond (spells r.name w && any (eqb (group r.kind)) allowed) (Some r.kind) later
 
 -- an option as it was given; the operand is empty where it takes none
 pub record Given : Type 0 where
@@ -155,13 +155,13 @@ m with w = record { kind = m; operand = w }
 -- The options among the words, none where one is unknown or lacks its operand. "A word after an option that takes one is its operand,
 -- whatever it says." The second argument is an option whose operand comes next.
 unfoldable pub scan : List ℕ → Option OptionKind → List Word → Option (List Given)
-scan allowed none [] = some []
-scan allowed (some m) [] = none
-scan allowed (some m) (w ∷ ws) = map (λ gs. m with w ∷ gs) (scan allowed none ws)
-scan allowed none (w ∷ ws) =
-    or_else (option_named options allowed w) none λ m.
-    let bare : Option (List Given) = map (λ gs. m with [] ∷ gs) (scan allowed none ws) in
-    or_else (operand_range m) bare (λ r. scan allowed (some m) ws)
+scan allowed None [] = Some []
+scan allowed (Some m) [] = None
+scan allowed (Some m) (w ∷ ws) = option_map (λ gs. m with w ∷ gs) (scan allowed None ws)
+scan allowed None (w ∷ ws) =
+    or_else (option_named options allowed w) None λ m.
+    let bare : Option (List Given) = option_map (λ gs. m with [] ∷ gs) (scan allowed None ws) in
+    or_else (operand_range m) bare (λ r. scan allowed (Some m) ws)
 
 -- "repeated or conflicting": two of one group
 unfoldable pub conflicting : List Given → Bool
@@ -176,10 +176,10 @@ readable_operand g = or_else (operand_range g.kind) true (λ r. readable r g.ope
 
 -- the option of a group that was given
 unfoldable pub given_of : ℕ → List Given → Option Given
-given_of n [] = none
+given_of n [] = None
 given_of n (g ∷ gs) =
     let later : Option Given = given_of n gs in
-    cond (eqb (group g.kind) n) (some g) later
+    cond (eqb (group g.kind) n) (Some g) later
 
 -- "Expiry is cleared unless an option sets it or KEEPTTL keeps it."
 unfoldable pub lifetime_of : ℕ → OptionKind → Word → Lifetime

@@ -1,8 +1,8 @@
 -- From a command's bytes to what it says, or to the lowest of the refusals 10 to 18. Each check looks at the whole command.
+use Rattle.std.specs.Prelude.{Option, None, Some, unwrap_or, is_some}
 use Rattle.std.specs.Prelude.{Bool, true, false, cond, not, ◌&&◌, ◌||◌, List, [], ◌∷◌, ℕ, ◌%◌, leb, ltb, eqb, length, drop}
-use Rattle.std.proofs.Math.Option.{Option, none, some, get_or}
 use Prim.Native.String.{String}
-use Rattle.wire.specs.Lists.{all, any, is_some, or_else}
+use Rattle.wire.specs.Lists.{all, any, or_else}
 use Rattle.wire.specs.Bytes.{spells}
 use Rattle.wire.specs.Integers.{lowest64, highest64}
 use Rattle.wire.specs.Words.{Word, word_at, words_of}
@@ -83,10 +83,10 @@ abbrev pub command_count : ℕ
 command_count = 23
 
 unfoldable pub command_named : List CommandRow → Word → Option CommandRow
-command_named [] w = none
+command_named [] w = None
 command_named (r ∷ rs) w =
     let later : Option CommandRow = command_named rs w in
-    cond (spells r.name w) (some r) later
+    cond (spells r.name w) (Some r) later
 
 unfoldable pub count_fits : Count → ℕ → Bool
 count_fits (exactly k) n = eqb n k
@@ -122,17 +122,17 @@ option_words (list_form l) ws = []
 
 -- the range of the fourth word, where that is a number
 unfoldable pub number_range : Form → Option Range
-number_range set_form = none
-number_range set_many_form = none
-number_range increment_form = some signed64
-number_range (expire_form u) = some times
-number_range persist_form = none
-number_range renumber_form = some versions
-number_range (ask_form q) = none
-number_range (get_many_form q) = none
-number_range delete_form = none
-number_range count_form = none
-number_range (list_form l) = none
+number_range set_form = None
+number_range set_many_form = None
+number_range increment_form = Some signed64
+number_range (expire_form u) = Some times
+number_range persist_form = None
+number_range renumber_form = Some versions
+number_range (ask_form q) = None
+number_range (get_many_form q) = None
+number_range delete_form = None
+number_range count_form = None
+number_range (list_form l) = None
 
 -- ---- what the words say
 
@@ -218,7 +218,7 @@ on_deed test (list k l) = false
 unfoldable pub later_checks : Form → List Word → Option (List Given) → Command → List Check
 later_checks form ws scanned c =
     15 when or_else scanned true conflicting
-    ∷ 16 when not (or_else (number_range form) true (λ r. readable r (word_at 3 ws)) && all readable_operand (get_or scanned []))
+    ∷ 16 when not (or_else (number_range form) true (λ r. readable r (word_at 3 ws)) && all readable_operand (unwrap_or scanned []))
     ∷ 17 when on_deed (λ d. is_zero (deed_versioning d)) c
     ∷ 18 when on_deed (λ d. beyond (deed_lifetime d)) c
     ∷ []
@@ -232,10 +232,10 @@ checks form count ws scanned c =
 
 -- the options that a command of a form gives, none where they are damaged, and what the command says with them
 abbrev pub scanned_of : Form → List Word → Option (List Given)
-scanned_of f ws = scan (allowed f) none (option_words f ws)
+scanned_of f ws = scan (allowed f) None (option_words f ws)
 
 abbrev pub said_by : ℕ → Form → List Word → Command
-said_by now f ws = build now f ws (get_or (scanned_of f ws) [])
+said_by now f ws = build now f ws (unwrap_or (scanned_of f ws) [])
 
 -- the checks 13 to 18 of a command of a row
 abbrev pub checks_of : ℕ → CommandRow → List Word → List Check

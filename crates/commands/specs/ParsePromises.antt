@@ -1,14 +1,11 @@
 -- What the functions that parse a command ask and answer, in the terms of the other definitions.
+use Rattle.std.specs.Prelude.{Option, None, Some, option_map, unwrap_or, is_some}
 use Rattle.std.specs.Prelude.{◌≡◌, Bool, true, false, cond, not, ◌&&◌, ◌||◌, List, [], ◌∷◌, ℕ, ◌+◌, ◌*◌, ◌≤◌, ◌<◌, ltb, eqb, length, drop, get_or}
-use Rattle.std.proofs.Math.Option
-use Rattle.std.proofs.Math.Option.{Option, none, some, map}
-use Rattle.wire.specs.Lists.{any, is_some, or_else}
+use Rattle.wire.specs.Lists.{any, or_else}
 use Rattle.wire.specs.Integers.{read_integer, lowest64, highest64}
 use Rattle.wire.specs.Words.{Word, word_at, words_of}
 use Rattle.wire.specs.declared.integers.Signed.{Signed}
-use Rattle.wire.specs.declared.integers.Integer.{Integer}
-use Rattle.wire.specs.declared.integers.Integer.TheVariants as integers
-use Rattle.wire.specs.Promises.{integer_for, integer_of, words_in, Inside}
+use Rattle.wire.specs.Promises.{integer_of, words_in, Inside, signed_for}
 use Rattle.store.specs.Layout.{field_most, value_most}
 use Rattle.commands.specs.declared.FieldDeed.{FieldDeed}
 use Rattle.commands.specs.declared.FieldDeed.TheVariants as fieldDeeds
@@ -47,7 +44,7 @@ use Rattle.commands.specs.TablePromises.{unit_of, condition_by, kind_in}
 
 -- the places of a command's words, none where it is damaged
 pub record Divided (s : List ℕ) (places : List (List ℕ)) : Type 0 where
-  pub words : words_of s ≡ cond (eqb (length places) 0) none (some (words_in s places))
+  pub words : words_of s ≡ cond (eqb (length places) 0) None (Some (words_in s places))
   pub within : Inside s places
 
 -- ---- the lines of refusals
@@ -67,15 +64,15 @@ numbered ws g said operand = kind_in g said with cond (is_some (operand_range (k
 
 -- the option of a group as the code has it
 unfoldable pub option_at : List Word → ℕ → ℕ → ℕ → Option Given
-option_at ws g said operand = cond (ltb said not_given) (some (numbered ws g said operand)) none
+option_at ws g said operand = cond (ltb said not_given) (Some (numbered ws g said operand)) None
 
 abbrev pub given_at : List Word → ScannedOptions → ℕ → Option Given
 given_at ws r g = option_at ws g (get_or r.said g 0) (get_or r.operands g 0)
 
 -- an option stands at word i: what is left of a scan there is that option, and what is left behind its last word
 pub record FoundOption (ws : List Word) (allowed : List ℕ) (i g said last : ℕ) : Type 0 where
-  pub left : scan allowed none (drop i ws)
-      ≡ map (λ gs. numbered ws g said last ∷ gs) (scan allowed none (drop (last + 1) ws))
+  pub left : scan allowed None (drop i ws)
+      ≡ option_map (λ gs. numbered ws g said last ∷ gs) (scan allowed None (drop (last + 1) ws))
   pub member : group (kind_in g said) ≡ g
   pub grouped : g < group_count
   pub given : said < not_given
@@ -85,13 +82,13 @@ pub record FoundOption (ws : List Word) (allowed : List ℕ) (i g said last : �
 -- what the code found there; a scan fails where it refuses
 abbrev pub FoundBy : List Word → List ℕ → ℕ → OptionFound → Type 0
 FoundBy ws allowed i (founds.At g said last) = FoundOption ws allowed i g said last
-FoundBy ws allowed i (founds.Refused n) = (n ≡ 15) × (scan allowed none (drop i ws) ≡ none)
+FoundBy ws allowed i (founds.Refused n) = (n ≡ 15) × (scan allowed None (drop i ws) ≡ None)
 
 -- what a scan of the words from one on found, and whether it is refused as 15
 pub record Scanned (ws : List Word) (allowed : List ℕ) (from : ℕ) (r : ScannedOptions) : Type 0 where
-  pub refusal : r.refusal ≡ cond (or_else (scan allowed none (drop from ws)) true conflicting) 15 0
+  pub refusal : r.refusal ≡ cond (or_else (scan allowed None (drop from ws)) true conflicting) 15 0
   pub given : r.refusal ≡ 0 → (g : ℕ) → g < group_count
-      → given_of g (Option.get_or (scan allowed none (drop from ws)) []) ≡ given_at ws r g
+      → given_of g (unwrap_or (scan allowed None (drop from ws)) []) ≡ given_at ws r g
 
 -- ---- what the options say
 
@@ -133,16 +130,16 @@ unfoldable pub condition_for : ℕ → Condition
 condition_for said = cond (ltb said not_given) (condition_by said) conditions.Always
 
 -- the number of MIN or MAX, or an end where it is not given
-unfoldable pub bound_for : Signed → ℕ → Word → Integer
-bound_for unbounded said w = cond (ltb said not_given) (integer_for (read_integer lowest64 highest64 w)) (integers.Value unbounded)
+unfoldable pub bound_for : Signed → ℕ → Word → Option Signed
+bound_for unbounded said w = cond (ltb said not_given) (option_map signed_for (read_integer lowest64 highest64 w)) (Some unbounded)
 
 -- what is done with an integer that was read, and where none was
-unfoldable pub on_integer : Integer → Added → (Signed → Added) → Added
-on_integer (integers.Value z) b f = f z
-on_integer integers.Refused b f = b
+unfoldable pub on_integer : Option Signed → Added → (Signed → Added) → Added
+on_integer (Some z) b f = f z
+on_integer None b f = b
 
 -- what EXHINCRBY adds and its bounds, where all three are integers
-unfoldable pub sum_for : Integer → Integer → Integer → Added
+unfoldable pub sum_for : Option Signed → Option Signed → Option Signed → Added
 sum_for a l g =
     on_integer a addeds.Refused λ x.
     on_integer l addeds.Refused λ y.
@@ -156,13 +153,13 @@ abbrev pub highest_signed : Signed
 highest_signed = record { negative = false; magnitude = 0x7fff_ffff_ffff_ffff }
 
 -- MIN or MAX of a scan
-unfoldable pub bound_given : Signed → ℕ → List Word → ScannedOptions → Integer
+unfoldable pub bound_given : Signed → ℕ → List Word → ScannedOptions → Option Signed
 bound_given unbounded g ws r = bound_for unbounded (get_or r.said g 0) (word_at (get_or r.operands g 0) ws)
 
 -- what EXHINCRBY adds and its bounds: word 3, MIN and MAX
 unfoldable pub sum_of : List Word → ScannedOptions → Added
 sum_of ws r =
-    sum_for (integer_for (read_integer lowest64 highest64 (word_at 3 ws))) (bound_given lowest_signed min_group ws r) (bound_given highest_signed max_group ws r)
+    sum_for (option_map signed_for (read_integer lowest64 highest64 (word_at 3 ws))) (bound_given lowest_signed min_group ws r) (bound_given highest_signed max_group ws r)
 
 -- ---- lengths of words
 
@@ -204,6 +201,6 @@ meant ws (parses.OnKey d) = P.Parsed.accepted (command_for (word_at 1 ws) (drop 
 -- checks 15 to 18 of a command of a form
 unfoldable pub parse_rest : ℕ → Form → List Word → P.Parsed
 parse_rest time form ws =
-    let scanned : Option (List Given) = scan (allowed form) none (option_words form ws) in
-    let c : Command = build time form ws (Option.get_or scanned []) in
+    let scanned : Option (List Given) = scan (allowed form) None (option_words form ws) in
+    let c : Command = build time form ws (unwrap_or scanned []) in
     or_else (first_applying (later_checks form ws scanned c)) (P.Parsed.accepted c) P.Parsed.refused

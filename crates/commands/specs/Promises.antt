@@ -1,7 +1,7 @@
 -- What the functions that do a command ask and answer, in the terms of the other definitions.
+use Rattle.std.specs.Prelude.{Option, None, Some}
 use Rattle.std.specs.Prelude.{◌≡◌, Bool, true, false, cond, not, ◌&&◌, ◌||◌, ℕ, suc, ◌+◌, ◌-◌, ◌≤◌, ◌<◌, ltb, eqb, ℤ, negsuc, ◌+ℤ◌, length}
 use mathlib.Core.List.{List, [], ◌∷◌, map, flat_map}
-use Rattle.std.proofs.Math.Option.{Option, none, some}
 use Rattle.wire.specs.Lists.{any, keep, or_else, only_if}
 use Rattle.wire.specs.Bytes.{same}
 use Rattle.wire.specs.Integers.{lowest64, highest64, within}
@@ -9,15 +9,11 @@ use Rattle.wire.specs.Words.{Word, words_most}
 use Rattle.wire.specs.declared.integers.Signed.{Signed}
 use Rattle.wire.specs.Replies.{integer, laid_over}
 use Rattle.wire.specs.Promises.{signed_for, integer_of, Inside, Laid}
-use Rattle.store.specs.declared.Expiry.{Expiry}
-use Rattle.store.specs.declared.Expiry.TheVariants.{Never}
-use Rattle.store.specs.declared.Found.{Found}
-use Rattle.store.specs.declared.Found.TheVariants as founds
 use Rattle.store.specs.Layout.{version_most, time_limit}
 use Rattle.store.specs.Store.{Entry, blank, with_version, with_expiry, Slot, Store, with_slots, decode, well_formed, holds, entry_at}
 use Rattle.store.specs.Time.{key_exists, live_of_key, lowest_slot, entry_of, slot_for, put, empty_slot, dead_slot}
 use Rattle.store.specs.Valid.{Short}
-use Rattle.store.specs.Promises.{found_for, Held, Holds}
+use Rattle.store.specs.Promises.{Held, Holds}
 use Rattle.commands.specs.declared.Lifetime.{Lifetime}
 use Rattle.commands.specs.declared.Lifetime.TheVariants.{Clear}
 use Rattle.commands.specs.declared.Versioning.TheVariants.{Next}
@@ -46,22 +42,22 @@ use Rattle.commands.specs.ParsePromises.{is_refusal}
 -- ---- the store
 
 -- a look for a key and a field found its slot, or that there is none
-abbrev pub Looked : List ℕ → List ℕ → List ℕ → Found → Type 0
-Looked b k f r = r ≡ found_for (lowest_slot (holds k f) (decode b).slots)
+abbrev pub Looked : List ℕ → List ℕ → List ℕ → Option ℕ → Type 0
+Looked b k f r = r ≡ (lowest_slot (holds k f) (decode b).slots)
 
 -- the slot for an entry of a key and a field
-unfoldable pub look_for : ℕ → List ℕ → List ℕ → List Slot → Found
-look_for now k f ss = found_for (slot_for now k f ss)
+unfoldable pub look_for : ℕ → List ℕ → List ℕ → List Slot → Option ℕ
+look_for now k f ss = (slot_for now k f ss)
 
 -- where to look first for what a look found
-unfoldable pub hint_for : Found → ℕ
-hint_for (founds.At i) = i
-hint_for founds.Nothing = 0
+unfoldable pub hint_for : Option ℕ → ℕ
+hint_for (Some i) = i
+hint_for None = 0
 
 -- the slot for an entry whose own slot, or that it has none, is known
-unfoldable pub slot_after : ℕ → Found → List Slot → Found
-slot_after now (founds.At i) ss = founds.At i
-slot_after now founds.Nothing ss = found_for (or_else (lowest_slot empty_slot ss) (lowest_slot (dead_slot now) ss) some)
+unfoldable pub slot_after : ℕ → Option ℕ → List Slot → Option ℕ
+slot_after now (Some i) ss = Some i
+slot_after now None ss = (or_else (lowest_slot empty_slot ss) (lowest_slot (dead_slot now) ss) Some)
 
 -- a store with an entry put in its place
 unfoldable pub with_put : ℕ → Entry → Store → Store
@@ -70,7 +66,7 @@ with_put now e s = with_slots (put now e s.slots) s
 -- ---- replies
 
 -- the time left, as sign and magnitude
-unfoldable pub time_left_of : ℕ → ℕ → Expiry → Signed
+unfoldable pub time_left_of : ℕ → ℕ → Option ℕ → Signed
 time_left_of now unit x = signed_for (time_left now unit x)
 
 -- what EXHVER replies of a missing field, as sign and magnitude
@@ -106,9 +102,9 @@ pub record Replied (d : Done) (store before after : List ℕ) (r : Executed) : T
   pub bytes : after ≡ laid_over d.reply before
 
 -- the entry of a slot that was found
-unfoldable pub entry_for : List Slot → Found → Option Entry
-entry_for ss (founds.At i) = some (entry_at ss i)
-entry_for ss founds.Nothing = none
+unfoldable pub entry_for : List Slot → Option ℕ → Option Entry
+entry_for ss (Some i) = Some (entry_at ss i)
+entry_for ss None = None
 
 -- ---- many fields
 
@@ -159,14 +155,14 @@ pub record Deletes (k : Word) (fs : List Word) (s : Store) (after : List ℕ) (r
 unfoldable pub held_version : Option Entry → ℕ
 held_version found = or_else found 0 (λ e. e.version)
 
-unfoldable pub held_expiry : Option Entry → Expiry
-held_expiry found = or_else found Never (λ e. e.expiry)
+unfoldable pub held_expiry : Option Entry → Option ℕ
+held_expiry found = or_else found None (λ e. e.expiry)
 
 -- an entry of which only the version, or only the expiry, is looked at
 abbrev pub versioned : ℕ → Entry
 versioned v = with_version v blank
 
-abbrev pub expiring : Expiry → Entry
+abbrev pub expiring : Option ℕ → Entry
 expiring x = with_expiry x blank
 
 -- ---- pairs
@@ -194,13 +190,13 @@ missing k [] ss = 0
 missing k (f ∷ fs) ss = cond (not (any (holds k f) ss || any (λ g. same g f) fs)) (suc (missing k fs ss)) (missing k fs ss)
 
 -- 1 for a field that was not found and does not come again
-unfoldable pub new_field : Found → ℕ → ℕ
-new_field (founds.At i) again = 0
-new_field founds.Nothing again = cond (eqb again 0) 1 0
+unfoldable pub new_field : Option ℕ → ℕ → ℕ
+new_field (Some i) again = 0
+new_field None again = cond (eqb again 0) 1 0
 
 -- a number that tells what the times of a field that was found or not, with a version, would tell: whether the version passes its largest, and whether
 -- the field is new
-pub record Telling (found : Found) (held times n : ℕ) : Type 0 where
+pub record Telling (found : Option ℕ) (held times n : ℕ) : Type 0 where
   pub most : n ≤ times
   pub passes : ltb version_most (held + (n + 1)) ≡ ltb version_most (held + (times + 1))
   pub added : new_field found n ≡ new_field found times
@@ -232,16 +228,16 @@ with_all now k ps s = with_slots (change_all now (writes_of now k ps s.slots) s.
 -- ---- one field
 
 -- a slot that was found holds an entry
-abbrev pub HeldAt : List ℕ → Found → Type 0
-HeldAt b found = (i : ℕ) → found ≡ founds.At i → Held b i
+abbrev pub HeldAt : List ℕ → Option ℕ → Type 0
+HeldAt b found = (i : ℕ) → found ≡ Some i → Held b i
 
 -- a well-formed store in which a slot was found, or none
-pub record FoundIn (b : List ℕ) (found : Found) : Type 0 where
+pub record FoundIn (b : List ℕ) (found : Option ℕ) : Type 0 where
   pub well : well_formed b ≡ true
   pub held : HeldAt b found
 
 -- a well-formed store in which a key and a field were looked for
-pub record Sought (b k f : List ℕ) (found : Found) : Type 0 where
+pub record Sought (b k f : List ℕ) (found : Option ℕ) : Type 0 where
   pub well : well_formed b ≡ true
   pub looked : Looked b k f found
 
@@ -268,8 +264,8 @@ bounded_sum start sum =
 -- ---- how a deed settles
 
 unfoldable pub outcome_for : Option ℕ → WriteOutcome
-outcome_for none = writes.Done
-outcome_for (some n) = writes.Refused n
+outcome_for None = writes.Done
+outcome_for (Some n) = writes.Refused n
 
 -- an entry was written in its place, or refused by 23 or 24
 pub record Wrote (now : ℕ) (e : Entry) (before after : List ℕ) (r : WriteOutcome) : Type 0 where
@@ -282,9 +278,9 @@ write_settled writes.Done z = settleds.Replied z
 write_settled (writes.Refused n) z = settleds.Refused n
 
 -- how many fields a write adds, by what was found
-unfoldable pub fields_added : Found → Signed
-fields_added (founds.At i) = record { negative = false; magnitude = 0 }
-fields_added founds.Nothing = record { negative = false; magnitude = 1 }
+unfoldable pub fields_added : Option ℕ → Signed
+fields_added (Some i) = record { negative = false; magnitude = 0 }
+fields_added None = record { negative = false; magnitude = 1 }
 
 -- the reply by how a deed settled, where questions are still to be answered
 unfoldable pub settled_reply : (Question → List ℕ) → Settled → List ℕ

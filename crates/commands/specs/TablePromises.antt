@@ -1,8 +1,8 @@
 -- What the code's tables of commands and options hold, computed from the definitions: the forms of its contracts.
+use Rattle.std.specs.Prelude.{is_some}
 use Rattle.std.specs.Prelude.{true, false, cond, ℕ, eqb, length, drop, get_or}
 use mathlib.Core.List.{List, [], ◌∷◌, ◌++◌, flat_map}
 use Prim.Native.String.{String}
-use Rattle.wire.specs.Lists.{is_some}
 use Rattle.wire.specs.Bytes.{text}
 use Rattle.commands.specs.declared.Condition.{Condition}
 use Rattle.commands.specs.declared.Condition.TheVariants as conditions

@@ -1,6 +1,6 @@
 // The reply to a question about one field.
 ghost use Rattle.std.specs.Prelude.{◌≡◌, true, [], ◌∷◌, ◌≤◌, length};
-ghost use Rattle.std.proofs.Math.Option.{none, some};
+ghost use Rattle.std.specs.Prelude.{None, Some};
 ghost use Rattle.wire.specs.Replies.{bulk, number, array};
 ghost use Rattle.wire.specs.Promises.{Laid};
 ghost use Rattle.store.specs.Store.{decode, well_formed, entry_at};
@@ -9,21 +9,21 @@ ghost use Rattle.commands.specs.Effect.{reply};
 ghost use Rattle.commands.specs.Promises.{Looked, time_left_of, no_version_of, answer_most, answer_about};
 
 use crate::Question;
-use store::{Expiry, Found, find, read};
+use store::{find, read};
 use wire::integers::Signed;
 use wire::replies::{put_bulk, put_header, put_integer, put_nil, put_number};
 
 // What is left of an entry's time, in units of so many ms: -1 where it has no expiry.
-fn time_left(expiry: Expiry, time: u64, unit: u64) -> Signed
+fn time_left(expiry: Option<u64>, time: u64, unit: u64) -> Signed
     requires { 1 ≤ unit }
     ensures { result ≡ time_left_of time unit expiry }
 {
     match expiry {
-        Expiry::Never => Signed {
+        None => Signed {
             negative: true,
             magnitude: 1,
         },
-        Expiry::At(instant) => {
+        Some(instant) => {
             if time < instant {
                 return Signed {
                     negative: false,
@@ -70,7 +70,7 @@ fn put_versioned(bytes: &[u8], i: usize, out: &mut [u8]) -> usize
 fn put_found(bytes: &[u8], question: Question, i: usize, time: u64, out: &mut [u8]) -> usize
     requires { (Held bytes.now i) × (answer_most ≤ length out.old) }
     ensures { let e = entry_at (decode bytes.now).slots i in
-        Laid (reply time [] [] question (some e)) out.old out.new result }
+        Laid (reply time [] [] question (Some e)) out.old out.new result }
 {
     match question {
         Question::Value => put_bulk(read::value(bytes, i), out),
@@ -87,7 +87,7 @@ fn put_found(bytes: &[u8], question: Question, i: usize, time: u64, out: &mut [u
 fn put_missing(bytes: &[u8], question: Question, key: &[u8], time: u64, out: &mut [u8]) -> usize
     requires { (well_formed bytes.now ≡ true) × (answer_most ≤ length out.old) }
     ensures { let ss = (decode bytes.now).slots in
-        Laid (reply time ss key.now question none) out.old out.new result }
+        Laid (reply time ss key.now question None) out.old out.new result }
 {
     let minus_two = Signed {
         negative: true,
@@ -110,7 +110,7 @@ pub fn put_answer(
     question: Question,
     key: &[u8],
     field: &[u8],
-    found: Found,
+    found: Option<usize>,
     time: u64,
     out: &mut [u8],
 ) -> usize
@@ -119,7 +119,7 @@ pub fn put_answer(
         Laid x out.old out.new result }
 {
     match found {
-        Found::At(i) => put_found(bytes, question, i, time, out),
-        Found::Nothing => put_missing(bytes, question, key, time, out),
+        Some(i) => put_found(bytes, question, i, time, out),
+        None => put_missing(bytes, question, key, time, out),
     }
 }

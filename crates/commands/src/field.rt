@@ -1,8 +1,8 @@
 // What is done with one field, and replied.
-ghost use Rattle.std.specs.Prelude.{◌≡◌, true, false, [], ℕ, ◌≤◌, length};
+ghost use Rattle.std.specs.Prelude.{◌≡◌, true, false, [], ℕ, ◌≤◌, length, option_map};
 ghost use Rattle.wire.specs.Integers.{lowest64, highest64, within, integer_text};
 ghost use Rattle.wire.specs.Replies.{number, integer};
-ghost use Rattle.wire.specs.Promises.{integer_for, integer_of, Laid};
+ghost use Rattle.wire.specs.Promises.{signed_for, integer_of, Laid};
 ghost use Rattle.store.specs.Layout.{time_limit};
 ghost use Rattle.store.specs.Store.{decode, well_formed, instant_of, entry_at};
 ghost use Rattle.store.specs.Promises.{Held, stamped};
@@ -22,8 +22,8 @@ use crate::refusal::put_error;
 use crate::versions::{is_barred, is_stale, next_expiry, next_version, setter_version};
 use crate::{FieldDeed, Question, Sight, Stamping, Sum, Versioning};
 use store::layout::VERSION_MOST;
-use store::{Expiry, Found, change, read};
-use wire::integers::{Integer, Signed, add, at_most, read_integer, write_integer};
+use store::{change, read};
+use wire::integers::{Signed, add, at_most, read_integer, write_integer};
 use wire::replies::put_integer;
 
 // An entry was written in its place, or the number of its refusal.
@@ -42,35 +42,35 @@ pub enum Settled {
 }
 
 // The version of a field, 0 where it is missing.
-pub fn held_version(bytes: &[u8], found: Found) -> u64
+pub fn held_version(bytes: &[u8], found: Option<usize>) -> u64
     requires { HeldAt bytes.now found }
     ensures { result ≡ held_version (entry_for (decode bytes.now).slots found) }
 {
     match found {
-        Found::At(i) => read::version(bytes, i),
-        Found::Nothing => 0,
+        Some(i) => read::version(bytes, i),
+        None => 0,
     }
 }
 
 // The expiry of a field, none where it is missing.
-fn held_expiry(bytes: &[u8], found: Found) -> Expiry
+fn held_expiry(bytes: &[u8], found: Option<usize>) -> Option<u64>
     requires { HeldAt bytes.now found }
     ensures { result ≡ held_expiry (entry_for (decode bytes.now).slots found) }
 {
     match found {
-        Found::At(i) => read::expiry(bytes, i),
-        Found::Nothing => Expiry::Never,
+        Some(i) => read::expiry(bytes, i),
+        None => None,
     }
 }
 
 // Whether what is said of a field's version is stale; of a missing field nothing is.
-fn is_stale_at(bytes: &[u8], found: Found, versioning: Versioning) -> bool
+fn is_stale_at(bytes: &[u8], found: Option<usize>, versioning: Versioning) -> bool
     requires { HeldAt bytes.now found }
     ensures { result ≡ is_stale versioning (entry_for (decode bytes.now).slots found) }
 {
     match found {
-        Found::At(i) => is_stale(versioning, read::version(bytes, i)),
-        Found::Nothing => false,
+        Some(i) => is_stale(versioning, read::version(bytes, i)),
+        None => false,
     }
 }
 
@@ -96,7 +96,7 @@ fn write(
         return WriteOutcome::Refused(23);
     }
     let slot = slot_for(bytes, found, sight.time);
-    let Found::At(i) = slot else {
+    let Some(i) = slot else {
         return WriteOutcome::Refused(24);
     };
     let lifetime = stamping.lifetime;
@@ -117,15 +117,15 @@ fn write_settled(wrote: WriteOutcome, z: Signed) -> Settled
 }
 
 // How many fields a write adds, by what was found: 1 or 0.
-fn fields_added(found: Found) -> Signed
+fn fields_added(found: Option<usize>) -> Signed
     ensures { result ≡ fields_added found }
 {
     match found {
-        Found::At(_) => Signed {
+        Some(_) => Signed {
             negative: false,
             magnitude: 0,
         },
-        Found::Nothing => Signed {
+        None => Signed {
             negative: false,
             magnitude: 1,
         },
@@ -158,13 +158,13 @@ fn assign(
 }
 
 // The integer of a field's value, 0 where it is missing.
-fn stored(bytes: &[u8], found: Found) -> Integer
+fn stored(bytes: &[u8], found: Option<usize>) -> Option<Signed>
     requires { HeldAt bytes.now found }
-    ensures { result ≡ integer_for (counted (entry_for (decode bytes.now).slots found)) }
+    ensures { result ≡ option_map signed_for (counted (entry_for (decode bytes.now).slots found)) }
 {
     match found {
-        Found::At(i) => read_integer(read::value(bytes, i)),
-        Found::Nothing => Integer::Value(Signed {
+        Some(i) => read_integer(read::value(bytes, i)),
+        None => Some(Signed {
             negative: false,
             magnitude: 0,
         }),
@@ -172,20 +172,20 @@ fn stored(bytes: &[u8], found: Found) -> Integer
 }
 
 // The sum of an integer and an amount, refused outside signed 64 bits and outside its bounds.
-fn bounded_sum(start: Signed, sum: Sum) -> Integer
-    ensures { result ≡ integer_for (bounded_sum (integer_of start) sum) }
+fn bounded_sum(start: Signed, sum: Sum) -> Option<Signed>
+    ensures { result ≡ option_map signed_for (bounded_sum (integer_of start) sum) }
 {
     let total = add(start, sum.amount);
-    let Integer::Value(z) = total else {
-        return Integer::Refused;
+    let Some(z) = total else {
+        return None;
     };
     if !at_most(sum.least, z) {
-        return Integer::Refused;
+        return None;
     }
     if !at_most(z, sum.greatest) {
-        return Integer::Refused;
+        return None;
     }
-    Integer::Value(z)
+    Some(z)
 }
 
 // Writes a field's entry with an integer's text as its value, and replies the integer.
@@ -232,18 +232,18 @@ fn increment(
         return Settled::Refused(20);
     }
     let before = stored(bytes, found);
-    let Integer::Value(start) = before else {
+    let Some(start) = before else {
         return Settled::Refused(21);
     };
     let total = bounded_sum(start, sum);
-    let Integer::Value(z) = total else {
+    let Some(z) = total else {
         return Settled::Refused(22);
     };
     write_sum(bytes, key, field, z, sight, stamping)
 }
 
 // Writes the version and the expiry of the entry in slot i, unless the version passes the largest.
-fn stamp(bytes: &mut [u8], i: usize, version: u64, expiry: Expiry) -> Settled
+fn stamp(bytes: &mut [u8], i: usize, version: u64, expiry: Option<u64>) -> Settled
     requires { (Held bytes.old i) × (instant_of expiry ≤ time_limit) }
     ensures { let b = bytes.old in
         let e = stamped version expiry (entry_at (decode b).slots i) in
@@ -260,13 +260,13 @@ fn stamp(bytes: &mut [u8], i: usize, version: u64, expiry: Expiry) -> Settled
 }
 
 // EXHEXPIRE, EXHPEXPIRE, EXHEXPIREAT and EXHPEXPIREAT.
-fn expire(bytes: &mut [u8], found: Found, instant: u64, versioning: Versioning) -> Settled
+fn expire(bytes: &mut [u8], found: Option<usize>, instant: u64, versioning: Versioning) -> Settled
     requires { (FoundIn bytes.old found) × (instant ≤ time_limit) }
     ensures { let b = bytes.old in
         let e = expire_effect instant versioning (entry_for (decode b).slots found) in
         ((time : ℕ) → Changes time e b bytes.new result) }
 {
-    let Found::At(i) = found else {
+    let Some(i) = found else {
         return Settled::Replied(Signed {
             negative: false,
             magnitude: 0,
@@ -277,40 +277,40 @@ fn expire(bytes: &mut [u8], found: Found, instant: u64, versioning: Versioning) 
         return Settled::Refused(20);
     }
     let version = setter_version(versioning, held);
-    stamp(bytes, i, version, Expiry::At(instant))
+    stamp(bytes, i, version, Some(instant))
 }
 
 // EXHPERSIST.
-fn persist(bytes: &mut [u8], found: Found) -> Settled
+fn persist(bytes: &mut [u8], found: Option<usize>) -> Settled
     requires { FoundIn bytes.old found }
     ensures { let b = bytes.old in
         let e = persist_effect (entry_for (decode b).slots found) in
         ((time : ℕ) → Changes time e b bytes.new result) }
 {
-    let Found::At(i) = found else {
+    let Some(i) = found else {
         return Settled::Replied(Signed {
             negative: false,
             magnitude: 0,
         });
     };
     let until = read::expiry(bytes, i);
-    let Expiry::At(_) = until else {
+    let Some(_) = until else {
         return Settled::Replied(Signed {
             negative: false,
             magnitude: 0,
         });
     };
-    stamp(bytes, i, read::version(bytes, i), Expiry::Never)
+    stamp(bytes, i, read::version(bytes, i), None)
 }
 
 // EXHSETVER.
-fn renumber(bytes: &mut [u8], found: Found, version: u64) -> Settled
+fn renumber(bytes: &mut [u8], found: Option<usize>, version: u64) -> Settled
     requires { FoundIn bytes.old found }
     ensures { let b = bytes.old in
         let e = renumber_effect version (entry_for (decode b).slots found) in
         ((time : ℕ) → Changes time e b bytes.new result) }
 {
-    let Found::At(i) = found else {
+    let Some(i) = found else {
         return Settled::Replied(Signed {
             negative: false,
             magnitude: 0,

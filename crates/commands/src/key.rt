@@ -16,7 +16,7 @@ use crate::act::{hint_for, look};
 use crate::answer::put_answer;
 use crate::pairs::set_many;
 use crate::{Asking, KeyDeed, Listing, Question};
-use store::{Found, change, find, read};
+use store::{change, find, read};
 use wire::replies::{put_bulk, put_header, put_number};
 use wire::words::{WORDS_MOST, word};
 
@@ -113,7 +113,7 @@ fn remove_field(bytes: &mut [u8], key: &[u8], field: &[u8], hint: usize) -> u64
     ensures { Removes key.now field.now (decode bytes.old) bytes.new result }
 {
     let found = find::named_near(bytes, key, field, hint);
-    let Found::At(i) = found else {
+    let Some(i) = found else {
         return 0;
     };
     change::remove(bytes, i);
@@ -201,7 +201,7 @@ fn put_listed(bytes: &[u8], listing: Listing, key: &[u8], time: u64, out: &mut [
     let mut from = 0;
     while from < count {
         let found = find::next_live_with(bytes, low, high, key, time, from);
-        let Found::At(i) = found else {
+        let Some(i) = found else {
             return at;
         };
         at = put_entry(bytes, listing, i, &mut out[at..]) + at;

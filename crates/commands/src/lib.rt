@@ -15,7 +15,6 @@ mod refusal;
 mod table;
 mod versions;
 
-use store::Found;
 use wire::integers::Signed;
 
 // What decides an entry's version: nothing is given, VER v, ABS v, GT v.
@@ -81,7 +80,7 @@ pub struct Stamping {
 // What a look for a field found, and the time of the look.
 #[derive(Clone, Copy)]
 pub struct Sight {
-    pub found: Found,
+    pub found: Option<usize>,
     pub time: u64,
 }
 

@@ -14,7 +14,7 @@ use crate::table::{
 };
 use crate::{Condition, Lifetime, Sum, Versioning};
 use store::layout::{TIME_LIMIT, VERSION_MOST};
-use wire::integers::{Integer, Natural, Signed, read_integer, read_natural};
+use wire::integers::{Signed, read_integer, read_natural};
 use wire::words::word;
 
 // A lifetime, or that its number is refused (16).
@@ -79,7 +79,7 @@ pub fn lifetime(
         return Timed::Value(Lifetime::Keep);
     }
     let read = read_natural(word(command, places, operand), TIME_LIMIT);
-    let Natural::Value(n) = read else {
+    let Some(n) = read else {
         return Timed::Refused;
     };
     Timed::Value(Lifetime::Until(instant(said, n, time)))
@@ -94,7 +94,7 @@ pub fn versioning(command: &[u8], places: &[[usize; 2]], said: usize, operand: u
         return Versioned::Value(Versioning::Next);
     }
     let read = read_natural(word(command, places, operand), VERSION_MOST);
-    let Natural::Value(n) = read else {
+    let Some(n) = read else {
         return Versioned::Refused;
     };
     match said {
@@ -181,12 +181,12 @@ pub fn bound(
     said: usize,
     operand: usize,
     unbounded: Signed,
-) -> Integer
+) -> Option<Signed>
     requires { Inside command.now places.now }
     ensures { let ws = words_in command.now places.now in result ≡ bound_for unbounded said (word_at operand ws) }
 {
     if NOT_GIVEN <= said {
-        return Integer::Value(unbounded);
+        return Some(unbounded);
     }
     read_integer(word(command, places, operand))
 }
@@ -197,7 +197,7 @@ pub fn sum(command: &[u8], places: &[[usize; 2]], given: ScannedOptions) -> Adde
     ensures { result ≡ sum_of (words_in command.now places.now) given }
 {
     let read = read_integer(word(command, places, 3));
-    let Integer::Value(amount) = read else {
+    let Some(amount) = read else {
         return Added::Refused;
     };
     let lowest = Signed {
@@ -211,7 +211,7 @@ pub fn sum(command: &[u8], places: &[[usize; 2]], given: ScannedOptions) -> Adde
         given.operands[MIN_GROUP],
         lowest,
     );
-    let Integer::Value(least) = low else {
+    let Some(least) = low else {
         return Added::Refused;
     };
     let highest = Signed {
@@ -225,7 +225,7 @@ pub fn sum(command: &[u8], places: &[[usize; 2]], given: ScannedOptions) -> Adde
         given.operands[MAX_GROUP],
         highest,
     );
-    let Integer::Value(greatest) = high else {
+    let Some(greatest) = high else {
         return Added::Refused;
     };
     Added::Value(Sum {

@@ -5,8 +5,7 @@ ghost use Rattle.wire.specs.Promises.{words_in, Inside};
 ghost use Rattle.commands.specs.ParsePromises.{FoundBy, Scanned};
 
 use crate::table::{GROUP_AT, GROUP_COUNT, SAID_AT, SIZE_AT, option_datum, option_named};
-use wire::names::RowFound;
-use wire::words::{Next, next_word, word};
+use wire::words::{next_word, word};
 
 // Where this stands as what the option of a group says, none was given; no row of the table says it.
 pub const NOT_GIVEN: usize = 256;
@@ -50,7 +49,7 @@ fn option_at(command: &[u8], places: &[[usize; 2]], i: usize, allowed: &[usize])
     ensures { FoundBy (words_in command.now places.now) allowed.now i result }
 {
     let found = option_named(word(command, places, i));
-    let RowFound::At(option) = found else {
+    let Some(option) = found else {
         return OptionFound::Refused(15);
     };
     let g = option_datum(option, GROUP_AT);
@@ -62,7 +61,7 @@ fn option_at(command: &[u8], places: &[[usize; 2]], i: usize, allowed: &[usize])
         return OptionFound::At(g, said, i);
     }
     let next = next_word(places.len(), i + 1);
-    let Next::Word(operand) = next else {
+    let Some(operand) = next else {
         return OptionFound::Refused(15);
     };
     OptionFound::At(g, said, operand)

@@ -12,8 +12,8 @@ ghost use Rattle.commands.specs.Promises.{with_put, WithinLimits, Does, FieldsRe
 use crate::act::{hint_for, look, place};
 use crate::field::held_version;
 use crate::refusal::put_error;
+use store::find;
 use store::layout::VERSION_MOST;
-use store::{Expiry, Found, find};
 use wire::bytes::equal;
 use wire::replies::put_line;
 use wire::words::{WORDS_MOST, word};
@@ -65,12 +65,18 @@ fn repeats(command: &[u8], pairs: &[[usize; 2]], i: usize) -> u64
 }
 
 // The same where it matters: a held field far from the largest version passes it in no case, and is not new.
-fn relevant_repeats(command: &[u8], pairs: &[[usize; 2]], i: usize, found: Found, held: u64) -> u64
+fn relevant_repeats(
+    command: &[u8],
+    pairs: &[[usize; 2]],
+    i: usize,
+    found: Option<usize>,
+    held: u64,
+) -> u64
     requires { (Inside command.now pairs.now) × (i + 1 < length pairs.now) }
     ensures { let ws = words_in command.now pairs.now in
         Telling found held (times_in (word_at i ws) (fields_in (drop (i + 2) ws))) result }
 {
-    let Found::At(_) = found else {
+    let Some(_) = found else {
         return repeats(command, pairs, i);
     };
     if held < VERSION_MOST - WORDS_MOST as u64 {
@@ -80,10 +86,10 @@ fn relevant_repeats(command: &[u8], pairs: &[[usize; 2]], i: usize, found: Found
 }
 
 // 1 where a field is missing and does not come again, else 0.
-fn new_field(found: Found, again: u64) -> usize
+fn new_field(found: Option<usize>, again: u64) -> usize
     ensures { result ≡ new_field found again }
 {
-    let Found::Nothing = found else {
+    let None = found else {
         return 0;
     };
     if again == 0 {
@@ -139,7 +145,7 @@ fn place_pair(bytes: &mut [u8], key: &[u8], field: &[u8], value: &[u8], time: u6
 {
     let own = find::named_near(bytes, key, field, hint);
     let version = held_version(bytes, own) + 1;
-    place(bytes, own, key, field, value, version, Expiry::Never, time);
+    place(bytes, own, key, field, value, version, None, time);
 }
 
 // Writes all pairs, where no version passes its largest.

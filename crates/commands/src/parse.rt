@@ -18,8 +18,7 @@ use crate::table::{
 };
 use crate::{FieldDeed, KeyDeed, Listing, Parsed, Question, operands};
 use store::layout::{TIME_LIMIT, VERSION_MOST};
-use wire::integers::{Natural, read_natural};
-use wire::names::RowFound;
+use wire::integers::read_natural;
 use wire::words::word;
 
 // EXHSET from its options on: checks 15 to 18.
@@ -82,7 +81,7 @@ fn parse_expire(command: &[u8], places: &[[usize; 2]], unit: usize, time: u64) -
         return Parsed::Refused(given.refusal);
     }
     let read = read_natural(word(command, places, 3), TIME_LIMIT);
-    let Natural::Value(n) = read else {
+    let Some(n) = read else {
         return Parsed::Refused(16);
     };
     let versioned = operands::versioning(
@@ -111,7 +110,7 @@ fn parse_renumber(command: &[u8], places: &[[usize; 2]]) -> Parsed
         ((time : ℕ) → meant ws result ≡ parse_rest time P.Form.renumber_form ws) }
 {
     let read = read_natural(word(command, places, 3), VERSION_MOST);
-    let Natural::Value(n) = read else {
+    let Some(n) = read else {
         return Parsed::Refused(16);
     };
     Parsed::OnField(FieldDeed::Renumber(n))
@@ -193,7 +192,7 @@ pub fn parse(command: &[u8], places: &[[usize; 2]], clock: u64, time: u64) -> Pa
         return Parsed::Refused(11);
     }
     let found = command_named(word(command, places, 0));
-    let RowFound::At(row) = found else {
+    let Some(row) = found else {
         return Parsed::Refused(12);
     };
     if !count_fits(row, places.len()) {

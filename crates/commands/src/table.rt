@@ -1,12 +1,12 @@
 // The commands and their options: for each its name, a row of a table, and the numbers that parsing asks of it.
 ghost use Rattle.std.specs.Prelude.{◌≡◌, ◌*◌, ◌/◌, ◌%◌, ◌^◌, ◌<◌, get_or};
 ghost use Rattle.wire.specs.Bytes.{from_le};
-ghost use Rattle.wire.specs.Promises.{row_for, row_named};
+ghost use Rattle.wire.specs.Promises.{row_named};
 ghost use Rattle.commands.specs.Options.{option_count};
 ghost use Rattle.commands.specs.Parse.{command_count};
 ghost use Rattle.commands.specs.TablePromises.{data_size, command_table, command_data, command_of, option_table, option_data, option_of};
 
-use wire::names::{ROW_SIZE, RowFound, find};
+use wire::names::{ROW_SIZE, find};
 
 // The numbers of a command's row: its family; its unit, question or listing; the least number of its words; whether more may follow; which of them are a field or a value.
 pub const FAMILY_AT: usize = 0;
@@ -139,8 +139,8 @@ const OPTIONS: [u8; ROW_SIZE * OPTION_COUNT] = *b"\x02EXcdefghijklmno\
     \x05NOEXPfghijklmno";
 
 // The number of the command that a word names.
-pub fn command_named(word: &[u8]) -> RowFound
-    ensures { result ≡ row_for (row_named command_table word.now) }
+pub fn command_named(word: &[u8]) -> Option<usize>
+    ensures { result ≡ row_named command_table word.now }
 {
     find(&COMMANDS, word)
 }
@@ -194,8 +194,8 @@ pub fn command_datum(row: usize, place: usize) -> usize
 }
 
 // The number of the option that a word names.
-pub fn option_named(word: &[u8]) -> RowFound
-    ensures { result ≡ row_for (row_named option_table word.now) }
+pub fn option_named(word: &[u8]) -> Option<usize>
+    ensures { result ≡ row_named option_table word.now }
 {
     find(&OPTIONS, word)
 }

@@ -1,18 +1,17 @@
 // What decides a field's version and expiry, and whether it is written. A missing field counts as version 0 with no expiry; it is never stale.
 ghost use Rattle.std.specs.Prelude.{◌≡◌, [], ◌≤◌};
-ghost use Rattle.std.proofs.Math.Option.{some};
+ghost use Rattle.std.specs.Prelude.{Some};
 ghost use Rattle.store.specs.Layout.{version_most};
 ghost use Rattle.commands.specs.Effect.{is_stale, next_version, setter_version, next_expiry, barred};
 ghost use Rattle.commands.specs.Promises.{entry_for, versioned, expiring};
 
 use crate::{Condition, Lifetime, Versioning};
-use store::{Expiry, Found};
 
 // Whether VER names another version than the one that is held, or GT one that is not greater. A VER of 0 is compared with nothing, and no VER
 // with a held 0.
 #[tactic(auto, using(crate::proofs::VersionPlans::match_none))]
 pub fn is_stale(versioning: Versioning, held: u64) -> bool
-    ensures { result ≡ is_stale versioning (some (versioned held)) }
+    ensures { result ≡ is_stale versioning (Some (versioned held)) }
 {
     match versioning {
         Versioning::Match(v) => 1 <= v && (held != 0 && held != v),
@@ -25,7 +24,7 @@ pub fn is_stale(versioning: Versioning, held: u64) -> bool
 // The version of a field that is written.
 pub fn next_version(versioning: Versioning, held: u64) -> u64
     requires { held ≤ version_most }
-    ensures { result ≡ next_version versioning (some (versioned held)) }
+    ensures { result ≡ next_version versioning (Some (versioned held)) }
 {
     match versioning {
         Versioning::Exactly(v) => v,
@@ -49,27 +48,27 @@ pub fn setter_version(versioning: Versioning, held: u64) -> u64
 }
 
 // The expiry of a field that is written.
-pub fn next_expiry(lifetime: Lifetime, held: Expiry) -> Expiry
-    ensures { result ≡ next_expiry lifetime (some (expiring held)) }
+pub fn next_expiry(lifetime: Lifetime, held: Option<u64>) -> Option<u64>
+    ensures { result ≡ next_expiry lifetime (Some (expiring held)) }
 {
     match lifetime {
-        Lifetime::Until(instant) => Expiry::At(instant),
-        Lifetime::Clear => Expiry::Never,
+        Lifetime::Until(instant) => Some(instant),
+        Lifetime::Clear => None,
         Lifetime::Keep => held,
     }
 }
 
 // Whether NX or XX keeps a field from being written.
-pub fn is_barred(condition: Condition, found: Found) -> bool
+pub fn is_barred(condition: Condition, found: Option<usize>) -> bool
     ensures { result ≡ barred condition (entry_for [] found) }
 {
     match found {
-        Found::At(_) => match condition {
+        Some(_) => match condition {
             Condition::Always => false,
             Condition::Missing => true,
             Condition::Live => false,
         },
-        Found::Nothing => match condition {
+        None => match condition {
             Condition::Always => false,
             Condition::Missing => false,
             Condition::Live => true,

@@ -1,8 +1,8 @@
 -- The refusals of the calls, as the code finds them.
+use Rattle.std.specs.Prelude.{Option, None, Some, unwrap_or}
 use mathlib.Core.Path.{◌≡◌, refl, sym, ap, ◌∙◌}
 use mathlib.Core.Bool.{Bool, true, false, ◌||◌}
 use mathlib.Core.List.{List, [], ◌∷◌}
-use mathlib.Core.Option.{Option, none, some, get_or}
 use Prim.Native.Nat.{ℕ, ◌≤◌, ◌<◌}
 use native.Mathlib.Omega.{arith}
 use lib.Dec.{leb, ltb}
@@ -32,30 +32,30 @@ module _ (first second : List ℕ) (instant : ℕ) where
       pub after_both : y ≤ instant → leb time_limit instant ≡ out_of_range first second instant
       after_both m = rw (← e, le-ltb instant x l, ← q, le-ltb instant y m)
 
-  pub damaged_first : well_formed first ≡ false → 2 ≡ get_or (first_applying (checks first second instant)) 0
+  pub damaged_first : well_formed first ≡ false → 2 ≡ unwrap_or (first_applying (checks first second instant)) 0
   unfolding checks first_applying
   damaged_first h = rw h
 
   module _ (w : well_formed first ≡ true) where
-    pub damaged_second : well_formed second ≡ false → 2 ≡ get_or (first_applying (checks first second instant)) 0
+    pub damaged_second : well_formed second ≡ false → 2 ≡ unwrap_or (first_applying (checks first second instant)) 0
     unfolding checks first_applying
     damaged_second h = rw (w, h)
 
     module _ (v : well_formed second ≡ true) where
-      pub out_of_range_lem : out_of_range first second instant ≡ true → 11 ≡ get_or (first_applying (checks first second instant)) 0
+      pub out_of_range_lem : out_of_range first second instant ≡ true → 11 ≡ unwrap_or (first_applying (checks first second instant)) 0
       unfolding checks first_applying
       out_of_range_lem h = rw (w, v, h)
 
-      pub in_range : out_of_range first second instant ≡ false → 0 ≡ get_or (first_applying (checks first second instant)) 0
+      pub in_range : out_of_range first second instant ≡ false → 0 ≡ unwrap_or (first_applying (checks first second instant)) 0
       unfolding checks first_applying
       in_range h = rw (w, v, h)
 
 -- ---- what the number says
 
 -- a number that is not 0 is the one that was given
-pub given_some : (o : Option ℕ) (n : ℕ) → n ≡ get_or o 0 → (n ≡ 0 → ⊥) → o ≡ some n
-given_some none n h d = absurd (d h)
-given_some (some m) n h d = ap some (sym h)
+pub given_some : (o : Option ℕ) (n : ℕ) → n ≡ unwrap_or o 0 → (n ≡ 0 → ⊥) → o ≡ Some n
+given_some None n h d = absurd (d h)
+given_some (Some m) n h d = ap Some (sym h)
 
 known : (first second : List ℕ) (instant : ℕ) → all (λ c. leb 1 c.number) (checks first second instant) ≡ true
 unfolding checks all
@@ -66,9 +66,9 @@ pub record Passed (first second : List ℕ) (instant : ℕ) : Type 0 where
   pub well : well_formed first ≡ true
   pub also_well : well_formed second ≡ true
   pub range : out_of_range first second instant ≡ false
-  pub clear : first_applying (checks first second instant) ≡ none
+  pub clear : first_applying (checks first second instant) ≡ None
 
-pub passed : (first second : List ℕ) (instant : ℕ) → first_applying (checks first second instant) ≡ none → Passed first second instant
+pub passed : (first second : List ℕ) (instant : ℕ) → first_applying (checks first second instant) ≡ None → Passed first second instant
 unfolding checks
 passed first second instant h =
     let a = first_none _ _ h in
@@ -77,28 +77,28 @@ passed first second instant h =
     record { well = not-false (well_formed first) a.0; also_well = not-false (well_formed second) b.0; range = c.0; clear = h }
 
 -- no number is 0
-pub zero_passed : (first second : List ℕ) (instant : ℕ) → 0 ≡ get_or (first_applying (checks first second instant)) 0 → Passed first second instant
+pub zero_passed : (first second : List ℕ) (instant : ℕ) → 0 ≡ unwrap_or (first_applying (checks first second instant)) 0 → Passed first second instant
 zero_passed first second instant h = passed first second instant (go (first_applying (checks first second instant)) refl h)
   where
-    positive : (n : ℕ) → first_applying (checks first second instant) ≡ some n → leb 1 n ≡ true
+    positive : (n : ℕ) → first_applying (checks first second instant) ≡ Some n → leb 1 n ≡ true
     positive n e = first_number (λ m. leb 1 m) (checks first second instant) n numbers e
       where
         numbers : all (λ c. leb 1 c.number) (checks first second instant) ≡ true
         numbers = known first second instant
 
-    go : (o : Option ℕ) → first_applying (checks first second instant) ≡ o → 0 ≡ get_or o 0 → o ≡ none
-    go none e q = refl
-    go (some n) e q = absurd (omega (arith, q, leb-true 1 n (positive n e)))
+    go : (o : Option ℕ) → first_applying (checks first second instant) ≡ o → 0 ≡ unwrap_or o 0 → o ≡ None
+    go None e q = refl
+    go (Some n) e q = absurd (omega (arith, q, leb-true 1 n (positive n e)))
 
 -- ---- the listing's call
 
 module _ (first second : List ℕ) (instant : ℕ) (out : List ℕ) where
   pub listing_checks_lem : first_applying (listing_checks first second instant out)
-      ≡ or_else (first_applying (checks first second instant)) (first_applying (3 when ltb (length out) output_least ∷ [])) some
+      ≡ or_else (first_applying (checks first second instant)) (first_applying (3 when ltb (length out) output_least ∷ [])) Some
   unfolding listing_checks
   listing_checks_lem = first_append (checks first second instant) (3 when ltb (length out) output_least ∷ [])
 
-  pub compare_refused : {n : ℕ} → n ≡ get_or (first_applying (checks first second instant)) 0 → (n ≡ 0 → ⊥)
+  pub compare_refused : {n : ℕ} → n ≡ unwrap_or (first_applying (checks first second instant)) 0 → (n ≡ 0 → ⊥)
       → refusing n out ≡ compare first second instant out
   unfolding compare or_else
   compare_refused {n} h d = rw (listing_checks_lem, given_some (first_applying (checks first second instant)) n h d)

@@ -1,9 +1,9 @@
 -- Which refusal is given, and which store has the newer value: exactly when.
+use Rattle.std.specs.Prelude.{Option, None, Some}
 use mathlib.Core.Path.{◌≡◌, refl, sym, ap, subst, ◌∙◌}
 use mathlib.Core.Logic.{◌⊎◌, inl, inr, ◌↔◌}
 use mathlib.Core.Bool.{Bool, true, false, not, ◌||◌}
 use mathlib.Core.List.{List, [], ◌∷◌}
-use mathlib.Core.Option.{Option, none, some}
 use Prim.Native.Nat.{ℕ, ◌≤◌, ◌<◌}
 use native.Mathlib.Omega.{arith}
 use lib.Dec.{leb, ltb}
@@ -15,7 +15,6 @@ use Rattle.wire.specs.Checks.{◌when◌, first_applying}
 use Rattle.wire.proofs.ReplyLaying.{take_laid, drop_laid, length_laid}
 use Rattle.wire.proofs.Lists.{both_ways, impossible}
 use Rattle.store.specs.Layout.{key_most, field_most, time_limit}
-use Rattle.store.specs.declared.Expiry.TheVariants.{Never}
 use Rattle.store.specs.Store.{Entry, entry, Slot, clock_of, decode, well_formed, entry_at}
 use Rattle.store.specs.Valid.{Fits, FitsSlot, Apart}
 use Rattle.store.proofs.Encode.{decode_valid}
@@ -37,8 +36,8 @@ use Rattle.compare.proofs.NewerPlaces.{Chosen, Answered, answered, first_held, s
 module _ (first second : List ℕ) (instant : ℕ) where
   -- the outcome of the checks, by what applies
   pub data Checked : Option ℕ → Type 0 where
-    stopped : {m : ℕ} → Refusal first second instant m → Checked (some m)
-    clear : Proper first second instant → Checked none
+    stopped : {m : ℕ} → Refusal first second instant m → Checked (Some m)
+    clear : Proper first second instant → Checked None
 
   ranged : well_formed first ≡ true → well_formed second ≡ true → (s t u : Bool) → ltb instant (clock_of first) ≡ s → ltb instant (clock_of second) ≡ t → leb time_limit instant ≡ u
       → Checked (first_applying (11 when (s || (t || u)) ∷ []))
@@ -98,25 +97,25 @@ module _ (first second : List ℕ) (instant : ℕ) where
   refusal_once x (before_second w v h) = whole_11 x w v
   refusal_once x (too_late w v h) = whole_11 x w v
 
-  pub checks_refuse : (n : ℕ) → (first_applying (checks first second instant) ≡ some n) ↔ Refusal first second instant n
+  pub checks_refuse : (n : ℕ) → (first_applying (checks first second instant) ≡ Some n) ↔ Refusal first second instant n
   checks_refuse n = (λ h. there checked h, λ r. back checked r)
     where
-      there : {o : Option ℕ} → Checked o → o ≡ some n → Refusal first second instant n
+      there : {o : Option ℕ} → Checked o → o ≡ Some n → Refusal first second instant n
       there (stopped {m} r) h = let z : m ≡ n = cc in rw (← z) r
       there (clear p) h = impossible cc
 
-      back : {o : Option ℕ} → Checked o → Refusal first second instant n → o ≡ some n
-      back (stopped x) r = ap some (refusal_once x r)
+      back : {o : Option ℕ} → Checked o → Refusal first second instant n → o ≡ Some n
+      back (stopped x) r = ap Some (refusal_once x r)
       back (clear p) r = absurd (refusal_proper r p)
 
-  pub checks_pass : (first_applying (checks first second instant) ≡ none) ↔ Proper first second instant
+  pub checks_pass : (first_applying (checks first second instant) ≡ None) ↔ Proper first second instant
   checks_pass = (λ h. there checked h, λ p. back checked p)
     where
-      there : {o : Option ℕ} → Checked o → o ≡ none → Proper first second instant
+      there : {o : Option ℕ} → Checked o → o ≡ None → Proper first second instant
       there (stopped r) h = impossible cc
       there (clear p) h = p
 
-      back : {o : Option ℕ} → Checked o → Proper first second instant → o ≡ none
+      back : {o : Option ℕ} → Checked o → Proper first second instant → o ≡ None
       back (stopped x) p = absurd (refusal_proper x p)
       back (clear q) p = refl
 
@@ -124,32 +123,32 @@ module _ (first second : List ℕ) (instant : ℕ) where
 
 -- an entry of a key and a field, whatever else
 abbrev called : List ℕ → List ℕ → Entry
-called k f = entry k f [] 0 Never
+called k f = entry k f [] 0 None
 
 module _ (instant : ℕ) (k f : List ℕ) (ss : List Slot) where
-  search_shown : (j : ℕ) → live_slot_of instant k f ss ≡ some j → LiveNamed instant k f ss j (entry_at ss j)
+  search_shown : (j : ℕ) → live_slot_of instant k f ss ≡ Some j → LiveNamed instant k f ss j (entry_at ss j)
   search_shown j h =
       let q = search_some instant (called k f) ss j h in
       rw q.3 (record { at = q.1; key = sym q.2.key; field = sym q.2.field })
 
-  shown_search : Apart ss → (i : ℕ) (e : Entry) → LiveNamed instant k f ss i e → live_slot_of instant k f ss ≡ some i
+  shown_search : Apart ss → (i : ℕ) (e : Entry) → LiveNamed instant k f ss i e → live_slot_of instant k f ss ≡ Some i
   shown_search a i e s = search_only instant (called k f) ss a e (record { slot = i; at = s.at }) (record { key = sym s.key; field = sym s.field })
 
   shown_entry : (i : ℕ) (e : Entry) → LiveNamed instant k f ss i e → entry_at ss i ≡ e
   shown_entry i e s = entry_here_lem ss i e s.at.here
 
-  search_no_live : live_slot_of instant k f ss ≡ none → NoLive instant k f ss
+  search_no_live : live_slot_of instant k f ss ≡ None → NoLive instant k f ss
   search_no_live h i e s = search_none instant (called k f) ss h e (record { slot = i; at = s.at }) (record { key = sym s.key; field = sym s.field })
 
-  no_live_search : NoLive instant k f ss → live_slot_of instant k f ss ≡ none
+  no_live_search : NoLive instant k f ss → live_slot_of instant k f ss ≡ None
   no_live_search h = go (live_slot_of instant k f ss) refl
     where
-      go : (o : Option ℕ) → live_slot_of instant k f ss ≡ o → o ≡ none
-      go none q = refl
-      go (some j) q = absurd (h j (entry_at ss j) (search_shown j q))
+      go : (o : Option ℕ) → live_slot_of instant k f ss ≡ o → o ≡ None
+      go None q = refl
+      go (Some j) q = absurd (h j (entry_at ss j) (search_shown j q))
 
   -- what holds of the version in the slot that the search gives holds of every live one
-  by_search : (P : ℕ → Type 0) → Apart ss → ((j : ℕ) → live_slot_of instant k f ss ≡ some j → P (entry_at ss j).version)
+  by_search : (P : ℕ → Type 0) → Apart ss → ((j : ℕ) → live_slot_of instant k f ss ≡ Some j → P (entry_at ss j).version)
       → (j : ℕ) (e : Entry) → LiveNamed instant k f ss j e → P e.version
   by_search P a h j e s = subst (λ (g : Entry). P g.version) (shown_entry j e s) (h j (shown_search a j e s))
 
@@ -180,7 +179,7 @@ module _ (first second k f : List ℕ) (instant : ℕ) where
           → Proper first second instant × ((e : Entry) × LiveNamed instant k f (decode first).slots i e × AtMost instant k f (decode second).slots e.version) → w ≡ First i
       back (Answered.stopped r) q = absurd (refusal_proper first second instant ((checks_refuse first second instant _).0 r) q.0)
       back (Answered.named p (Chosen.in_first m e l)) q =
-          let here : some m ≡ some i = sym e ∙ shown_search instant k f (decode first).slots (apart p.well) i q.1.0 q.1.1 in
+          let here : Some m ≡ Some i = sym e ∙ shown_search instant k f (decode first).slots (apart p.well) i q.1.0 q.1.1 in
           let z : m ≡ i = cc in
           ap First z
       back (Answered.named p (Chosen.in_second j e l)) q =
@@ -209,7 +208,7 @@ module _ (first second k f : List ℕ) (instant : ℕ) where
           let most = by_search instant k f (decode second).slots (λ n. n ≤ (entry_at (decode first).slots i).version) (also_apart p.also_well) l j q.1.0 q.1.1 in
           absurd (omega (arith, most, q.1.2 i (entry_at (decode first).slots i) (search_shown instant k f (decode first).slots i e)))
       back (Answered.named p (Chosen.in_second m e l)) q =
-          let here : some m ≡ some j = sym e ∙ shown_search instant k f (decode second).slots (also_apart p.also_well) j q.1.0 q.1.1 in
+          let here : Some m ≡ Some j = sym e ∙ shown_search instant k f (decode second).slots (also_apart p.also_well) j q.1.0 q.1.1 in
           let z : m ≡ j = cc in
           ap Second z
       back (Answered.named p (Chosen.in_neither e l)) q = absurd (search_no_live instant k f (decode second).slots l j q.1.0 q.1.1)
@@ -345,7 +344,7 @@ module _ (first second : List ℕ) (instant : ℕ) (out : List ℕ) where
       sized p false q = listed p (ltb-false (length out) output_least q)
 
       go : {o : Option ℕ} → Checked first second instant o
-          → Went (or_else (or_else o (first_applying (3 when ltb (length out) output_least ∷ [])) some) (answering (listing instant (decode first) (decode second)) out) (λ n. refusing n out))
+          → Went (or_else (or_else o (first_applying (3 when ltb (length out) output_least ∷ [])) Some) (answering (listing instant (decode first) (decode second)) out) (λ n. refusing n out))
       go (stopped r) = refused r
       go (clear p) = sized p (ltb (length out) output_least) refl
 

@@ -1,9 +1,8 @@
 -- Lines and their text: one line, the lines of one slot, and those of the slots that are left.
+use Rattle.std.specs.Prelude.{Option, None, Some, unwrap_or}
 use mathlib.Core.Path.{◌≡◌, refl, sym, subst, ◌∙◌}
 use mathlib.Core.Bool.{Bool, true, false, not}
 use mathlib.Core.List.{List, [], ◌∷◌, ◌++◌, map, flatten, append_assoc, append-nil, map-append}
-use mathlib.Core.Option
-use mathlib.Core.Option.{Option, none, some}
 use Prim.Native.Nat.{ℕ, ◌+◌, ◌-◌, ◌≤◌, ◌<◌}
 use native.Mathlib.Numerals.{add-one}
 use native.Mathlib.Omega.{arith}
@@ -90,69 +89,69 @@ unfolding listing_of
 listing_append ls ms = rw (map-append line_text ls ms) (flatten_append (map line_text ls) (map line_text ms))
 
 -- no mark is 0
-mark_none : (pass : Pass) (instant : ℕ) (other : List Slot) (e : Entry) → mark_for pass instant other e ≡ no_mark → pass_mark pass instant other e ≡ none
+mark_none : (pass : Pass) (instant : ℕ) (other : List Slot) (e : Entry) → mark_for pass instant other e ≡ no_mark → pass_mark pass instant other e ≡ None
 unfolding mark_for pass_mark first_mark second_mark or_else only_if
 mark_none passes.First instant other e = go (live_slot_of instant e.key e.field other)
   where
-    agreed : (t : Bool) → Option.get_or (only_if (not t) different) no_mark ≡ no_mark → only_if (not t) different ≡ none
+    agreed : (t : Bool) → unwrap_or (only_if (not t) different) no_mark ≡ no_mark → only_if (not t) different ≡ None
     agreed true h = refl
     agreed false h = absurd (omega (arith, h))
 
-    go : (o : Option ℕ) → Option.get_or (or_else o (some only_first) (λ j. only_if (not (agree e (entry_at other j))) different)) no_mark ≡ no_mark
-        → or_else o (some only_first) (λ j. only_if (not (agree e (entry_at other j))) different) ≡ none
-    go none h = absurd (omega (arith, h))
-    go (some j) h = agreed (agree e (entry_at other j)) h
+    go : (o : Option ℕ) → unwrap_or (or_else o (Some only_first) (λ j. only_if (not (agree e (entry_at other j))) different)) no_mark ≡ no_mark
+        → or_else o (Some only_first) (λ j. only_if (not (agree e (entry_at other j))) different) ≡ None
+    go None h = absurd (omega (arith, h))
+    go (Some j) h = agreed (agree e (entry_at other j)) h
 mark_none passes.Second instant other e = go (live_slot_of instant e.key e.field other)
   where
-    go : (o : Option ℕ) → Option.get_or (or_else o (some only_second) (λ j. none)) no_mark ≡ no_mark → or_else o (some only_second) (λ j. none) ≡ none
-    go none h = absurd (omega (arith, h))
-    go (some j) h = refl
+    go : (o : Option ℕ) → unwrap_or (or_else o (Some only_second) (λ j. None)) no_mark ≡ no_mark → or_else o (Some only_second) (λ j. None) ≡ None
+    go None h = absurd (omega (arith, h))
+    go (Some j) h = refl
 
 -- a slot of a store, and one whose entry is live
 module _ (b : List ℕ) (i : ℕ) (w : well_formed b ≡ true) (l : i < length (decode b).slots) where
   pub slot_inside : (well_formed b ≡ true) × (i < slot_count b)
   slot_inside = (w, rw (← length_decode b) l)
 
-  pub live_slot_lem : (instant : ℕ) → live_slot instant (get_or (decode b).slots i none) ≡ true → Held b i
+  pub live_slot_lem : (instant : ℕ) → live_slot instant (get_or (decode b).slots i None) ≡ true → Held b i
   unfolding live_slot empty_slot or_else
-  live_slot_lem instant h = record { well = w; inside = slot_inside.1; held = held (get_or (decode b).slots i none) h }
+  live_slot_lem instant h = record { well = w; inside = slot_inside.1; held = held (get_or (decode b).slots i None) h }
     where
       held : (s : Slot) → live_slot instant s ≡ true → empty_slot s ≡ false
-      held none q = impossible cc
-      held (some e) q = refl
+      held None q = impossible cc
+      held (Some e) q = refl
 
 module _ (pass : Pass) (instant : ℕ) (b other : List ℕ) (i : ℕ) where
   -- a slot whose entry is not live has no line
-  pub slot_dead : live_slot instant (get_or (decode b).slots i none) ≡ false → slot_text pass instant b other i ≡ []
+  pub slot_dead : live_slot instant (get_or (decode b).slots i None) ≡ false → slot_text pass instant b other i ≡ []
   unfolding slot_text line_of listing_of flatten live_slot or_else
-  slot_dead = go (get_or (decode b).slots i none)
+  slot_dead = go (get_or (decode b).slots i None)
     where
       go : (s : Slot) → live_slot instant s ≡ false → listing_of (line_of instant (pass_mark pass instant (decode other).slots) i s) ≡ []
-      go none h = refl
-      go (some e) h = rw h
+      go None h = refl
+      go (Some e) h = rw h
 
-  module _ (l : live_slot instant (get_or (decode b).slots i none) ≡ true) {m : ℕ} (h : m ≡ mark_for pass instant (decode other).slots (entry_at (decode b).slots i)) where
+  module _ (l : live_slot instant (get_or (decode b).slots i None) ≡ true) {m : ℕ} (h : m ≡ mark_for pass instant (decode other).slots (entry_at (decode b).slots i)) where
     -- nor has one whose entry gets no mark
     pub slot_unmarked : m ≡ no_mark → slot_text pass instant b other i ≡ []
     unfolding slot_text line_of listing_of flatten live_slot or_else entry_at
-    slot_unmarked z = go (get_or (decode b).slots i none) l (sym h ∙ z)
+    slot_unmarked z = go (get_or (decode b).slots i None) l (sym h ∙ z)
       where
         go : (s : Slot) → live_slot instant s ≡ true → mark_for pass instant (decode other).slots (or_else s blank (λ e. e)) ≡ no_mark
             → listing_of (line_of instant (pass_mark pass instant (decode other).slots) i s) ≡ []
-        go none x q = refl
-        go (some e) x q = rw (x, mark_none pass instant (decode other).slots e q)
+        go None x q = refl
+        go (Some e) x q = rw (x, mark_none pass instant (decode other).slots e q)
 
     -- the line of the others
     pub slot_marked : (m ≡ no_mark → ⊥)
         → slot_text pass instant b other i ≡ marked m (length (entry_at (decode b).slots i).key) (length (entry_at (decode b).slots i).field) i
     unfolding slot_text line_of listing_of line_text marked flatten live_slot or_else entry_at mark_for
-    slot_marked d = go (get_or (decode b).slots i none) l h
+    slot_marked d = go (get_or (decode b).slots i None) l h
       where
         go : (s : Slot) → live_slot instant s ≡ true → m ≡ mark_for pass instant (decode other).slots (or_else s blank (λ e. e))
             → listing_of (line_of instant (pass_mark pass instant (decode other).slots) i s)
             ≡ marked m (length (or_else s blank (λ e. e)).key) (length (or_else s blank (λ e. e)).field) i
-        go none x q = impossible cc
-        go (some e) x q = rw (x, given_some (pass_mark pass instant (decode other).slots e) m q d) (append-nil _)
+        go None x q = impossible cc
+        go (Some e) x q = rw (x, given_some (pass_mark pass instant (decode other).slots e) m q d) (append-nil _)
 
 -- ---- the lines of the slots from slot i on
 
@@ -169,8 +168,8 @@ module _ (pass : Pass) (instant : ℕ) (b other : List ℕ) where
   rest_next i l =
       record {
         parts =
-            rw (drop-cons (decode b).slots i none l, add-one)
-            (listing_append (line_of instant (pass_mark pass instant (decode other).slots) i (get_or (decode b).slots i none)) _);
+            rw (drop-cons (decode b).slots i None l, add-one)
+            (listing_append (line_of instant (pass_mark pass instant (decode other).slots) i (get_or (decode b).slots i None)) _);
       }
 
   pub rest_ends : (i : ℕ) → length (decode b).slots ≤ i → rest_text pass instant b other i ≡ []

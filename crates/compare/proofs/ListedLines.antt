@@ -1,10 +1,10 @@
 -- Which lines a listing has: each line by what the two stores hold, with no search.
+use Rattle.std.specs.Prelude.{Option, None, Some}
 use mathlib.Core.Path.{◌≡◌, refl, sym, ap, ◌∙◌}
 use mathlib.Core.Logic.{◌⊎◌, inl, inr}
 use mathlib.Core.Bool.{Bool, true, false, cond, not, ◌&&◌}
 use mathlib.Core.List.Memᴰ
 use mathlib.Core.List.{List, [], ◌∷◌, Memᴰ}
-use mathlib.Core.Option.{Option, none, some}
 use Prim.Native.Nat.{ℕ, zero, suc, ◌+◌}
 use native.Mathlib.Omega.{arith}
 use lib.Dec.{eqb}
@@ -14,8 +14,6 @@ use Rattle.wire.specs.Lists.{every, only_if, or_else}
 use Rattle.wire.specs.Bytes.{same}
 use Rattle.wire.proofs.Lists.{and_left, and_right, both_ways, impossible}
 use Rattle.wire.proofs.ByteLaws.{same_true, same_refl}
-use Rattle.store.specs.declared.Expiry.{Expiry}
-use Rattle.store.specs.declared.Expiry.TheVariants.{Never, At}
 use Rattle.store.specs.Store.{Entry, Slot, entry_at}
 use Rattle.store.specs.Time.{live, live_slot}
 use Rattle.store.specs.Valid.{Apart}
@@ -26,17 +24,17 @@ use Rattle.compare.proofs.LiveEntries.{live_holds, live_lives, live_both, live_h
 
 -- ---- entries that agree
 
-expiry_same : (x y : Expiry) → same_expiry x y ≡ true → x ≡ y
+expiry_same : (x y : Option ℕ) → same_expiry x y ≡ true → x ≡ y
 unfolding same_expiry
-expiry_same Never Never h = refl
-expiry_same Never (At t) h = impossible cc
-expiry_same (At s) Never h = impossible cc
-expiry_same (At s) (At t) h = ap At (eqb-true s t h)
+expiry_same None None h = refl
+expiry_same None (Some t) h = impossible cc
+expiry_same (Some s) None h = impossible cc
+expiry_same (Some s) (Some t) h = ap Some (eqb-true s t h)
 
-expiry_own : (x : Expiry) → same_expiry x x ≡ true
+expiry_own : (x : Option ℕ) → same_expiry x x ≡ true
 unfolding same_expiry
-expiry_own Never = refl
-expiry_own (At t) = eq-eqb t t refl
+expiry_own None = refl
+expiry_own (Some t) = eq-eqb t t refl
 
 -- two entries of one name that agree are the same, and an entry agrees with itself
 pub agree_same : (e other : Entry) → SameName e other → agree e other ≡ true → e ≡ other
@@ -63,44 +61,44 @@ agree_own e = rw (same_refl e.value, eq-eqb e.version e.version refl, expiry_own
 
 -- ---- the live entry of a name
 
-pub entry_here_lem : (ss : List Slot) (j : ℕ) (g : Entry) → get_or ss j none ≡ some g → entry_at ss j ≡ g
+pub entry_here_lem : (ss : List Slot) (j : ℕ) (g : Entry) → get_or ss j None ≡ Some g → entry_at ss j ≡ g
 unfolding entry_at or_else
 entry_here_lem ss j g h = rw h
 
 module _ (instant : ℕ) (e : Entry) (ss : List Slot) where
   -- a slot of it: an entry stands there, live, with that name
-  live_entry : (s : Slot) → live_of instant e.key e.field s ≡ true → (g : Entry) × (s ≡ some g) × (live instant g ≡ true) × SameName e g
+  live_entry : (s : Slot) → live_of instant e.key e.field s ≡ true → (g : Entry) × (s ≡ Some g) × (live instant g ≡ true) × SameName e g
   unfolding live_slot or_else
-  live_entry none h = both_ways (live_lives instant e.key e.field none h) refl
-  live_entry (some g) h =
-      let n : Named e.key e.field g = holds_named e.key e.field g (live_holds instant e.key e.field (some g) h) in
-      (g, refl, live_lives instant e.key e.field (some g) h, record { key = sym n.key; field = sym n.field })
+  live_entry None h = both_ways (live_lives instant e.key e.field None h) refl
+  live_entry (Some g) h =
+      let n : Named e.key e.field g = holds_named e.key e.field g (live_holds instant e.key e.field (Some g) h) in
+      (g, refl, live_lives instant e.key e.field (Some g) h, record { key = sym n.key; field = sym n.field })
 
   -- what the search gives
-  pub search_some : (j : ℕ) → live_slot_of instant e.key e.field ss ≡ some j → (g : Entry) × LiveAt instant ss j g × SameName e g × (entry_at ss j ≡ g)
+  pub search_some : (j : ℕ) → live_slot_of instant e.key e.field ss ≡ Some j → (g : Entry) × LiveAt instant ss j g × SameName e g × (entry_at ss j ≡ g)
   search_some j h =
-      let q = live_entry (get_or ss j none) (live_here instant e.key e.field ss j h) in
+      let q = live_entry (get_or ss j None) (live_here instant e.key e.field ss j h) in
       (q.0, record { here = q.1; live = q.2 }, q.3, entry_here_lem ss j q.0 q.1)
 
-  named_live : (g : Entry) → SameName e g → live instant g ≡ true → live_of instant e.key e.field (some g) ≡ true
+  named_live : (g : Entry) → SameName e g → live instant g ≡ true → live_of instant e.key e.field (Some g) ≡ true
   unfolding live_slot or_else
-  named_live g n l = live_both instant e.key e.field (some g) (rw (n.key, n.field) (holds_own g)) l
+  named_live g n l = live_both instant e.key e.field (Some g) (rw (n.key, n.field) (holds_own g)) l
 
-  pub search_none : live_slot_of instant e.key e.field ss ≡ none → Missing instant ss e
+  pub search_none : live_slot_of instant e.key e.field ss ≡ None → Missing instant ss e
   search_none h g i n =
       both_ways (rw i.at.here (named_live g n i.at.live)) (live_nowhere instant e.key e.field ss h i.slot)
 
-  pub missing_none : Missing instant ss e → live_slot_of instant e.key e.field ss ≡ none
+  pub missing_none : Missing instant ss e → live_slot_of instant e.key e.field ss ≡ None
   missing_none m = go (live_slot_of instant e.key e.field ss) refl
     where
-      go : (o : Option ℕ) → live_slot_of instant e.key e.field ss ≡ o → o ≡ none
-      go none q = refl
-      go (some j) q =
+      go : (o : Option ℕ) → live_slot_of instant e.key e.field ss ≡ o → o ≡ None
+      go None q = refl
+      go (Some j) q =
           let g = search_some j q in
           absurd (m g.0 (record { slot = j; at = g.1 }) g.2)
 
   -- where no two slots have one name, a live entry of the name is what the search gives
-  pub search_only : Apart ss → (g : Entry) (i : LiveIn instant ss g) → SameName e g → live_slot_of instant e.key e.field ss ≡ some i.slot
+  pub search_only : Apart ss → (g : Entry) (i : LiveIn instant ss g) → SameName e g → live_slot_of instant e.key e.field ss ≡ Some i.slot
   search_only a g i n = live_only instant e.key e.field ss i.slot a (rw i.at.here (named_live g n i.at.live))
 
 -- two live entries of one name are one
@@ -109,7 +107,7 @@ live_once instant ss a d e x y n =
     let p = search_only instant d ss a d x (record { key = refl; field = refl }) in
     let q = search_only instant d ss a e y n in
     let z : x.slot ≡ y.slot = cc in
-    let w : some d ≡ some e = sym x.at.here ∙ rw z y.at.here in
+    let w : Some d ≡ Some e = sym x.at.here ∙ rw z y.at.here in
     cc
 
 -- ---- the lines of slots numbered from a number on
@@ -119,24 +117,24 @@ pub record Lists (instant : ℕ) (mark : Entry → Option ℕ) (from : ℕ) (ss 
   pub place : ℕ
   pub number : l.slot ≡ from + place
   pub at : LiveAt instant ss place l.entry
-  pub marked : mark l.entry ≡ some l.mark
+  pub marked : mark l.entry ≡ Some l.mark
 
 module _ (instant : ℕ) (mark : Entry → Option ℕ) where
   -- the line of one slot
-  one_lists : (i : ℕ) (s : Slot) (l : Line) → Memᴰ l (line_of instant mark i s) → (l.slot ≡ i) × (s ≡ some l.entry) × (live instant l.entry ≡ true) × (mark l.entry ≡ some l.mark)
+  one_lists : (i : ℕ) (s : Slot) (l : Line) → Memᴰ l (line_of instant mark i s) → (l.slot ≡ i) × (s ≡ Some l.entry) × (live instant l.entry ≡ true) × (mark l.entry ≡ Some l.mark)
   unfolding line_of or_else
-  one_lists i none l m = absurd (Memᴰ.not-nil m)
-  one_lists i (some e) l m = go (live instant e) (mark e) refl refl m
+  one_lists i None l m = absurd (Memᴰ.not-nil m)
+  one_lists i (Some e) l m = go (live instant e) (mark e) refl refl m
     where
       go : (t : Bool) (o : Option ℕ) → live instant e ≡ t → mark e ≡ o → Memᴰ l (cond t (or_else o [] (λ n. record { mark = n; entry = e; slot = i } ∷ [])) [])
-          → (l.slot ≡ i) × (some e ≡ some l.entry) × (live instant l.entry ≡ true) × (mark l.entry ≡ some l.mark)
-      go true none p q d = absurd (Memᴰ.not-nil d)
-      go true (some n) p q d =
+          → (l.slot ≡ i) × (Some e ≡ Some l.entry) × (live instant l.entry ≡ true) × (mark l.entry ≡ Some l.mark)
+      go true None p q d = absurd (Memᴰ.not-nil d)
+      go true (Some n) p q d =
           let z : l ≡ record { mark = n; entry = e; slot = i } = Memᴰ.eq_of_singleton d in
           (rw z refl, rw z refl, rw z p, rw z q)
       go false o p q d = absurd (Memᴰ.not-nil d)
 
-  lists_one : (i : ℕ) (e : Entry) (m : ℕ) → live instant e ≡ true → mark e ≡ some m → Memᴰ (line m e i) (line_of instant mark i (some e))
+  lists_one : (i : ℕ) (e : Entry) (m : ℕ) → live instant e ≡ true → mark e ≡ Some m → Memᴰ (line m e i) (line_of instant mark i (Some e))
   unfolding line_of or_else
   lists_one i e m l h = rw (l, h) (Memᴰ.head refl)
 
@@ -154,9 +152,9 @@ module _ (instant : ℕ) (mark : Entry → Option ℕ) where
           let q = r d in
           record { place = suc q.place; number = omega (arith, q.number); at = record { here = q.at.here; live = q.at.live }; marked = q.marked }
 
-  pub lists_listed : (from : ℕ) (ss : List Slot) (j : ℕ) (e : Entry) (m : ℕ) → LiveAt instant ss j e → mark e ≡ some m → Memᴰ (line m e (from + j)) (lines_from instant mark from ss)
+  pub lists_listed : (from : ℕ) (ss : List Slot) (j : ℕ) (e : Entry) (m : ℕ) → LiveAt instant ss j e → mark e ≡ Some m → Memᴰ (line m e (from + j)) (lines_from instant mark from ss)
   unfolding lines_from
-  lists_listed from [] j e m a h = let z : none ≡ some e = a.here in impossible cc
+  lists_listed from [] j e m a h = let z : None ≡ Some e = a.here in impossible cc
   lists_listed from (s ∷ ss) zero e m a h =
       let n : from + 0 ≡ from = omega arith in
       rw n (Memᴰ.append_left {s = line_of instant mark from s} (lines_from instant mark (suc from) ss) (rw a.here (lists_one from e m a.live h)))
@@ -169,9 +167,9 @@ module _ (instant : ℕ) (mark : Entry → Option ℕ) where
 module _ (instant : ℕ) (e : Entry) (other : List Slot) where
   -- the first store's entry by what the second has
   pub data FirstMarked : Option ℕ → Type 0 where
-    alone : Missing instant other e → FirstMarked (some only_first)
-    changed : Changed instant other e → FirstMarked (some different)
-    alike : LiveIn instant other e → FirstMarked none
+    alone : Missing instant other e → FirstMarked (Some only_first)
+    changed : Changed instant other e → FirstMarked (Some different)
+    alike : LiveIn instant other e → FirstMarked None
 
   pub first_marked : FirstMarked (first_mark instant other e)
   unfolding first_mark or_else only_if
@@ -181,33 +179,33 @@ module _ (instant : ℕ) (e : Entry) (other : List Slot) where
       pick j g a n true q = alike (record { slot = j; at = rw (agree_same e g n q) a })
       pick j g a n false q = changed (record { other = g; live = record { slot = j; at = a }; named = n; changed = λ z. both_ways (rw z (agree_own g)) q })
 
-      go : (o : Option ℕ) → live_slot_of instant e.key e.field other ≡ o → FirstMarked (or_else o (some only_first) (λ j. only_if (not (agree e (entry_at other j))) different))
-      go none q = alone (search_none instant e other q)
-      go (some j) q =
+      go : (o : Option ℕ) → live_slot_of instant e.key e.field other ≡ o → FirstMarked (or_else o (Some only_first) (λ j. only_if (not (agree e (entry_at other j))) different))
+      go None q = alone (search_none instant e other q)
+      go (Some j) q =
           let g = search_some instant e other j q in
           rw g.3 (pick j g.0 g.1 g.2 (agree e g.0) refl)
 
   -- the second's by what the first has
   pub data SecondMarked : Option ℕ → Type 0 where
-    unmatched : Missing instant other e → SecondMarked (some only_second)
-    matched : (g : Entry) → LiveIn instant other g → SameName e g → SecondMarked none
+    unmatched : Missing instant other e → SecondMarked (Some only_second)
+    matched : (g : Entry) → LiveIn instant other g → SameName e g → SecondMarked None
 
   pub second_marked : SecondMarked (second_mark instant other e)
   unfolding second_mark or_else
   second_marked = go (live_slot_of instant e.key e.field other) refl
     where
-      go : (o : Option ℕ) → live_slot_of instant e.key e.field other ≡ o → SecondMarked (or_else o (some only_second) (λ j. none))
-      go none q = unmatched (search_none instant e other q)
-      go (some j) q =
+      go : (o : Option ℕ) → live_slot_of instant e.key e.field other ≡ o → SecondMarked (or_else o (Some only_second) (λ j. None))
+      go None q = unmatched (search_none instant e other q)
+      go (Some j) q =
           let g = search_some instant e other j q in
           matched g.0 (record { slot = j; at = g.1 }) g.2
 
   -- and back
-  pub missing_first : Missing instant other e → first_mark instant other e ≡ some only_first
+  pub missing_first : Missing instant other e → first_mark instant other e ≡ Some only_first
   unfolding first_mark or_else
   missing_first m = rw (missing_none instant e other m)
 
-  pub missing_second : Missing instant other e → second_mark instant other e ≡ some only_second
+  pub missing_second : Missing instant other e → second_mark instant other e ≡ Some only_second
   unfolding second_mark or_else
   missing_second m = rw (missing_none instant e other m)
 
@@ -216,10 +214,10 @@ module _ (instant : ℕ) (e : Entry) (other : List Slot) where
     unfolding first_mark or_else
     found g i n = rw (search_only instant e other a g i n, entry_here_lem other i.slot g i.at.here)
 
-    pub changed_first : Changed instant other e → first_mark instant other e ≡ some different
+    pub changed_first : Changed instant other e → first_mark instant other e ≡ Some different
     unfolding only_if
     changed_first c = found c.other c.live c.named ∙ go (agree e c.other) refl
       where
-        go : (t : Bool) → agree e c.other ≡ t → only_if (not t) different ≡ some different
+        go : (t : Bool) → agree e c.other ≡ t → only_if (not t) different ≡ Some different
         go true q = absurd (c.changed (agree_same e c.other c.named q))
         go false q = refl

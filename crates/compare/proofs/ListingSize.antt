@@ -1,7 +1,7 @@
 -- The listing of two valid stores is no longer than 12,000 bytes.
+use Rattle.std.specs.Prelude.{Option, None, Some}
 use mathlib.Core.Bool.{Bool, true, false, cond}
 use mathlib.Core.List.{List, [], ◌∷◌, flatten}
-use mathlib.Core.Option.{Option, none, some}
 use Prim.Native.Nat.{ℕ, suc, ◌+◌, ◌*◌, ◌^◌, ◌≤◌, ◌<◌}
 use native.Mathlib.Nat.{mul-suc}
 use native.Mathlib.Omega.{arith}
@@ -34,12 +34,12 @@ length_line l f s =
 module _ (instant : ℕ) (mark : Entry → Option ℕ) where
   length_slot : (i : ℕ) (s : Slot) → FitsSlot s → i < 1000 → length (listing_of (line_of instant mark i s)) ≤ 12
   unfolding line_of listing_of flatten or_else
-  length_slot i none f l = omega arith
-  length_slot i (some e) f l = go (live instant e) (mark e)
+  length_slot i None f l = omega arith
+  length_slot i (Some e) f l = go (live instant e) (mark e)
     where
       go : (t : Bool) (o : Option ℕ) → length (listing_of (cond t (or_else o [] (λ m. record { mark = m; entry = e; slot = i } ∷ [])) [])) ≤ 12
-      go true none = omega arith
-      go true (some m) = simp length-append (omega (arith, length_line (record { mark = m; entry = e; slot = i }) f l))
+      go true None = omega arith
+      go true (Some m) = simp length-append (omega (arith, length_line (record { mark = m; entry = e; slot = i }) f l))
       go false o = omega arith
 
   length_slots : (i : ℕ) (ss : List Slot) → AllFit ss → i + length ss ≤ 1000 → length (listing_of (lines_from instant mark i ss)) ≤ 12 * length ss

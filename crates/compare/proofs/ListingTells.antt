@@ -1,10 +1,10 @@
 -- What a listing tells of two stores: each line, the empty listing, and the keys and fields marked `~`.
+use Rattle.std.specs.Prelude.{Option, None, Some}
 use mathlib.Core.Path.{◌≡◌, refl, sym, ◌∙◌}
 use mathlib.Core.Logic.{◌⊎◌, inl, inr, ◌↔◌}
 use mathlib.Core.Bool.{Bool, true, false, cond, not}
 use mathlib.Core.List.Memᴰ
 use mathlib.Core.List.{List, [], ◌∷◌, ◌++◌, flatten, Memᴰ}
-use mathlib.Core.Option.{Option, none, some}
 use Prim.Native.Nat.{ℕ, suc, ◌+◌}
 use native.Mathlib.Omega.{arith}
 use lib.Dec.{ltb, eqb}
@@ -26,13 +26,13 @@ use Rattle.compare.proofs.ListedLines.SecondMarked.{unmatched, matched}
 
 -- ---- what a mark says
 
-first_says : (instant : ℕ) (e : Entry) (other : List Slot) {o : Option ℕ} (m : ℕ) → FirstMarked instant e other o → o ≡ some m
+first_says : (instant : ℕ) (e : Entry) (other : List Slot) {o : Option ℕ} (m : ℕ) → FirstMarked instant e other o → o ≡ Some m
     → ((m ≡ only_first) × Missing instant other e) ⊎ ((m ≡ different) × Changed instant other e)
 first_says instant e other m (alone x) h = inl (cc, x)
 first_says instant e other m (changed x) h = inr (cc, x)
 first_says instant e other m (alike x) h = impossible cc
 
-second_says : (instant : ℕ) (e : Entry) (other : List Slot) {o : Option ℕ} (m : ℕ) → SecondMarked instant e other o → o ≡ some m
+second_says : (instant : ℕ) (e : Entry) (other : List Slot) {o : Option ℕ} (m : ℕ) → SecondMarked instant e other o → o ≡ Some m
     → (m ≡ only_second) × Missing instant other e
 second_says instant e other m (unmatched x) h = (cc, x)
 second_says instant e other m (matched g i n) h = impossible cc
@@ -77,12 +77,12 @@ module _ (instant : ℕ) (first second : List Slot) where
       go (inr q) = inr (inl q.1)
 
   -- and back
-  from_zero : (mark : Entry → Option ℕ) (ss : List Slot) (i : ℕ) (e : Entry) (m : ℕ) → LiveAt instant ss i e → mark e ≡ some m → Memᴰ (line m e i) (lines_from instant mark 0 ss)
+  from_zero : (mark : Entry → Option ℕ) (ss : List Slot) (i : ℕ) (e : Entry) (m : ℕ) → LiveAt instant ss i e → mark e ≡ Some m → Memᴰ (line m e i) (lines_from instant mark 0 ss)
   from_zero mark ss i e m a h =
       let n : 0 + i ≡ i = omega arith in
       rw n at (lists_listed instant mark 0 ss i e m a h)
 
-  in_first : (i : ℕ) (e : Entry) (m : ℕ) → LiveAt instant first i e → first_mark instant second e ≡ some m → Memᴰ (line m e i) (lines instant first second)
+  in_first : (i : ℕ) (e : Entry) (m : ℕ) → LiveAt instant first i e → first_mark instant second e ≡ Some m → Memᴰ (line m e i) (lines instant first second)
   unfolding lines
   in_first i e m a h =
       Memᴰ.append_left {s = lines_from instant (first_mark instant second) 0 first} (lines_from instant (second_mark instant first) 0 second) (from_zero (first_mark instant second) first i e m a h)
@@ -212,13 +212,13 @@ module _ (instant : ℕ) (mark : Entry → Option ℕ) where
   ascend : (i : ℕ) (ss : List Slot) → ascending (lines_from instant mark i ss) ≡ true
   unfolding lines_from line_of ascending or_else
   ascend i [] = refl
-  ascend i (none ∷ ss) = ascend (suc i) ss
-  ascend i (some e ∷ ss) = go (live instant e) (mark e) (ascend (suc i) ss)
+  ascend i (None ∷ ss) = ascend (suc i) ss
+  ascend i (Some e ∷ ss) = go (live instant e) (mark e) (ascend (suc i) ss)
     where
       go : (t : Bool) (o : Option ℕ) → ascending (lines_from instant mark (suc i) ss) ≡ true
           → ascending (cond t (or_else o [] (λ m. line m e i ∷ [])) [] ++ lines_from instant mark (suc i) ss) ≡ true
-      go true none h = h
-      go true (some m) h = and_both (above i ss) h
+      go true None h = h
+      go true (Some m) h = and_both (above i ss) h
       go false o h = h
 
 pub ordered : (instant : ℕ) (first second : List Slot) → InOrder (lines instant first second)

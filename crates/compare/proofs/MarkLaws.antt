@@ -1,15 +1,13 @@
 -- Marks and the newer of two slots, as the code finds them.
+use Rattle.std.specs.Prelude.{Option, None, Some, unwrap_or}
 use mathlib.Core.Path.{◌≡◌, refl, sym, ◌∙◌}
 use mathlib.Core.Bool.{Bool, true, false, cond, not, ◌&&◌}
 use mathlib.Core.List.{List}
-use mathlib.Core.Option.{Option, none, some, get_or}
 use Prim.Native.Nat.{ℕ}
 use borrow.Author.Tests.{eq-eqb, ne_eqb}
 use Rattle.wire.specs.Lists.{every, only_if, or_else}
 use Rattle.wire.specs.Bytes.{same}
-use Rattle.store.specs.declared.Found.{Found}
 use Rattle.store.specs.Store.{Entry, Slot, decode, well_formed, entry_at}
-use Rattle.store.specs.Promises.{found_for}
 use Rattle.store.proofs.Finding.{named_held}
 use Rattle.compare.specs.declared.Pass.TheVariants as passes
 use Rattle.compare.specs.Listing.{live_of, live_slot_of, same_expiry, agree, only_first, only_second, different, first_mark, second_mark}
@@ -40,28 +38,28 @@ module _ (e other : Entry) where
 -- ---- a slot that was found
 
 -- a slot in which a name is live holds an entry
-pub live_held : (b k f : List ℕ) (instant : ℕ) {found : Found} → well_formed b ≡ true → found ≡ found_for (live_slot_of instant k f (decode b).slots) → HeldIn b found
+pub live_held : (b k f : List ℕ) (instant : ℕ) {found : Option ℕ} → well_formed b ≡ true → found ≡ (live_slot_of instant k f (decode b).slots) → HeldIn b found
 unfolding live_slot_of
 live_held b k f instant w h i e = named_held (live_of instant k f) b i (live_empty instant k f) w (sym e ∙ h)
 
 -- ---- marks
 
 module _ (instant : ℕ) (e : Entry) (other : List Slot) where
-  first_mark_lem : (o : Option ℕ) → first_mark_for e other (found_for o) ≡ get_or (or_else o (some only_first) (λ j. only_if (not (agree e (entry_at other j))) different)) no_mark
-  unfolding first_mark_for found_for or_else only_if
-  first_mark_lem none = refl
-  first_mark_lem (some j) = go (agree e (entry_at other j))
+  first_mark_lem : (o : Option ℕ) → first_mark_for e other (o) ≡ unwrap_or (or_else o (Some only_first) (λ j. only_if (not (agree e (entry_at other j))) different)) no_mark
+  unfolding first_mark_for or_else only_if
+  first_mark_lem None = refl
+  first_mark_lem (Some j) = go (agree e (entry_at other j))
     where
-      go : (t : Bool) → cond t no_mark different ≡ get_or (only_if (not t) different) no_mark
+      go : (t : Bool) → cond t no_mark different ≡ unwrap_or (only_if (not t) different) no_mark
       go true = refl
       go false = refl
 
-  second_mark_lem : (o : Option ℕ) → second_mark_for (found_for o) ≡ get_or (or_else o (some only_second) (λ j. none)) no_mark
-  unfolding second_mark_for found_for or_else
-  second_mark_lem none = refl
-  second_mark_lem (some j) = refl
+  second_mark_lem : (o : Option ℕ) → second_mark_for (o) ≡ unwrap_or (or_else o (Some only_second) (λ j. None)) no_mark
+  unfolding second_mark_for or_else
+  second_mark_lem None = refl
+  second_mark_lem (Some j) = refl
 
-  module _ {found : Found} {r : ℕ} (h : found ≡ found_for (live_slot_of instant e.key e.field other)) where
+  module _ {found : Option ℕ} {r : ℕ} (h : found ≡ (live_slot_of instant e.key e.field other)) where
     pub mark_first : r ≡ first_mark_for e other found → r ≡ mark_for passes.First instant other e
     unfolding mark_for pass_mark first_mark
     mark_first q = q ∙ rw h (first_mark_lem (live_slot_of instant e.key e.field other))

@@ -1,18 +1,16 @@
 -- The newer value: which store has it, and where.
+use Rattle.std.specs.Prelude.{Option, None, Some}
 use mathlib.Core.Path.{◌≡◌, refl, sym, ◌∙◌}
 use mathlib.Core.Bool.{Bool, true, false, cond}
 use mathlib.Core.List.{List}
-use mathlib.Core.Option.{Option, none, some}
 use Prim.Native.Nat.{ℕ, ◌≤◌, ◌<◌}
 use lib.Dec.{leb}
 use borrow.Author.Tests.{leb-true, leb-false}
 use Rattle.wire.specs.Lists.{or_else}
 use Rattle.wire.specs.Checks.{first_applying}
 use Rattle.wire.proofs.Lists.{impossible}
-use Rattle.store.specs.declared.Found.{Found}
-use Rattle.store.specs.declared.Found.TheVariants as founds
 use Rattle.store.specs.Store.{Slot, decode, entry_at}
-use Rattle.store.specs.Promises.{Held, found_for}
+use Rattle.store.specs.Promises.{Held}
 use Rattle.store.proofs.ReadAt.{value_part}
 use Rattle.compare.specs.declared.Which.{Which}
 use Rattle.compare.specs.declared.Which.TheVariants.{First, Second, Neither, Refused}
@@ -25,18 +23,18 @@ use Rattle.compare.proofs.CallChecks.{Passed, passed}
 
 -- ---- what the code finds
 
-slot_found : (o : Option ℕ) → slot_in (found_for o) ≡ o
-unfolding slot_in found_for
-slot_found none = refl
-slot_found (some i) = refl
+slot_found : (o : Option ℕ) → slot_in (o) ≡ o
+unfolding slot_in
+slot_found None = refl
+slot_found (Some i) = refl
 
 module _ (first second k f : List ℕ) (instant : ℕ) where
-  pub newer_refused : {n : ℕ} → first_applying (checks first second instant) ≡ some n → Refused n ≡ newer_in first second k f instant
+  pub newer_refused : {n : ℕ} → first_applying (checks first second instant) ≡ Some n → Refused n ≡ newer_in first second k f instant
   unfolding newer_in or_else
   newer_refused h = rw h
 
-  pub newer_found : {left right : Found} {r : Which} → Passed first second instant
-      → left ≡ found_for (live_slot_of instant k f (decode first).slots) → right ≡ found_for (live_slot_of instant k f (decode second).slots)
+  pub newer_found : {left right : Option ℕ} {r : Which} → Passed first second instant
+      → left ≡ (live_slot_of instant k f (decode first).slots) → right ≡ (live_slot_of instant k f (decode second).slots)
       → r ≡ newer_for (decode first).slots (decode second).slots left right → r ≡ newer_in first second k f instant
   unfolding newer_in or_else newer_slot newer_for
   newer_found p l m h =
@@ -46,25 +44,25 @@ module _ (first second k f : List ℕ) (instant : ℕ) where
 
 -- by the slots in which a name is live: which of them is named, and why
 pub data Chosen (a b : List Slot) (o p : Option ℕ) : Which → Type 0 where
-  in_first : (i : ℕ) → o ≡ some i → ((j : ℕ) → p ≡ some j → (entry_at b j).version ≤ (entry_at a i).version) → Chosen a b o p (First i)
-  in_second : (j : ℕ) → p ≡ some j → ((i : ℕ) → o ≡ some i → (entry_at a i).version < (entry_at b j).version) → Chosen a b o p (Second j)
-  in_neither : o ≡ none → p ≡ none → Chosen a b o p Neither
+  in_first : (i : ℕ) → o ≡ Some i → ((j : ℕ) → p ≡ Some j → (entry_at b j).version ≤ (entry_at a i).version) → Chosen a b o p (First i)
+  in_second : (j : ℕ) → p ≡ Some j → ((i : ℕ) → o ≡ Some i → (entry_at a i).version < (entry_at b j).version) → Chosen a b o p (Second j)
+  in_neither : o ≡ None → p ≡ None → Chosen a b o p Neither
 
 chosen : (a b : List Slot) (o p : Option ℕ) → Chosen a b o p (newer_of a b o p)
 unfolding newer_of
-chosen a b none none = Chosen.in_neither refl refl
-chosen a b none (some n) = Chosen.in_second n refl (λ i e. impossible cc)
-chosen a b (some m) none = Chosen.in_first m refl (λ j e. impossible cc)
-chosen a b (some m) (some n) = go (leb (entry_at b n).version (entry_at a m).version) refl
+chosen a b None None = Chosen.in_neither refl refl
+chosen a b None (Some n) = Chosen.in_second n refl (λ i e. impossible cc)
+chosen a b (Some m) None = Chosen.in_first m refl (λ j e. impossible cc)
+chosen a b (Some m) (Some n) = go (leb (entry_at b n).version (entry_at a m).version) refl
   where
-    go : (t : Bool) → leb (entry_at b n).version (entry_at a m).version ≡ t → Chosen a b (some m) (some n) (cond t (First m) (Second n))
+    go : (t : Bool) → leb (entry_at b n).version (entry_at a m).version ≡ t → Chosen a b (Some m) (Some n) (cond t (First m) (Second n))
     go true q = Chosen.in_first m refl (λ j e. let z : n ≡ j = cc in rw (← z) (leb-true (entry_at b n).version (entry_at a m).version q))
     go false q = Chosen.in_second n refl (λ i e. let z : m ≡ i = cc in rw (← z) (leb-false (entry_at b n).version (entry_at a m).version q))
 
 module _ (first second k f : List ℕ) (instant : ℕ) where
   -- the call is refused, or one is named
   pub data Answered : Which → Type 0 where
-    stopped : {m : ℕ} → first_applying (checks first second instant) ≡ some m → Answered (Refused m)
+    stopped : {m : ℕ} → first_applying (checks first second instant) ≡ Some m → Answered (Refused m)
     named :
         {w : Which} → Passed first second instant
         → Chosen (decode first).slots (decode second).slots (live_slot_of instant k f (decode first).slots) (live_slot_of instant k f (decode second).slots) w → Answered w
@@ -75,23 +73,21 @@ module _ (first second k f : List ℕ) (instant : ℕ) where
     where
       go : (o : Option ℕ) → first_applying (checks first second instant) ≡ o
           → Answered (or_else o (newer_of (decode first).slots (decode second).slots (live_slot_of instant k f (decode first).slots) (live_slot_of instant k f (decode second).slots)) Refused)
-      go none e = Answered.named (passed first second instant e) (chosen (decode first).slots (decode second).slots (live_slot_of instant k f (decode first).slots) (live_slot_of instant k f (decode second).slots))
-      go (some n) e = Answered.stopped e
+      go None e = Answered.named (passed first second instant e) (chosen (decode first).slots (decode second).slots (live_slot_of instant k f (decode first).slots) (live_slot_of instant k f (decode second).slots))
+      go (Some n) e = Answered.stopped e
 
   pub first_held : (i : ℕ) → newer_in first second k f instant ≡ First i → Held first i
-  unfolding found_for
   first_held i = go answered
     where
       go : {w : Which} → Answered w → w ≡ First i → Held first i
       go (Answered.stopped r) h = impossible cc
       go (Answered.named p (Chosen.in_first m e l)) h =
           let z : m ≡ i = cc in
-          live_held first k f instant {found = founds.At i} p.well (rw (e, z)) i refl
+          live_held first k f instant {found = Some i} p.well (rw (e, z)) i refl
       go (Answered.named p (Chosen.in_second j e l)) h = impossible cc
       go (Answered.named p (Chosen.in_neither e l)) h = impossible cc
 
   pub second_held : (j : ℕ) → newer_in first second k f instant ≡ Second j → Held second j
-  unfolding found_for
   second_held j = go answered
     where
       go : {w : Which} → Answered w → w ≡ Second j → Held second j
@@ -99,7 +95,7 @@ module _ (first second k f : List ℕ) (instant : ℕ) where
       go (Answered.named p (Chosen.in_first i e l)) h = impossible cc
       go (Answered.named p (Chosen.in_second m e l)) h =
           let z : m ≡ j = cc in
-          live_held second k f instant {found = founds.At j} p.also_well (rw (e, z)) j refl
+          live_held second k f instant {found = Some j} p.also_well (rw (e, z)) j refl
       go (Answered.named p (Chosen.in_neither e l)) h = impossible cc
 
   -- ---- the part that is shown

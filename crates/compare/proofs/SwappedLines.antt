@@ -1,8 +1,8 @@
 -- The stores swapped: the `<` lines become the `>` lines.
+use Rattle.std.specs.Prelude.{Option, None, Some}
 use mathlib.Core.Path.{◌≡◌, refl, ap, ◌∙◌}
 use mathlib.Core.Bool.{Bool, true, false, cond, not}
 use mathlib.Core.List.{List, [], ◌∷◌, ◌++◌, map, map-append, append-nil}
-use mathlib.Core.Option.{Option, none, some}
 use Prim.Native.Nat.{ℕ, suc}
 use Rattle.wire.specs.Lists.{keep, only_if, or_else}
 use Rattle.store.specs.Store.{Entry, Slot, entry_at}
@@ -33,10 +33,10 @@ module _ (instant : ℕ) (other : List Slot) (e : Entry) where
       agreed true = refl
       agreed false = refl
 
-      go : (o : Option ℕ) → map (remarked only_second) (keep (has_mark only_first) (or_else (or_else o (some only_first) (λ j. only_if (not (agree e (entry_at other j))) different)) [] (λ m. line m e i ∷ [])))
-          ≡ keep (has_mark only_second) (or_else (or_else {B = Option ℕ} o (some only_second) (λ j. none)) [] (λ m. line m e i ∷ []))
-      go none = refl
-      go (some j) = agreed (agree e (entry_at other j))
+      go : (o : Option ℕ) → map (remarked only_second) (keep (has_mark only_first) (or_else (or_else o (Some only_first) (λ j. only_if (not (agree e (entry_at other j))) different)) [] (λ m. line m e i ∷ [])))
+          ≡ keep (has_mark only_second) (or_else (or_else {B = Option ℕ} o (Some only_second) (λ j. None)) [] (λ m. line m e i ∷ []))
+      go None = refl
+      go (Some j) = agreed (agree e (entry_at other j))
 
   -- the first pass has no `>` line, the second no `<` line
   not_second : (i : ℕ) → keep (has_mark only_second) (or_else (first_mark instant other e) [] (λ m. line m e i ∷ [])) ≡ []
@@ -47,17 +47,17 @@ module _ (instant : ℕ) (other : List Slot) (e : Entry) where
       agreed true = refl
       agreed false = refl
 
-      go : (o : Option ℕ) → keep (has_mark only_second) (or_else (or_else o (some only_first) (λ j. only_if (not (agree e (entry_at other j))) different)) [] (λ m. line m e i ∷ [])) ≡ []
-      go none = refl
-      go (some j) = agreed (agree e (entry_at other j))
+      go : (o : Option ℕ) → keep (has_mark only_second) (or_else (or_else o (Some only_first) (λ j. only_if (not (agree e (entry_at other j))) different)) [] (λ m. line m e i ∷ [])) ≡ []
+      go None = refl
+      go (Some j) = agreed (agree e (entry_at other j))
 
   not_first : (i : ℕ) → keep (has_mark only_first) (or_else (second_mark instant other e) [] (λ m. line m e i ∷ [])) ≡ []
   unfolding second_mark or_else keep has_mark
   not_first i = go (live_slot_of instant e.key e.field other)
     where
-      go : (o : Option ℕ) → keep (has_mark only_first) (or_else (or_else {B = Option ℕ} o (some only_second) (λ j. none)) [] (λ m. line m e i ∷ [])) ≡ []
-      go none = refl
-      go (some j) = refl
+      go : (o : Option ℕ) → keep (has_mark only_first) (or_else (or_else {B = Option ℕ} o (Some only_second) (λ j. None)) [] (λ m. line m e i ∷ [])) ≡ []
+      go None = refl
+      go (Some j) = refl
 
 -- ---- all slots
 
@@ -65,8 +65,8 @@ module _ (instant : ℕ) (other : List Slot) where
   kept_slot : (i : ℕ) (s : Slot) → map (remarked only_second) (keep (has_mark only_first) (line_of instant (first_mark instant other) i s))
       ≡ keep (has_mark only_second) (line_of instant (second_mark instant other) i s)
   unfolding line_of keep
-  kept_slot i none = refl
-  kept_slot i (some e) = go (live instant e)
+  kept_slot i None = refl
+  kept_slot i (Some e) = go (live instant e)
     where
       go : (t : Bool) → map (remarked only_second) (keep (has_mark only_first) (cond t (or_else (first_mark instant other e) [] (λ m. line m e i ∷ [])) []))
           ≡ keep (has_mark only_second) (cond t (or_else (second_mark instant other e) [] (λ m. line m e i ∷ [])) [])
@@ -98,8 +98,8 @@ none_kept instant p mark h i (s ∷ ss) = keep_append p (line_of instant mark i 
     one e false = refl
 
     slot : (s : Slot) → keep p (line_of instant mark i s) ≡ []
-    slot none = refl
-    slot (some e) = one e (live instant e)
+    slot None = refl
+    slot (Some e) = one e (live instant e)
 
 pub swapped : (instant : ℕ) (first second : List Slot)
     → map (remarked only_second) (keep (has_mark only_first) (lines instant first second)) ≡ keep (has_mark only_second) (lines instant second first)

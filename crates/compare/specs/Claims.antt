@@ -1,7 +1,7 @@
 -- What the theorems about the two operations say, in words of their own: no search.
+use Rattle.std.specs.Prelude.{None, Some}
 use Rattle.std.specs.Prelude.{◌≡◌, ◌⊎◌, ◌↔◌, Bool, true, false, cond, not, ◌&&◌, ℕ, ◌+◌, ◌≤◌, ◌<◌, ltb, eqb, length, take, drop, get_or}
 use mathlib.Core.List.{List, [], ◌∷◌, ◌++◌, Memᴰ}
-use Rattle.std.proofs.Math.Option.{none, some}
 use Rattle.wire.specs.Lists.{all}
 use Rattle.wire.specs.Integers.{value, is_natural}
 use Rattle.store.specs.Layout.{time_limit}
@@ -12,7 +12,7 @@ use Rattle.compare.specs.Listing.{only_second, different, Line, lines}
 
 -- slot i holds an entry that is live at an instant
 pub record LiveAt (instant : ℕ) (ss : List Slot) (i : ℕ) (e : Entry) : Type 0 where
-  pub here : get_or ss i none ≡ some e
+  pub here : get_or ss i None ≡ Some e
   pub live : live instant e ≡ true
 
 -- some slot does

@@ -1,10 +1,8 @@
 -- The request's example and cases beside it, as rows of texts. proofs/Examples shows that the definitions give every row.
+use Rattle.std.specs.Prelude.{Option, None, Some}
 use Rattle.std.specs.Prelude.{List, [], ◌∷◌, ◌++◌, ℕ, take, replicate}
-use Rattle.std.proofs.Math.Option.{none, some}
 use Prim.Native.String.{String}
 use Rattle.wire.specs.Bytes.{text}
-use Rattle.store.specs.declared.Expiry.{Expiry}
-use Rattle.store.specs.declared.Expiry.TheVariants.{Never, At}
 use Rattle.store.specs.Store as stored
 use Rattle.store.specs.Store.{Slot, Store, encode}
 use Rattle.compare.specs.declared.Place.{Place}
@@ -12,8 +10,8 @@ use Rattle.compare.specs.Listing.{listing}
 use Rattle.compare.specs.Newer.{place_of, part_at}
 use Rattle.compare.specs.Calls.{Answer, compare, newer_in}
 
-abbrev pub entry : String → String → String → ℕ → Expiry → Slot
-entry k f v n x = some (stored.entry (text k) (text f) (text v) n x)
+abbrev pub entry : String → String → String → ℕ → Option ℕ → Slot
+entry k f v n x = Some (stored.entry (text k) (text f) (text v) n x)
 
 abbrev pub store_of : ℕ → List Slot → Store
 store_of clock ss = record { clock = clock; slots = ss }
@@ -41,41 +39,41 @@ unfoldable pub listing_rows : List ListingRow
 listing_rows =
     -- "For entries a=1 in the first and a=2, b=1 in the second, key m, all at version 1 with no expiry, both stores filled from slot 0"
     listing_row "the request's example" 0
-    (entry "m" "a" "1" 1 Never ∷ none ∷ [])
-    (entry "m" "a" "2" 1 Never ∷ entry "m" "b" "1" 1 Never ∷ [])
+    (entry "m" "a" "1" 1 None ∷ None ∷ [])
+    (entry "m" "a" "2" 1 None ∷ entry "m" "b" "1" 1 None ∷ [])
     "~ 1 1 0\n> 1 1 1\n"
     ∷ listing_row "the same, swapped" 0
-    (entry "m" "a" "2" 1 Never ∷ entry "m" "b" "1" 1 Never ∷ [])
-    (entry "m" "a" "1" 1 Never ∷ none ∷ [])
+    (entry "m" "a" "2" 1 None ∷ entry "m" "b" "1" 1 None ∷ [])
+    (entry "m" "a" "1" 1 None ∷ None ∷ [])
     "~ 1 1 0\n< 1 1 1\n"
     ∷ listing_row "alike, in other slots" 0
-    (entry "m" "a" "1" 1 Never ∷ entry "m" "b" "2" 3 (At 9) ∷ [])
-    (none ∷ entry "m" "b" "2" 3 (At 9) ∷ entry "m" "a" "1" 1 Never ∷ [])
+    (entry "m" "a" "1" 1 None ∷ entry "m" "b" "2" 3 (Some 9) ∷ [])
+    (None ∷ entry "m" "b" "2" 3 (Some 9) ∷ entry "m" "a" "1" 1 None ∷ [])
     ""
-    ∷ listing_row "another version alone" 0 (entry "m" "a" "1" 1 Never ∷ []) (entry "m" "a" "1" 2 Never ∷ []) "~ 1 1 0\n"
-    ∷ listing_row "another expiry alone" 0 (entry "m" "a" "1" 1 (At 7) ∷ []) (entry "m" "a" "1" 1 (At 8) ∷ []) "~ 1 1 0\n"
-    ∷ listing_row "no expiry, and some" 0 (entry "m" "a" "1" 1 Never ∷ []) (entry "m" "a" "1" 1 (At 8) ∷ []) "~ 1 1 0\n"
-    ∷ listing_row "an empty value" 0 (entry "m" "a" "" 1 Never ∷ []) (entry "m" "a" "1" 1 Never ∷ []) "~ 1 1 0\n"
-    ∷ listing_row "live until the instant before its expiry" 6 (entry "m" "a" "1" 1 (At 7) ∷ []) (none ∷ []) "< 1 1 0\n"
-    ∷ listing_row "dead in the first at the instant" 7 (entry "m" "a" "1" 1 (At 7) ∷ []) (entry "m" "a" "1" 1 (At 8) ∷ []) "> 1 1 0\n"
-    ∷ listing_row "dead in the second at the instant" 7 (entry "m" "a" "1" 1 Never ∷ []) (entry "m" "a" "1" 1 (At 7) ∷ []) "< 1 1 0\n"
-    ∷ listing_row "dead in both" 9 (entry "m" "a" "1" 1 (At 7) ∷ []) (entry "m" "a" "2" 1 (At 8) ∷ []) ""
+    ∷ listing_row "another version alone" 0 (entry "m" "a" "1" 1 None ∷ []) (entry "m" "a" "1" 2 None ∷ []) "~ 1 1 0\n"
+    ∷ listing_row "another expiry alone" 0 (entry "m" "a" "1" 1 (Some 7) ∷ []) (entry "m" "a" "1" 1 (Some 8) ∷ []) "~ 1 1 0\n"
+    ∷ listing_row "no expiry, and Some" 0 (entry "m" "a" "1" 1 None ∷ []) (entry "m" "a" "1" 1 (Some 8) ∷ []) "~ 1 1 0\n"
+    ∷ listing_row "an empty value" 0 (entry "m" "a" "" 1 None ∷ []) (entry "m" "a" "1" 1 None ∷ []) "~ 1 1 0\n"
+    ∷ listing_row "live until the instant before its expiry" 6 (entry "m" "a" "1" 1 (Some 7) ∷ []) (None ∷ []) "< 1 1 0\n"
+    ∷ listing_row "dead in the first at the instant" 7 (entry "m" "a" "1" 1 (Some 7) ∷ []) (entry "m" "a" "1" 1 (Some 8) ∷ []) "> 1 1 0\n"
+    ∷ listing_row "dead in the second at the instant" 7 (entry "m" "a" "1" 1 None ∷ []) (entry "m" "a" "1" 1 (Some 7) ∷ []) "< 1 1 0\n"
+    ∷ listing_row "dead in both" 9 (entry "m" "a" "1" 1 (Some 7) ∷ []) (entry "m" "a" "2" 1 (Some 8) ∷ []) ""
     ∷ listing_row "another key" 0
-    (entry "m" "a" "1" 1 Never ∷ entry "m" "b" "1" 1 Never ∷ [])
-    (entry "n" "a" "1" 1 Never ∷ entry "m" "b" "1" 1 Never ∷ [])
+    (entry "m" "a" "1" 1 None ∷ entry "m" "b" "1" 1 None ∷ [])
+    (entry "n" "a" "1" 1 None ∷ entry "m" "b" "1" 1 None ∷ [])
     "< 1 1 0\n> 1 1 0\n"
-    ∷ listing_row "another field" 0 (entry "m" "a" "1" 1 Never ∷ []) (entry "m" "b" "1" 1 Never ∷ []) "< 1 1 0\n> 1 1 0\n"
-    ∷ listing_row "key and field are told apart" 0 (entry "ab" "c" "1" 1 Never ∷ []) (entry "a" "bc" "1" 1 Never ∷ []) "< 2 1 0\n> 1 2 0\n"
+    ∷ listing_row "another field" 0 (entry "m" "a" "1" 1 None ∷ []) (entry "m" "b" "1" 1 None ∷ []) "< 1 1 0\n> 1 1 0\n"
+    ∷ listing_row "key and field are told apart" 0 (entry "ab" "c" "1" 1 None ∷ []) (entry "a" "bc" "1" 1 None ∷ []) "< 2 1 0\n> 1 2 0\n"
     ∷ listing_row "slots in order, the first store's before the second's" 0
-    (entry "m" "c" "1" 1 Never ∷ none ∷ entry "m" "a" "1" 1 Never ∷ entry "m" "b" "1" 1 Never ∷ [])
-    (entry "m" "e" "1" 1 Never ∷ entry "m" "a" "1" 2 Never ∷ none ∷ entry "m" "d" "1" 1 Never ∷ [])
+    (entry "m" "c" "1" 1 None ∷ None ∷ entry "m" "a" "1" 1 None ∷ entry "m" "b" "1" 1 None ∷ [])
+    (entry "m" "e" "1" 1 None ∷ entry "m" "a" "1" 2 None ∷ None ∷ entry "m" "d" "1" 1 None ∷ [])
     "< 1 1 0\n~ 1 1 2\n< 1 1 3\n> 1 1 0\n> 1 1 3\n"
-    ∷ listing_row "empty key and field" 0 (entry "" "" "1" 1 Never ∷ []) (none ∷ []) "< 0 0 0\n"
+    ∷ listing_row "empty key and field" 0 (entry "" "" "1" 1 None ∷ []) (None ∷ []) "< 0 0 0\n"
     ∷ listing_row "two digits" 0
-    (replicate 12 none ++ (entry "0123456789abcdef" "98200012345678901234567890123456" "1" 1 Never ∷ []))
-    (replicate 10 none ++ (entry "0123456789" "982000123456" "1" 1 Never ∷ []))
+    (replicate 12 None ++ (entry "0123456789abcdef" "98200012345678901234567890123456" "1" 1 None ∷ []))
+    (replicate 10 None ++ (entry "0123456789" "982000123456" "1" 1 None ∷ []))
     "< 16 32 12\n> 10 12 10\n"
-    ∷ listing_row "three digits" 0 (replicate 123 none ++ (entry "m" "a" "1" 1 Never ∷ [])) (none ∷ []) "< 1 1 123\n"
+    ∷ listing_row "three digits" 0 (replicate 123 None ++ (entry "m" "a" "1" 1 None ∷ [])) (None ∷ []) "< 1 1 123\n"
     ∷ []
 
 -- ---- the newer value
@@ -117,42 +115,42 @@ newer_expected r = record { place = r.place; shown = text r.shown }
 unfoldable pub newer_rows : List NewerRow
 newer_rows =
     newer_row "the request's example: the first store's on a tie" 0
-    (store_of 0 (entry "m" "a" "1" 1 Never ∷ []))
-    (store_of 0 (entry "m" "a" "2" 1 Never ∷ entry "m" "b" "1" 1 Never ∷ []))
+    (store_of 0 (entry "m" "a" "1" 1 None ∷ []))
+    (store_of 0 (entry "m" "a" "2" 1 None ∷ entry "m" "b" "1" 1 None ∷ []))
     "m" "a" (found 1 80 1) "1"
     ∷ newer_row "a tie in later slots" 0
-    (store_of 0 (none ∷ none ∷ none ∷ entry "m" "a" "12" 7 Never ∷ []))
-    (store_of 0 (none ∷ entry "m" "a" "34" 7 Never ∷ []))
+    (store_of 0 (None ∷ None ∷ None ∷ entry "m" "a" "12" 7 None ∷ []))
+    (store_of 0 (None ∷ entry "m" "a" "34" 7 None ∷ []))
     "m" "a" (found 1 464 2) "12"
     ∷ newer_row "higher in the second" 0
-    (store_of 0 (entry "m" "a" "1" 3 Never ∷ []))
-    (store_of 0 (none ∷ entry "m" "a" "22" 4 Never ∷ []))
+    (store_of 0 (entry "m" "a" "1" 3 None ∷ []))
+    (store_of 0 (None ∷ entry "m" "a" "22" 4 None ∷ []))
     "m" "a" (found 2 208 2) "22"
     ∷ newer_row "higher in the first" 0
-    (store_of 0 (entry "m" "a" "1" 256 Never ∷ []))
-    (store_of 0 (entry "m" "a" "2" 255 Never ∷ []))
+    (store_of 0 (entry "m" "a" "1" 256 None ∷ []))
+    (store_of 0 (entry "m" "a" "2" 255 None ∷ []))
     "m" "a" (found 1 80 1) "1"
     ∷ newer_row "dead in the second, though higher" 5
-    (store_of 0 (entry "m" "a" "1" 1 Never ∷ []))
-    (store_of 0 (entry "m" "a" "2" 9 (At 5) ∷ []))
+    (store_of 0 (entry "m" "a" "1" 1 None ∷ []))
+    (store_of 0 (entry "m" "a" "2" 9 (Some 5) ∷ []))
     "m" "a" (found 1 80 1) "1"
-    ∷ newer_row "only in the second" 0 (store_of 0 (none ∷ [])) (store_of 0 (entry "m" "b" "7" 0 Never ∷ [])) "m" "b" (found 2 80 1) "7"
+    ∷ newer_row "only in the second" 0 (store_of 0 (None ∷ [])) (store_of 0 (entry "m" "b" "7" 0 None ∷ [])) "m" "b" (found 2 80 1) "7"
     ∷ newer_row "an empty value of the second" 0
-    (store_of 0 (entry "m" "a" "1" 1 Never ∷ []))
-    (store_of 0 (entry "m" "a" "" 2 Never ∷ []))
+    (store_of 0 (entry "m" "a" "1" 1 None ∷ []))
+    (store_of 0 (entry "m" "a" "" 2 None ∷ []))
     "m" "a" (found 2 80 0) ""
-    ∷ newer_row "in neither" 0 (store_of 0 (entry "m" "a" "1" 1 Never ∷ [])) (store_of 0 (none ∷ [])) "m" "b" (found 0 0 0) ""
+    ∷ newer_row "in neither" 0 (store_of 0 (entry "m" "a" "1" 1 None ∷ [])) (store_of 0 (None ∷ [])) "m" "b" (found 0 0 0) ""
     ∷ newer_row "a key that begins with one that is held" 0
-    (store_of 0 (entry "0123456789abcdef" "a" "1" 1 Never ∷ []))
-    (store_of 0 (none ∷ []))
+    (store_of 0 (entry "0123456789abcdef" "a" "1" 1 None ∷ []))
+    (store_of 0 (None ∷ []))
     "0123456789abcdef0" "a" (found 0 0 0) ""
-    ∷ newer_row "the first damaged" 0 (store_of 0 []) (store_of 0 (entry "m" "a" "1" 1 Never ∷ [])) "m" "a" (refused_by 2) ""
-    ∷ newer_row "the second damaged, and the instant too early" 0 (store_of 1 (entry "m" "a" "1" 1 Never ∷ [])) (store_of 0 []) "m" "a" (refused_by 2) ""
-    ∷ newer_row "earlier than the first clock" 4 (store_of 5 (entry "m" "a" "1" 1 Never ∷ [])) (store_of 4 (none ∷ [])) "m" "a" (refused_by 11) ""
-    ∷ newer_row "earlier than the second clock" 4 (store_of 4 (entry "m" "a" "1" 1 Never ∷ [])) (store_of 5 (none ∷ [])) "m" "a" (refused_by 11) ""
-    ∷ newer_row "not earlier than a clock" 5 (store_of 5 (entry "m" "a" "1" 1 Never ∷ [])) (store_of 5 (none ∷ [])) "m" "a" (found 1 80 1) "1"
-    ∷ newer_row "the last instant" 4102444799999 (store_of 0 (entry "m" "a" "1" 1 Never ∷ [])) (store_of 0 (none ∷ [])) "m" "a" (found 1 80 1) "1"
-    ∷ newer_row "past it" 4102444800000 (store_of 0 (entry "m" "a" "1" 1 Never ∷ [])) (store_of 0 (none ∷ [])) "m" "a" (refused_by 11) ""
+    ∷ newer_row "the first damaged" 0 (store_of 0 []) (store_of 0 (entry "m" "a" "1" 1 None ∷ [])) "m" "a" (refused_by 2) ""
+    ∷ newer_row "the second damaged, and the instant too early" 0 (store_of 1 (entry "m" "a" "1" 1 None ∷ [])) (store_of 0 []) "m" "a" (refused_by 2) ""
+    ∷ newer_row "earlier than the first clock" 4 (store_of 5 (entry "m" "a" "1" 1 None ∷ [])) (store_of 4 (None ∷ [])) "m" "a" (refused_by 11) ""
+    ∷ newer_row "earlier than the second clock" 4 (store_of 4 (entry "m" "a" "1" 1 None ∷ [])) (store_of 5 (None ∷ [])) "m" "a" (refused_by 11) ""
+    ∷ newer_row "not earlier than a clock" 5 (store_of 5 (entry "m" "a" "1" 1 None ∷ [])) (store_of 5 (None ∷ [])) "m" "a" (found 1 80 1) "1"
+    ∷ newer_row "the last instant" 4102444799999 (store_of 0 (entry "m" "a" "1" 1 None ∷ [])) (store_of 0 (None ∷ [])) "m" "a" (found 1 80 1) "1"
+    ∷ newer_row "past it" 4102444800000 (store_of 0 (entry "m" "a" "1" 1 None ∷ [])) (store_of 0 (None ∷ [])) "m" "a" (refused_by 11) ""
     ∷ []
 
 -- ---- the listing's call
@@ -187,11 +185,11 @@ call_expected r = record { refusal = r.refusal; written = r.written; shown = tex
 unfoldable pub call_rows : List CallRow
 call_rows =
     call_row "the request's example" 0
-    (store_of 0 (entry "m" "a" "1" 1 Never ∷ []))
-    (store_of 0 (entry "m" "a" "2" 1 Never ∷ entry "m" "b" "1" 1 Never ∷ []))
+    (store_of 0 (entry "m" "a" "1" 1 None ∷ []))
+    (store_of 0 (entry "m" "a" "2" 1 None ∷ entry "m" "b" "1" 1 None ∷ []))
     16000 0 16 "~ 1 1 0\n> 1 1 1\n77"
-    ∷ call_row "the output one byte short: 3" 5 (store_of 5 (none ∷ [])) (store_of 0 (none ∷ [])) 15999 3 0 "777777777777777777"
-    ∷ call_row "11 before 3" 4 (store_of 5 (none ∷ [])) (store_of 0 (none ∷ [])) 2 11 0 "77"
-    ∷ call_row "2 before 11 and 3" 4 (store_of 5 (none ∷ [])) (store_of 0 []) 2 2 0 "77"
-    ∷ call_row "3, with no output at all" 5 (store_of 5 (none ∷ [])) (store_of 0 (none ∷ [])) 0 3 0 ""
+    ∷ call_row "the output one byte short: 3" 5 (store_of 5 (None ∷ [])) (store_of 0 (None ∷ [])) 15999 3 0 "777777777777777777"
+    ∷ call_row "11 before 3" 4 (store_of 5 (None ∷ [])) (store_of 0 (None ∷ [])) 2 11 0 "77"
+    ∷ call_row "2 before 11 and 3" 4 (store_of 5 (None ∷ [])) (store_of 0 []) 2 2 0 "77"
+    ∷ call_row "3, with no output at all" 5 (store_of 5 (None ∷ [])) (store_of 0 (None ∷ [])) 0 3 0 ""
     ∷ []

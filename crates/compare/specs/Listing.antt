@@ -1,12 +1,10 @@
 -- The listing (02, M-102, "Lay two handsets side by side"): what two stores differ in at an instant, as lines and as text.
+use Rattle.std.specs.Prelude.{Option, None, Some}
 use Rattle.std.specs.Prelude.{Bool, true, false, cond, not, ◌&&◌, ℕ, suc, eqb, length}
 use mathlib.Core.List.{List, [], ◌∷◌, ◌++◌, map, flatten}
-use Rattle.std.proofs.Math.Option.{Option, none, some}
 use Rattle.wire.specs.Lists.{every, only_if, or_else}
 use Rattle.wire.specs.Bytes.{same, text}
 use Rattle.wire.specs.Integers.{natural_text}
-use Rattle.store.specs.declared.Expiry.{Expiry}
-use Rattle.store.specs.declared.Expiry.TheVariants.{Never, At}
 use Rattle.store.specs.Store.{Entry, Slot, Store, holds, entry_at}
 use Rattle.store.specs.Time.{live, live_slot, lowest_slot}
 
@@ -18,11 +16,11 @@ unfoldable pub live_slot_of : ℕ → List ℕ → List ℕ → List Slot → Op
 live_slot_of instant k f ss = lowest_slot (live_of instant k f) ss
 
 -- `~`: "in both with another value, version or expiry"
-unfoldable pub same_expiry : Expiry → Expiry → Bool
-same_expiry Never Never = true
-same_expiry Never (At t) = false
-same_expiry (At s) Never = false
-same_expiry (At s) (At t) = eqb s t
+unfoldable pub same_expiry : Option ℕ → Option ℕ → Bool
+same_expiry None None = true
+same_expiry None (Some t) = false
+same_expiry (Some s) None = false
+same_expiry (Some s) (Some t) = eqb s t
 
 unfoldable pub agree : Entry → Entry → Bool
 agree e other =
@@ -46,10 +44,10 @@ different = 126
 -- how a live entry of the first store is marked beside the second, if it is, and a live entry of the second beside the first
 unfoldable pub first_mark : ℕ → List Slot → Entry → Option ℕ
 first_mark instant second e =
-    or_else (live_slot_of instant e.key e.field second) (some only_first) (λ j. only_if (not (agree e (entry_at second j))) different)
+    or_else (live_slot_of instant e.key e.field second) (Some only_first) (λ j. only_if (not (agree e (entry_at second j))) different)
 
 unfoldable pub second_mark : ℕ → List Slot → Entry → Option ℕ
-second_mark instant first e = or_else (live_slot_of instant e.key e.field first) (some only_second) (λ j. none)
+second_mark instant first e = or_else (live_slot_of instant e.key e.field first) (Some only_second) (λ j. None)
 
 -- a line: its mark, the entry that it is about, and the "slot number in the store that the line is about"
 pub record Line : Type 0 where
@@ -59,8 +57,8 @@ pub record Line : Type 0 where
 
 -- "Write one line each": of slot i, where it holds a live entry that gets a mark
 unfoldable pub line_of : ℕ → (Entry → Option ℕ) → ℕ → Slot → List Line
-line_of instant mark i none = []
-line_of instant mark i (some e) = cond (live instant e) (or_else (mark e) [] (λ m. record { mark = m; entry = e; slot = i } ∷ [])) []
+line_of instant mark i None = []
+line_of instant mark i (Some e) = cond (live instant e) (or_else (mark e) [] (λ m. record { mark = m; entry = e; slot = i } ∷ [])) []
 
 -- "slots in order": the lines of slots numbered from i on
 unfoldable pub lines_from : ℕ → (Entry → Option ℕ) → ℕ → List Slot → List Line

@@ -1,6 +1,6 @@
 -- The newer value of one field (02, M-102): which store has it, in which slot, and where in that store's bytes it stands.
+use Rattle.std.specs.Prelude.{Option, None, Some}
 use Rattle.std.specs.Prelude.{cond, List, ℕ, leb, eqb, length}
-use Rattle.std.proofs.Math.Option.{Option, none, some}
 use Rattle.wire.specs.Bytes.{part}
 use Rattle.store.specs.Store.{Slot, decode, entry_at}
 use Rattle.store.specs.Layout.{value_start}
@@ -11,10 +11,10 @@ use Rattle.compare.specs.Listing.{live_slot_of}
 
 -- "whichever store's bytes holds the higher version, the first store's on a tie; if only one has it live, that one's": by the slots in which it is live
 unfoldable pub newer_of : List Slot → List Slot → Option ℕ → Option ℕ → Which
-newer_of first second none none = Neither
-newer_of first second (some i) none = First i
-newer_of first second none (some j) = Second j
-newer_of first second (some i) (some j) = cond (leb (entry_at second j).version (entry_at first i).version) (First i) (Second j)
+newer_of first second None None = Neither
+newer_of first second (Some i) None = First i
+newer_of first second None (Some j) = Second j
+newer_of first second (Some i) (Some j) = cond (leb (entry_at second j).version (entry_at first i).version) (First i) (Second j)
 
 unfoldable pub newer_slot : ℕ → List ℕ → List ℕ → List Slot → List Slot → Which
 newer_slot instant k f first second = newer_of first second (live_slot_of instant k f first) (live_slot_of instant k f second)

@@ -1,6 +1,6 @@
 // The refusals of both calls.
 ghost use Rattle.std.specs.Prelude.{◌≡◌, true, ◌||◌, leb, ltb};
-ghost use Rattle.std.proofs.Math.Option.{get_or};
+ghost use Rattle.std.specs.Prelude.{unwrap_or};
 ghost use Rattle.wire.specs.Checks.{first_applying};
 ghost use Rattle.store.specs.Layout.{time_limit};
 ghost use Rattle.store.specs.Store.{clock_of, well_formed};
@@ -26,7 +26,7 @@ fn out_of_range(first: &[u8], second: &[u8], instant: u64) -> bool
 
 // 0, or 2 or 11.
 pub fn refusal(first: &[u8], second: &[u8], instant: u64) -> u32
-    ensures { result ≡ get_or (first_applying (checks first.now second.now instant)) 0 }
+    ensures { result ≡ unwrap_or (first_applying (checks first.now second.now instant)) 0 }
 {
     if !well_formed(first) {
         return 2;

@@ -11,7 +11,7 @@ use crate::check::refusal;
 use crate::line::put_line;
 use crate::live::{agree, live_near};
 use crate::{Compared, Pass};
-use store::{Found, read};
+use store::read;
 
 // The least size of an output.
 pub const OUTPUT_LEAST: usize = 16000;
@@ -26,11 +26,11 @@ const ONLY_SECOND: u8 = b'>';
 const DIFFERENT: u8 = b'~';
 
 // The mark of an entry of the first store, whose key and field were looked for in the second.
-fn first_mark(first: &[u8], i: usize, second: &[u8], found: Found) -> u8
+fn first_mark(first: &[u8], i: usize, second: &[u8], found: Option<usize>) -> u8
     requires { (Held first.now i) × (HeldIn second.now found) }
     ensures { result ≡ first_mark_for (entry_at (decode first.now).slots i) (decode second.now).slots found }
 {
-    let Found::At(j) = found else {
+    let Some(j) = found else {
         return ONLY_FIRST;
     };
     if agree(first, i, second, j) {
@@ -40,12 +40,12 @@ fn first_mark(first: &[u8], i: usize, second: &[u8], found: Found) -> u8
 }
 
 // The mark of an entry of the second store, whose key and field were looked for in the first.
-fn second_mark(found: Found) -> u8
+fn second_mark(found: Option<usize>) -> u8
     ensures { result ≡ second_mark_for found }
 {
     match found {
-        Found::At(_) => NO_MARK,
-        Found::Nothing => ONLY_SECOND,
+        Some(_) => NO_MARK,
+        None => ONLY_SECOND,
     }
 }
 

@@ -1,39 +1,39 @@
 // Live entries by key and field, and whether two of them agree.
 ghost use Rattle.std.specs.Prelude.{◌≡◌, true};
 ghost use Rattle.store.specs.Store.{decode, well_formed, entry_at};
-ghost use Rattle.store.specs.Promises.{Held, found_for};
+ghost use Rattle.store.specs.Promises.{Held};
 ghost use Rattle.compare.specs.Listing.{live_slot_of, same_expiry, agree};
 
 use store::find::named_near;
-use store::{Expiry, Found, read};
+use store::read;
 use wire::bytes::equal;
 
 // The slot in which a key and a field are live at an instant; the hint's slot is looked at first.
-pub fn live_near(store: &[u8], key: &[u8], field: &[u8], instant: u64, hint: usize) -> Found
+pub fn live_near(store: &[u8], key: &[u8], field: &[u8], instant: u64, hint: usize) -> Option<usize>
     requires { well_formed store.now ≡ true }
-    ensures { result ≡ found_for (live_slot_of instant key.now field.now (decode store.now).slots) }
+    ensures { result ≡ live_slot_of instant key.now field.now (decode store.now).slots }
 {
     let found = named_near(store, key, field, hint);
-    let Found::At(i) = found else {
-        return Found::Nothing;
+    let Some(i) = found else {
+        return None;
     };
     if read::is_live(store, i, instant) {
-        return Found::At(i);
+        return Some(i);
     }
-    Found::Nothing
+    None
 }
 
-fn same_expiry(a: Expiry, b: Expiry) -> bool
+fn same_expiry(a: Option<u64>, b: Option<u64>) -> bool
     ensures { result ≡ same_expiry a b }
 {
     match a {
-        Expiry::Never => match b {
-            Expiry::Never => true,
-            Expiry::At(_) => false,
+        None => match b {
+            None => true,
+            Some(_) => false,
         },
-        Expiry::At(s) => match b {
-            Expiry::Never => false,
-            Expiry::At(t) => s == t,
+        Some(s) => match b {
+            None => false,
+            Some(t) => s == t,
         },
     }
 }

@@ -8,20 +8,20 @@ ghost use Rattle.compare.specs.Promises.{HeldIn, newer_for};
 use crate::check::refusal;
 use crate::live::live_near;
 use crate::{Place, Which};
-use store::{Found, read};
+use store::read;
 
 // Which of two slots has the newer value, where key and field were looked for in both stores.
-fn newer_of(first: &[u8], left: Found, second: &[u8], right: Found) -> Which
+fn newer_of(first: &[u8], left: Option<usize>, second: &[u8], right: Option<usize>) -> Which
     requires { (HeldIn first.now left) × (HeldIn second.now right) }
     ensures { result ≡ newer_for (decode first.now).slots (decode second.now).slots left right }
 {
-    let Found::At(i) = left else {
+    let Some(i) = left else {
         return match right {
-            Found::At(j) => Which::Second(j),
-            Found::Nothing => Which::Neither,
+            Some(j) => Which::Second(j),
+            None => Which::Neither,
         };
     };
-    let Found::At(j) = right else {
+    let Some(j) = right else {
         return Which::First(i);
     };
     if read::version(first, i) < read::version(second, j) {

@@ -22,9 +22,9 @@ use compare::newer::{newer, newer_in};
 use feeder::{Fed, Feeder};
 use store::check::well_formed;
 use store::layout::{HEADER_SIZE, SLOT_SIZE, TIME_LIMIT};
-use store::{Expiry, read};
+use store::read;
 use wire::bytes::{clear, copy, equal, write_le};
-use wire::integers::{Natural, read_natural};
+use wire::integers::read_natural;
 use wire::replies::{put_bulk, put_header};
 
 // The descriptors of the standard streams.
@@ -118,8 +118,8 @@ fn within(s: &[u8], count: usize) -> &[u8] {
 fn number_of(word: &[u8]) -> u64 {
     let read = read_natural(word, TIME_LIMIT);
     match read {
-        Natural::Value(n) => n,
-        Natural::Refused => 0,
+        Some(n) => n,
+        None => 0,
     }
 }
 
@@ -243,10 +243,10 @@ fn show_reply(reply: &[u8]) {
 
 // ---- the store
 
-fn show_expiry(expiry: Expiry, clock: u64) {
+fn show_expiry(expiry: Option<u64>, clock: u64) {
     match expiry {
-        Expiry::Never => put(b"\n"),
-        Expiry::At(instant) => {
+        None => put(b"\n"),
+        Some(instant) => {
             if clock < instant {
                 put(b", expires at ");
             } else {

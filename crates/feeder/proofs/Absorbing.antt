@@ -1,8 +1,8 @@
 -- Bytes taken: what is joined of the waiting bytes and a piece, the record done, what waits, and what a call comes to.
+use Rattle.std.specs.Prelude.{None, Some}
 use mathlib.Core.Path.{◌≡◌, refl, sym, ap, ◌∙◌}
 use mathlib.Core.Bool.{true}
 use mathlib.Core.List.{List, ◌++◌}
-use mathlib.Core.Option.{none, some}
 use Prim.Native.Nat.{ℕ, ◌+◌, ◌-◌, ◌≤◌, ◌<◌}
 use native.Mathlib.Omega.{arith}
 use lib.ListN.{length, take, drop, replicate, length-append, length-drop, length-take, length-replicate, replicate-append-replicate, take-append-drop}
@@ -90,7 +90,7 @@ appended s p u n l e = (laid_tail front back).bytes
 module _ (size : ℕ) (s b : List ℕ) {clock : ℕ} {after buffer over : List ℕ} {r : Executed} where
   pub record_done : clock ≡ from_le (take 8 (drop clock_at s))
       → Replied (exec_bytes clock (take (command_at + size - command_at) (drop command_at s)) b) after buffer over r
-      → Replied (doing (some (record_of size s)) b) after buffer over r
+      → Replied (doing (Some (record_of size s)) b) after buffer over r
   unfolding doing or_else record_of part
   record_done e h =
       let n : command_at + size - command_at ≡ size = omega arith in
@@ -103,8 +103,8 @@ module _ (w p : List ℕ) (at size : ℕ) (c : Completing w p at size) where
 
   -- it stands in the piece
   pub piece_done : (b : List ℕ) {after buffer over : List ℕ} {r : Executed} → length w ≤ at
-      → Replied (doing (some (record_of size (take (length p - (at - length w)) (drop (at - length w) p)))) b) after buffer over r
-      → Replied (doing (some (record_of size (drop at (w ++ p)))) b) after buffer over r
+      → Replied (doing (Some (record_of size (take (length p - (at - length w)) (drop (at - length w) p)))) b) after buffer over r
+      → Replied (doing (Some (record_of size (drop at (w ++ p)))) b) after buffer over r
   piece_done b l h = rw (drop_late w p at l, ← tail_part (at - length w) p) h
 
   module _ (l : at < length w) where
@@ -141,8 +141,8 @@ module _ (w p : List ℕ) (at size : ℕ) (c : Completing w p at size) where
 
     pub joined_done : (j b : List ℕ) {t after buffer over : List ℕ} {r : Executed}
         → t ≡ laid_over (drop at (w ++ take (at + (command_at + size) - length w) p)) j
-        → Replied (doing (some (record_of size t)) b) after buffer over r
-        → Replied (doing (some (record_of size (drop at (w ++ p)))) b) after buffer over r
+        → Replied (doing (Some (record_of size t)) b) after buffer over r
+        → Replied (doing (Some (record_of size (drop at (w ++ p)))) b) after buffer over r
     joined_done j b e h = rw (← same_record j e) h
 
 -- ---- what waits
@@ -212,7 +212,7 @@ module _ (f : Feeder) (piece : List ℕ) (left : is_left f ≡ true) {o : List �
 
   -- a record is completed
   module _ (at n : ℕ) (e : stops.Record at n ≡ stop_of (take f.count f.waiting ++ o)) where
-    found : first_record all ≡ some (record { at = at; size = n })
+    found : first_record all ≡ Some (record { at = at; size = n })
     unfolding waiting_in
     found = stop_record (take f.count f.waiting ++ offered piece) at n (rw eo at e)
 
@@ -239,7 +239,7 @@ module _ (f : Feeder) (piece : List ℕ) (left : is_left f ≡ true) {o : List �
         }
 
     pub absorbed_record : (b buffer : List ℕ) {v after over : List ℕ} {r : Executed}
-        → Replied (doing (some (record_of n (drop at (take f.count f.waiting ++ o)))) b) after buffer over r
+        → Replied (doing (Some (record_of n (drop at (take f.count f.waiting ++ o)))) b) after buffer over r
         → record { waiting = v; count = 0 } ≡ fresh
         → answer_for (record { refusal = 0; used = at + (command_at + n) - f.count; skipped = at; replied = r.replied; count = 0 }) v after over
         ≡ answering (absorb (waiting_in f) piece) b buffer
@@ -248,7 +248,7 @@ module _ (f : Feeder) (piece : List ℕ) (left : is_left f ≡ true) {o : List �
 
   -- no record is completed
   module _ (at : ℕ) (e : stops.Rest at ≡ stop_of (take f.count f.waiting ++ o)) where
-    stopped : (first_record all ≡ none) × ((divide all).skipped ≡ at)
+    stopped : (first_record all ≡ None) × ((divide all).skipped ≡ at)
     unfolding waiting_in
     stopped = stop_rest (take f.count f.waiting ++ offered piece) at (rw eo at e)
 

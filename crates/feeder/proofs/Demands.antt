@@ -4,11 +4,11 @@
 -- `Bytes` or `AllBytes`, the numbers are below 256, as the elements of the code's slices always are. A `Valid` store is one that well-formed bytes hold
 -- (`store_bytes_only`, `store_read_back`). What a command on one field says of its version is `deed_versioning`: `Next` nothing, `Match v` VER v, `Exactly v` ABS v,
 -- `Above v` GT v.
+use Rattle.std.specs.Prelude.{None, Some}
 use mathlib.Core.Path.{◌≡◌, refl, sym, ap, ◌∙◌}
 use mathlib.Core.Logic.{◌≢◌, ◌⊎◌, ◌↔◌}
 use mathlib.Core.Bool.{true, false, not}
 use mathlib.Core.List.{List, [], ◌∷◌, ◌++◌, map, flatten, flat_map, Mem}
-use mathlib.Core.Option.{none, some}
 use Prim.Native.Nat.{ℕ, suc, ◌+◌, ◌*◌, ◌^◌, ◌≤◌, ◌<◌}
 use Prim.Native.String.{String}
 use lib.IntN.{ℤ, pos}
@@ -21,7 +21,6 @@ use Rattle.wire.specs.Replies.{line, number, resp_of, laid_over}
 use Rattle.wire.proofs.IntegerLaws.{read_text, text_read, read_within}
 use Rattle.wire.proofs.WordLaws.{words_resp_of, resp_of_words, words_count}
 use Rattle.store.specs.Layout.{header_size, slot_size, key_most, field_most, value_most, version_most, time_limit}
-use Rattle.store.specs.declared.Expiry.TheVariants.{Never, At}
 use Rattle.store.specs.Store.{Entry, entry, Slot, Store, with_clock, decode, encode, well_formed, slot_count}
 use Rattle.store.specs.Time.{now_at, live, entry_of}
 use Rattle.store.specs.Valid.{Valid}
@@ -102,54 +101,54 @@ pub refused_call : (f : Feeder) (piece b buffer : List ℕ) → (feed f piece b 
 refused_call = refusals.refused_call
 
 -- A record is refused with 10 exactly if its command is not RESP.
-pub protocol_exactly_if : (clock : ℕ) (command : List ℕ) (s : Store) → ((exec clock command s).refusal ≡ some 10) ↔ (words_of command ≡ none)
+pub protocol_exactly_if : (clock : ℕ) (command : List ℕ) (s : Store) → ((exec clock command s).refusal ≡ Some 10) ↔ (words_of command ≡ None)
 protocol_exactly_if = protocol_exactly
 
 -- A record is refused with one of 10 to 18 exactly if parsing its command gives that number.
 pub early_exactly_if : (clock : ℕ) (command : List ℕ) (s : Store) (n : ℕ) → n ≤ early_most
-    → ((exec clock command s).refusal ≡ some n) ↔ (parse (now_at clock s) clock command ≡ refused n)
+    → ((exec clock command s).refusal ≡ Some n) ↔ (parse (now_at clock s) clock command ≡ refused n)
 early_exactly_if = early_exactly
 
 -- That number is the lowest of 10 to 18 that applies.
 pub early_lowest_if : (clock : ℕ) (command : List ℕ) (s : Store) (n : ℕ) → n ≤ early_most
-    → ((exec clock command s).refusal ≡ some n) ↔ LowestOf (early_checks (now_at clock s) clock command) n
+    → ((exec clock command s).refusal ≡ Some n) ↔ LowestOf (early_checks (now_at clock s) clock command) n
 early_lowest_if = early_lowest
 
 -- Of a command that passes them the refusal is the lowest number of 20 to 24 that applies.
 pub late_exactly_if : (clock : ℕ) (command : List ℕ) (s : Store) (c : Command) → parse (now_at clock s) clock command ≡ accepted c
     → let left = sweep (now_at clock s) (key_of c) (fields_of c) s.slots in
-    (n : ℕ) → ((exec clock command s).refusal ≡ some n) ↔ LowestOf (late_checks (now_at clock s) (effect (now_at clock s) c left) left) n
+    (n : ℕ) → ((exec clock command s).refusal ≡ Some n) ↔ LowestOf (late_checks (now_at clock s) (effect (now_at clock s) c left) left) n
 late_exactly_if = late_exactly
 
 -- The number of a refused command is one of 10 to 18 or of 20 to 24.
-pub refusal_numbered : (clock : ℕ) (command : List ℕ) (s : Store) (n : ℕ) → (exec clock command s).refusal ≡ some n
+pub refusal_numbered : (clock : ℕ) (command : List ℕ) (s : Store) (n : ℕ) → (exec clock command s).refusal ≡ Some n
     → ((early_least ≤ n) × (n ≤ early_most)) ⊎ ((late_least ≤ n) × (n ≤ late_most))
 refusal_numbered = refusal_number
 
 -- A row of the table has that number; its line is the row's text and CR LF.
-pub refusal_in_table : (clock : ℕ) (command : List ℕ) (s : Store) (n : ℕ) → (exec clock command s).refusal ≡ some n
+pub refusal_in_table : (clock : ℕ) (command : List ℕ) (s : Store) (n : ℕ) → (exec clock command s).refusal ≡ Some n
     → (r : RefusalRow) × Mem r table × (r.number ≡ n) × (error_line n ≡ text r.reply ++ crlf)
 unfolding line
 refusal_in_table = refusal_row
 
 -- A record replies the line of a number exactly if it is refused with that number.
 pub refused_line : (clock : ℕ) (command : List ℕ) (s : Store) (n : ℕ)
-    → ((exec clock command s).reply ≡ error_line n) ↔ ((exec clock command s).refusal ≡ some n)
+    → ((exec clock command s).reply ≡ error_line n) ↔ ((exec clock command s).refusal ≡ Some n)
 refused_line = refused_said
 
 -- After a call whose record is refused with n the reply buffer is n's line laid over what it held, and the reply is as long as the line.
 pub refused_buffer : (f : Feeder) (piece b buffer : List ℕ) → (feed f piece b buffer).fed.refusal ≡ 0
-    → (r : Record) → (absorb (waiting_in f) piece).completed ≡ some r → (n : ℕ) → (exec r.clock r.command (decode b)).refusal ≡ some n
+    → (r : Record) → (absorb (waiting_in f) piece).completed ≡ Some r → (n : ℕ) → (exec r.clock r.command (decode b)).refusal ≡ Some n
     → ((feed f piece b buffer).buffer ≡ laid_over (error_line n) buffer) × ((feed f piece b buffer).fed.replied ≡ length (error_line n))
 refused_buffer = refusals.refused_writes
 
 -- A command refused by 10 to 18 leaves the store byte for byte, its clock too.
-pub early_refusal_leaves : (clock : ℕ) (command b : List ℕ) (n : ℕ) → well_formed b ≡ true → (exec clock command (decode b)).refusal ≡ some n
+pub early_refusal_leaves : (clock : ℕ) (command b : List ℕ) (n : ℕ) → well_formed b ≡ true → (exec clock command (decode b)).refusal ≡ Some n
     → n ≤ early_most → (exec_bytes clock command b).store ≡ b
 early_refusal_leaves = refusals.early_bytes
 
 -- Any other refusal is one of 20 to 24; it sets the clock and removes the named dead entries, and does nothing else.
-pub late_refusal_leaves : (clock : ℕ) (command : List ℕ) (s : Store) (n : ℕ) → (exec clock command s).refusal ≡ some n → early_most < n
+pub late_refusal_leaves : (clock : ℕ) (command : List ℕ) (s : Store) (n : ℕ) → (exec clock command s).refusal ≡ Some n → early_most < n
     → (c : Command)
     × (parse (now_at clock s) clock command ≡ accepted c)
     × ((exec clock command s).store ≡ swept (now_at clock s) (key_of c) (fields_of c) (with_clock (now_at clock s) s))
@@ -158,14 +157,14 @@ pub late_refusal_leaves : (clock : ℕ) (command : List ℕ) (s : Store) (n : �
 late_refusal_leaves = late_refusal_lem
 
 -- A refused command keeps every entry that is live at its now, in its slot.
-pub refused_keeps : (clock : ℕ) (command : List ℕ) (s : Store) (n : ℕ) → (exec clock command s).refusal ≡ some n
-    → (i : ℕ) (e : Entry) → get_or s.slots i none ≡ some e → live (now_at clock s) e ≡ true
-    → get_or (exec clock command s).store.slots i none ≡ some e
+pub refused_keeps : (clock : ℕ) (command : List ℕ) (s : Store) (n : ℕ) → (exec clock command s).refusal ≡ Some n
+    → (i : ℕ) (e : Entry) → get_or s.slots i None ≡ Some e → live (now_at clock s) e ≡ true
+    → get_or (exec clock command s).store.slots i None ≡ Some e
 refused_keeps = refused_keeps_live
 
 -- The bytes of such a slot are as they were.
-pub refused_keeps_bytes : (clock : ℕ) (command b : List ℕ) (n : ℕ) → well_formed b ≡ true → (exec clock command (decode b)).refusal ≡ some n
-    → (i : ℕ) (e : Entry) → i < slot_count b → get_or (decode b).slots i none ≡ some e → live (now_at clock (decode b)) e ≡ true
+pub refused_keeps_bytes : (clock : ℕ) (command b : List ℕ) (n : ℕ) → well_formed b ≡ true → (exec clock command (decode b)).refusal ≡ Some n
+    → (i : ℕ) (e : Entry) → i < slot_count b → get_or (decode b).slots i None ≡ Some e → live (now_at clock (decode b)) e ≡ true
     → part (header_size + slot_size * i) slot_size (exec_bytes clock command b).store ≡ part (header_size + slot_size * i) slot_size b
 refused_keeps_bytes = refusals.live_bytes
 
@@ -229,7 +228,7 @@ bytes_as_many = exec_bytes_length
 -- A command that passes checks 10 to 18 and is not refused replies what its effect says, sets the clock to now and makes the effect's changes on the
 -- slots without the named dead entries.
 pub done_gives_effect : (clock : ℕ) (command : List ℕ) (s : Store) (c : Command) → parse (now_at clock s) clock command ≡ accepted c
-    → (exec clock command s).refusal ≡ none
+    → (exec clock command s).refusal ≡ None
     → let left = sweep (now_at clock s) (key_of c) (fields_of c) s.slots in
     let e = effect (now_at clock s) c left in
     ((exec clock command s).reply ≡ e.reply)
@@ -239,7 +238,7 @@ done_gives_effect = done_gives
 -- ════ Demand 2: store full
 
 -- Store full is said only of a command that passes checks 10 to 18.
-pub full_only_if : (clock : ℕ) (command : List ℕ) (s : Store) → (exec clock command s).refusal ≡ some 24
+pub full_only_if : (clock : ℕ) (command : List ℕ) (s : Store) → (exec clock command s).refusal ≡ Some 24
     → (c : Command) × (parse (now_at clock s) clock command ≡ accepted c)
 full_only_if = full_accepted
 
@@ -247,14 +246,14 @@ full_only_if = full_accepted
 pub full_exactly_if : (clock : ℕ) (command : List ℕ) (s : Store) (c : Command) → parse (now_at clock s) clock command ≡ accepted c
     → let left = sweep (now_at clock s) (key_of c) (fields_of c) s.slots in
     let e = effect (now_at clock s) c left in
-    ((exec clock command s).refusal ≡ some 24) ↔ (Proper e × (room (now_at clock s) left < added e.changes left))
+    ((exec clock command s).refusal ≡ Some 24) ↔ (Proper e × (room (now_at clock s) left < added e.changes left))
 full_exactly_if = full_exactly
 
 -- Such a command is done exactly if none of 20 to 23 applies and at least as many slots are empty or dead as it would add fields.
 pub done_exactly_if : (clock : ℕ) (command : List ℕ) (s : Store) (c : Command) → parse (now_at clock s) clock command ≡ accepted c
     → let left = sweep (now_at clock s) (key_of c) (fields_of c) s.slots in
     let e = effect (now_at clock s) c left in
-    ((exec clock command s).refusal ≡ none) ↔ (Proper e × (added e.changes left ≤ room (now_at clock s) left))
+    ((exec clock command s).refusal ≡ None) ↔ (Proper e × (added e.changes left ≤ room (now_at clock s) left))
 done_exactly_if = done_exactly
 
 -- The slots that are empty or dead after the named dead entries are gone are as many as before.
@@ -266,19 +265,19 @@ room_as_before now c = room_sweep now (key_of c) (fields_of c)
 -- An EXHMSET that is not refused leaves every field that it names with the value of the field's last pair and no expiry: all. One that is refused
 -- does nothing with them: none (`late_refusal_leaves`).
 pub all_or_none : (clock : ℕ) (command : List ℕ) (s : Store) (k : Word) (ps : List Pair) → Valid s
-    → parse (now_at clock s) clock command ≡ accepted (set_many k ps) → (exec clock command s).refusal ≡ none
-    → (f v : Word) → last_of f ps ≡ some v → Written k f v (exec clock command s).store.slots
+    → parse (now_at clock s) clock command ≡ accepted (set_many k ps) → (exec clock command s).refusal ≡ None
+    → (f v : Word) → last_of f ps ≡ Some v → Written k f v (exec clock command s).store.slots
 all_or_none clock command s k ps valid = all_set clock command s k ps valid.apart
 
 -- A command changes no live entry that it does not name.
 pub others_stay : (clock : ℕ) (command : List ℕ) (s : Store) (c : Command) → parse (now_at clock s) clock command ≡ accepted c
-    → (i : ℕ) (e : Entry) → get_or s.slots i none ≡ some e → live (now_at clock s) e ≡ true → names c e ≡ false
-    → get_or (exec clock command s).store.slots i none ≡ some e
+    → (i : ℕ) (e : Entry) → get_or s.slots i None ≡ Some e → live (now_at clock s) e ≡ true → names c e ≡ false
+    → get_or (exec clock command s).store.slots i None ≡ Some e
 others_stay = others_kept
 
 -- An entry that a command does not name and that stands in a slot after it stood there before: nothing unnamed appears or wakes.
 pub others_were : (clock : ℕ) (command : List ℕ) (s : Store) (c : Command) → parse (now_at clock s) clock command ≡ accepted c
-    → (i : ℕ) (e : Entry) → names c e ≡ false → get_or (exec clock command s).store.slots i none ≡ some e → get_or s.slots i none ≡ some e
+    → (i : ℕ) (e : Entry) → names c e ≡ false → get_or (exec clock command s).store.slots i None ≡ Some e → get_or s.slots i None ≡ Some e
 others_were = others_from
 
 -- A dead entry that a command names is as good as missing: the record's whole outcome is the one without it.
@@ -300,24 +299,24 @@ option_writes_unless clock command s k f d p given = given_writes_unless clock c
 
 -- A command with GT v that is not refused and writes its field leaves it at version v; and where the field was live it was below v.
 pub gt_only_forward : (clock : ℕ) (command : List ℕ) (s : Store) (k f : Word) (d : Deed) (v : ℕ) → Valid s
-    → parse (now_at clock s) clock command ≡ accepted (on_field k f d) → deed_versioning d ≡ Above v → (exec clock command s).refusal ≡ none
+    → parse (now_at clock s) clock command ≡ accepted (on_field k f d) → deed_versioning d ≡ Above v → (exec clock command s).refusal ≡ None
     → let e = effect (now_at clock s) (on_field k f d) (sweep (now_at clock s) k (f ∷ []) s.slots) in
     any (writes k f) e.changes ≡ true
     → Numbered k f v (exec clock command s).store.slots
-    × ((x : Entry) → entry_of k f s.slots ≡ some x → live (now_at clock s) x ≡ true → x.version < v)
+    × ((x : Entry) → entry_of k f s.slots ≡ Some x → live (now_at clock s) x ≡ true → x.version < v)
 unfolding key_of fields_of
 gt_only_forward clock command s k f d v valid p g = above_forward clock command s k f d v p g valid.apart
 
 -- A command with GT v is refused with 20 exactly if its field is live at v or above, and no NX bars it.
 pub gt_stale_exactly_if : (clock : ℕ) (command : List ℕ) (s : Store) (k f : Word) (d : Deed) (v : ℕ) → Valid s
     → parse (now_at clock s) clock command ≡ accepted (on_field k f d) → deed_versioning d ≡ Above v
-    → ((exec clock command s).refusal ≡ some 20)
-    ↔ ((x : Entry) × (entry_of k f s.slots ≡ some x) × (live (now_at clock s) x ≡ true) × (idle d (some x) ≡ false) × (v ≤ x.version))
+    → ((exec clock command s).refusal ≡ Some 20)
+    ↔ ((x : Entry) × (entry_of k f s.slots ≡ Some x) × (live (now_at clock s) x ≡ true) × (idle d (Some x) ≡ false) × (v ≤ x.version))
 gt_stale_exactly_if clock command s k f d v valid p g = above_stale_exactly clock command s k f d v p g valid.apart
 
 -- No command with GT is refused with 23.
 pub gt_never_overflows : (clock : ℕ) (command : List ℕ) (s : Store) (k f : Word) (d : Deed) (v : ℕ)
-    → parse (now_at clock s) clock command ≡ accepted (on_field k f d) → deed_versioning d ≡ Above v → (exec clock command s).refusal ≢ some 23
+    → parse (now_at clock s) clock command ≡ accepted (on_field k f d) → deed_versioning d ≡ Above v → (exec clock command s).refusal ≢ Some 23
 gt_never_overflows = above_never_passes
 
 -- The later count wins. Two EXHSETs past checks 10 to 18 set one field, with GT v and GT w, v below w, and neither a condition nor an expiry
@@ -327,8 +326,8 @@ pub later_count_wins : (first second : Step) (s : Store) (k f x y : Word) (v w :
     → parse (now_at first.clock s) first.clock first.command ≡ accepted (on_field k f (assign x Always (Above v) Clear))
     → parse (now_at second.clock s) second.clock second.command ≡ accepted (on_field k f (assign y Always (Above w) Clear))
     → v < w → Behind k f v s
-    → (entry_of k f (exec_all (first ∷ second ∷ []) s).slots ≡ some (entry k f y w Never))
-    × (entry_of k f (exec_all (second ∷ first ∷ []) s).slots ≡ some (entry k f y w Never))
+    → (entry_of k f (exec_all (first ∷ second ∷ []) s).slots ≡ Some (entry k f y w None))
+    × (entry_of k f (exec_all (second ∷ first ∷ []) s).slots ≡ Some (entry k f y w None))
 later_count_wins first second s k f x y v w valid = greater_wins first second s k f x y v w valid.apart
 
 -- ════ Demand 2: VER 0 is not compared (M-101)
@@ -340,7 +339,7 @@ pub ver_as_sent : (now clock : ℕ) (k f : Word) (v : ℕ) → clock < time_limi
     ((x : Word) → length x ≤ value_most → parse now clock (sent (text "EXHSET") x) ≡ accepted (on_field k f (assign x Always (Match v) Clear)))
     × ((z : ℤ) → within lowest64 highest64 z ≡ true
     → parse now clock (sent (text "EXHINCRBY") (integer_text z)) ≡ accepted (on_field k f (increment z lowest64 highest64 (Match v) Clear)))
-    × ((name : String) (u : TimeUnit) (n : ℕ) → command_named commands (text name) ≡ some (row name (at_least 4) (expire_form u))
+    × ((name : String) (u : TimeUnit) (n : ℕ) → command_named commands (text name) ≡ Some (row name (at_least 4) (expire_form u))
     → let t = integer_text (pos n) in
     n ≤ time_limit → instant now u t ≤ time_limit → parse now clock (sent (text name) t) ≡ accepted (on_field k f (expire (instant now u t) (Match v))))
 ver_as_sent now clock k f v c lk lf lv =
@@ -348,17 +347,17 @@ ver_as_sent now clock k f v c lk lf lv =
 
 -- No command with VER 0 is refused with 20, on any store, at any clock.
 pub ver_0_never_stale : (clock : ℕ) (command : List ℕ) (s : Store) (k f : Word) (d : Deed)
-    → parse (now_at clock s) clock command ≡ accepted (on_field k f d) → deed_versioning d ≡ Match 0 → (exec clock command s).refusal ≢ some 20
+    → parse (now_at clock s) clock command ≡ accepted (on_field k f d) → deed_versioning d ≡ Match 0 → (exec clock command s).refusal ≢ Some 20
 ver_0_never_stale = zero_never_stale
 
 -- An EXHSET or EXHINCRBY past checks 10 to 18 with VER v that is not refused with 20 has the outcome of a command that says the same with no version
 -- option.
 pub ver_as_none : (clock : ℕ) (command plain : List ℕ) (s : Store) (k f : Word) (v : ℕ)
     → ((x : Word) (c : Condition) (t : Lifetime) → parse (now_at clock s) clock command ≡ accepted (on_field k f (assign x c (Match v) t))
-    → parse (now_at clock s) clock plain ≡ accepted (on_field k f (assign x c Next t)) → (exec clock command s).refusal ≢ some 20
+    → parse (now_at clock s) clock plain ≡ accepted (on_field k f (assign x c Next t)) → (exec clock command s).refusal ≢ Some 20
     → exec clock command s ≡ exec clock plain s)
     × ((a l g : ℤ) (t : Lifetime) → parse (now_at clock s) clock command ≡ accepted (on_field k f (increment a l g (Match v) t))
-    → parse (now_at clock s) clock plain ≡ accepted (on_field k f (increment a l g Next t)) → (exec clock command s).refusal ≢ some 20
+    → parse (now_at clock s) clock plain ≡ accepted (on_field k f (increment a l g Next t)) → (exec clock command s).refusal ≢ Some 20
     → exec clock command s ≡ exec clock plain s)
 ver_as_none clock command plain s k f v = (assigns_as_none clock command plain s k f v, increments_as_none clock command plain s k f v)
 
@@ -381,12 +380,12 @@ ver_0_as_none clock command plain s k f =
 pub ver_setter : (clock : ℕ) (command : List ℕ) (s : Store) (k f : Word) (t v : ℕ) → Valid s
     → parse (now_at clock s) clock command ≡ accepted (on_field k f (expire t (Match v)))
     → let o = exec clock command s in
-    ((x : Entry) → entry_of k f s.slots ≡ some x → live (now_at clock s) x ≡ true → o.refusal ≢ some 20
+    ((x : Entry) → entry_of k f s.slots ≡ Some x → live (now_at clock s) x ≡ true → o.refusal ≢ Some 20
     → (x.version < version_most
-    → (o.refusal ≡ none) × (o.reply ≡ number 1) × (entry_of k f o.store.slots ≡ some (entry k f x.value (x.version + 1) (At t))))
-    × (x.version ≡ version_most → o.refusal ≡ some 23))
-    × (((x : Entry) → entry_of k f s.slots ≡ some x → live (now_at clock s) x ≡ false)
-    → (o.refusal ≡ none) × (o.reply ≡ number 0) × (entry_of k f o.store.slots ≡ none))
+    → (o.refusal ≡ None) × (o.reply ≡ number 1) × (entry_of k f o.store.slots ≡ Some (entry k f x.value (x.version + 1) (Some t))))
+    × (x.version ≡ version_most → o.refusal ≡ Some 23))
+    × (((x : Entry) → entry_of k f s.slots ≡ Some x → live (now_at clock s) x ≡ false)
+    → (o.refusal ≡ None) × (o.reply ≡ number 0) × (entry_of k f o.store.slots ≡ None))
 ver_setter clock command s k f t v valid p = (
   λ x q l r.
       (set_live clock command s k f t v p valid.apart x q l r, set_largest clock command s k f t v p valid.apart x q l r),
@@ -397,11 +396,11 @@ ver_setter clock command s k f t v valid p = (
 pub ver_0_overflows_exactly_if : (clock : ℕ) (command : List ℕ) (s : Store) (k f : Word) (d : Deed) → Valid s
     → parse (now_at clock s) clock command ≡ accepted (on_field k f d) → deed_versioning d ≡ Match 0
     → let e = effect (now_at clock s) (on_field k f d) (sweep (now_at clock s) k (f ∷ []) s.slots) in
-    ((exec clock command s).refusal ≡ some 23)
+    ((exec clock command s).refusal ≡ Some 23)
     ↔ ((x : Entry)
-    × (entry_of k f s.slots ≡ some x)
+    × (entry_of k f s.slots ≡ Some x)
     × (live (now_at clock s) x ≡ true)
-    × (idle d (some x) ≡ false)
+    × (idle d (Some x) ≡ false)
     × (x.version ≡ version_most)
     × (e.not_integer ≡ false)
     × (e.overflows ≡ false))
@@ -411,11 +410,11 @@ ver_0_overflows_exactly_if clock command s k f d valid p g = zero_overflows_exac
 -- A command with VER v is refused with 20 exactly if v is not 0, its field is live at a version that is neither 0 nor v, and no NX bars it.
 pub ver_stale_exactly_if : (clock : ℕ) (command : List ℕ) (s : Store) (k f : Word) (d : Deed) (v : ℕ) → Valid s
     → parse (now_at clock s) clock command ≡ accepted (on_field k f d) → deed_versioning d ≡ Match v
-    → ((exec clock command s).refusal ≡ some 20)
+    → ((exec clock command s).refusal ≡ Some 20)
     ↔ ((x : Entry)
-    × (entry_of k f s.slots ≡ some x)
+    × (entry_of k f s.slots ≡ Some x)
     × (live (now_at clock s) x ≡ true)
-    × (idle d (some x) ≡ false)
+    × (idle d (Some x) ≡ false)
     × (v ≢ 0)
     × (x.version ≢ 0)
     × (x.version ≢ v))
@@ -423,12 +422,12 @@ ver_stale_exactly_if clock command s k f d v valid p g = match_stale_exactly clo
 
 -- A command with VER v that is not refused and writes its field leaves a live one at its version plus 1, and a missing or dead one at 1.
 pub ver_next_version : (clock : ℕ) (command : List ℕ) (s : Store) (k f : Word) (d : Deed) (v : ℕ) → Valid s
-    → parse (now_at clock s) clock command ≡ accepted (on_field k f d) → deed_versioning d ≡ Match v → (exec clock command s).refusal ≡ none
+    → parse (now_at clock s) clock command ≡ accepted (on_field k f d) → deed_versioning d ≡ Match v → (exec clock command s).refusal ≡ None
     → let e = effect (now_at clock s) (on_field k f d) (sweep (now_at clock s) k (f ∷ []) s.slots) in
     any (writes k f) e.changes ≡ true
     → let after = (exec clock command s).store.slots in
-    ((x : Entry) → entry_of k f s.slots ≡ some x → live (now_at clock s) x ≡ true → Numbered k f (x.version + 1) after)
-    × (((x : Entry) → entry_of k f s.slots ≡ some x → live (now_at clock s) x ≡ false) → Numbered k f 1 after)
+    ((x : Entry) → entry_of k f s.slots ≡ Some x → live (now_at clock s) x ≡ true → Numbered k f (x.version + 1) after)
+    × (((x : Entry) → entry_of k f s.slots ≡ Some x → live (now_at clock s) x ≡ false) → Numbered k f 1 after)
 unfolding key_of fields_of
 ver_next_version clock command s k f d v valid p g = match_next clock command s k f d v p g valid.apart
 
@@ -462,7 +461,7 @@ reply_not_empty = exec_some
 
 -- A call that is not refused has reply length 0 exactly if it completes no record.
 pub replied_exactly_if : (f : Feeder) (piece b buffer : List ℕ) → (feed f piece b buffer).fed.refusal ≡ 0
-    → ((feed f piece b buffer).fed.replied ≡ 0) ↔ ((absorb (waiting_in f) piece).completed ≡ none)
+    → ((feed f piece b buffer).fed.replied ≡ 0) ↔ ((absorb (waiting_in f) piece).completed ≡ None)
 replied_exactly_if = refusals.replied_exactly
 
 -- No reply on a well-formed store is longer than 56,000 bytes.
@@ -479,7 +478,7 @@ pub beyond_reply : (f : Feeder) (piece b buffer : List ℕ)
 beyond_reply = refusals.buffer_beyond
 
 -- With no record completed, store and buffer are as they were.
-pub no_record_keeps_all : (f : Feeder) (piece b buffer : List ℕ) → (absorb (waiting_in f) piece).completed ≡ none
+pub no_record_keeps_all : (f : Feeder) (piece b buffer : List ℕ) → (absorb (waiting_in f) piece).completed ≡ None
     → ((feed f piece b buffer).store ≡ b) × ((feed f piece b buffer).buffer ≡ buffer)
 no_record_keeps_all = refusals.no_record_keeps
 
@@ -558,19 +557,19 @@ module _ (b : List ℕ) (well : well_formed b ≡ true) where
 -- ════ Round trips
 
 -- An integer's text is read back.
-pub integer_read_back : (lo hi z : ℤ) → within lo hi z ≡ true → read_integer lo hi (integer_text z) ≡ some z
+pub integer_read_back : (lo hi z : ℤ) → within lo hi z ≡ true → read_integer lo hi (integer_text z) ≡ Some z
 integer_read_back = read_text
 
 -- A text that is read as an integer is that integer's text, and the integer is within the bounds.
-pub integer_text_only : (lo hi : ℤ) (s : List ℕ) (z : ℤ) → read_integer lo hi s ≡ some z → (integer_text z ≡ s) × (within lo hi z ≡ true)
+pub integer_text_only : (lo hi : ℤ) (s : List ℕ) (z : ℤ) → read_integer lo hi s ≡ Some z → (integer_text z ≡ s) × (within lo hi z ≡ true)
 integer_text_only lo hi s z h = (text_read lo hi s z h, read_within lo hi s z h)
 
 -- The words of a command are read back.
-pub words_read_back : (ws : List Word) → 1 ≤ length ws → length ws ≤ words_most → words_of (resp_of ws) ≡ some ws
+pub words_read_back : (ws : List Word) → 1 ≤ length ws → length ws ≤ words_most → words_of (resp_of ws) ≡ Some ws
 words_read_back = words_resp_of
 
 -- A command that is read is the array of its words, 1 to 64 of them.
-pub words_array_only : (s : List ℕ) (ws : List Word) → words_of s ≡ some ws → (s ≡ resp_of ws) × (1 ≤ length ws) × (length ws ≤ words_most)
+pub words_array_only : (s : List ℕ) (ws : List Word) → words_of s ≡ Some ws → (s ≡ resp_of ws) × (1 ≤ length ws) × (length ws ≤ words_most)
 words_array_only s ws h = (resp_of_words s ws h, (words_count s ws h).0, (words_count s ws h).1)
 
 -- What a valid store holds is read back from its bytes, which are well formed.

@@ -1,7 +1,7 @@
 -- The first record of a stream: where it stands is settled by the bytes up to its end, and none of fewer bytes.
+use Rattle.std.specs.Prelude.{Option, None, Some}
 use mathlib.Core.Path.{◌≡◌, refl, ap, ◌∙◌}
 use mathlib.Core.List.{List, [], ◌∷◌, ◌++◌, cons-ne-nil}
-use mathlib.Core.Option.{Option, none, some}
 use Prim.Native.Nat.{ℕ, ◌+◌, ◌-◌, ◌≤◌}
 use native.Mathlib.Omega.{arith}
 use lib.ListN.{length, drop}
@@ -24,15 +24,15 @@ pub data NoFirst : List ℕ → Type 0 where
   skips : {b : ℕ} {s : List ℕ} → head_of (b ∷ s) ≡ skip → NoFirst s → NoFirst (b ∷ s)
 
 -- firstRecord finds the first record
-pub first_found : (s : List ℕ) (p : Place) → first_record s ≡ some p → First s p
+pub first_found : (s : List ℕ) (p : Place) → first_record s ≡ Some p → First s p
 unfolding first_record placed_at
 first_found [] p e = impossible cc
 first_found (b ∷ s) p e = go (head_of (b ∷ s)) refl (first_record s) e (first_found s)
   where
-    go : (h : Head) → head_of (b ∷ s) ≡ h → (m : Option Place) → placed_at h m ≡ some p
-        → ((q : Place) → m ≡ some q → First s q) → First (b ∷ s) p
-    go skip x none e ih = impossible cc
-    go skip x (some q) e ih =
+    go : (h : Head) → head_of (b ∷ s) ≡ h → (m : Option Place) → placed_at h m ≡ Some p
+        → ((q : Place) → m ≡ Some q → First s q) → First (b ∷ s) p
+    go skip x None e ih = impossible cc
+    go skip x (Some q) e ih =
         let z : later q ≡ p = cc in
         rw z at (there x (ih q refl))
     go (whole n) x m e ih =
@@ -41,19 +41,19 @@ first_found (b ∷ s) p e = go (head_of (b ∷ s)) refl (first_record s) e (firs
     go wait x m e ih = impossible cc
 
 -- or there is none
-pub none_found : (s : List ℕ) → first_record s ≡ none → NoFirst s
+pub none_found : (s : List ℕ) → first_record s ≡ None → NoFirst s
 unfolding first_record placed_at
 none_found [] e = ends
 none_found (b ∷ s) e = go (head_of (b ∷ s)) refl (first_record s) e (none_found s)
   where
-    go : (h : Head) → head_of (b ∷ s) ≡ h → (m : Option Place) → placed_at h m ≡ none → (m ≡ none → NoFirst s) → NoFirst (b ∷ s)
-    go skip x none e ih = skips x (ih refl)
-    go skip x (some q) e ih = impossible cc
+    go : (h : Head) → head_of (b ∷ s) ≡ h → (m : Option Place) → placed_at h m ≡ None → (m ≡ None → NoFirst s) → NoFirst (b ∷ s)
+    go skip x None e ih = skips x (ih refl)
+    go skip x (Some q) e ih = impossible cc
     go (whole n) x m e ih = impossible cc
     go wait x m e ih = waits x
 
 -- the first record is what firstRecord finds
-pub found_first : {s : List ℕ} {p : Place} → First s p → first_record s ≡ some p
+pub found_first : {s : List ℕ} {p : Place} → First s p → first_record s ≡ Some p
 unfolding first_record placed_at
 found_first (here h) = rw h
 found_first (there h f) = rw (h, found_first f)

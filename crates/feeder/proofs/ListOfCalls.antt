@@ -1,9 +1,9 @@
 -- Lists of feeding calls. The records' half of demand 3: what the calls come to is what their absorbing comes to, with the records that it
 -- hands out done in order. With the stream's half, of ListOfPieces, that is demand 3.
+use Rattle.std.specs.Prelude.{option_to_list, Option, None, Some}
 use mathlib.Core.Path.{◌≡◌, refl, sym, ap, ◌∙◌}
 use mathlib.Core.Bool.{Bool, true, false, cond}
-use mathlib.Core.List.{List, [], ◌∷◌, ◌++◌, append_assoc, append-nil, flatten, Option-to_list}
-use mathlib.Core.Option.{Option, none, some}
+use mathlib.Core.List.{List, [], ◌∷◌, ◌++◌, append_assoc, append-nil, flatten}
 use Prim.Native.Nat.{ℕ, zero, suc, ◌+◌, ◌-◌, ◌≤◌, ◌<◌}
 use native.Mathlib.Nat.{add-zero}
 use native.Mathlib.Omega.{arith}
@@ -55,10 +55,10 @@ records_well zero (x ∷ s) bs b well = go (head_of (x ∷ s)) (λ k. records_we
     go wait ih = well
 
 -- the record of one call
-do_one : (m : Option Record) (b : List ℕ) → do_all (Option-to_list m) b ≡ doing m b
-unfolding do_all doing or_else Option-to_list
-do_one none b = refl
-do_one (some r) b = rw append-nil
+do_one : (m : Option Record) (b : List ℕ) → do_all (option_to_list m) b ≡ doing m b
+unfolding do_all doing or_else
+do_one None b = refl
+do_one (Some r) b = rw append-nil
 
 -- a call that absorbs and does adds what it absorbs, its record done
 answered_adds : (b : List ℕ) (t : Taken) (c : Call) (a : Absorbing)
@@ -67,7 +67,7 @@ unfolding tally answering done_for counted
 answered_adds b t c a =
     let before : List ℕ = (do_all t.divided.records b).store in
     rw (
-      do_more t.divided.records (Option-to_list a.completed) b,
+      do_more t.divided.records (option_to_list a.completed) b,
       do_one a.completed before,
       take_laid (doing a.completed before).reply c.buffer,
     )
@@ -169,7 +169,7 @@ module _ (b : List ℕ) (well : well_formed b ≡ true) where
         store_well = rw r.divides (unfold divide in records_well 0 t.used r.bytes b well)
 
         go : (small : Bool)
-            → or_else (cond small (some 3) none) answer (λ n. refusing n (done_for b t).feeder (done_for b t).store c.buffer)
+            → or_else (cond small (Some 3) None) answer (λ n. refusing n (done_for b t).feeder (done_for b t).store c.buffer)
             ≡ cond small refusal answer
         go true = refl
         go false = refl
@@ -266,7 +266,7 @@ module _ (b : List ℕ) (well : well_formed b ≡ true) where
 
       fewer : length (drop u (x ∷ s)) ≤ n
       fewer =
-          let some : 1 ≤ u = (call_answered t r c).some_used large (omega arith) in
+          let Some : 1 ≤ u = (call_answered t r c).some_used large (omega arith) in
           rw (length-drop u (x ∷ s)) (omega arith)
 
   offering_used : (n : ℕ) (buffers : ℕ → List ℕ) → ((k : ℕ) → buffer_least ≤ length (buffers k)) → UsedUp n buffers

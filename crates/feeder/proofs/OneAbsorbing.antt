@@ -1,9 +1,10 @@
 -- One absorbing call: the division of what waited and of the bytes used says it all.
+use Rattle.std.specs.Prelude.{option_to_list, Option, None, Some}
 use mathlib.Core.Path.{◌≡◌, refl, sym, ap, ◌∙◌}
 use mathlib.Core.Logic.{◌⊎◌, inl, inr}
 use mathlib.Core.Bool.{Bool, true, false}
-use mathlib.Core.List.{List, [], ◌∷◌, ◌++◌, append_assoc, Option-to_list}
-use mathlib.Core.Option.{Option, none, some, none-ne-some, some-injective}
+use mathlib.Core.List.{List, [], ◌∷◌, ◌++◌, append_assoc}
+use Rattle.std.proofs.lemmas.Option.{none-some, same_Some}
 use Prim.Native.Nat.{ℕ, ◌+◌, ◌-◌, ◌≤◌, ◌<◌}
 use native.Mathlib.Omega.{arith}
 use lib.Dec.{ltb}
@@ -19,7 +20,7 @@ use Rattle.feeder.proofs.FirstRecord.{First, first_found, found_first, none_foun
 
 -- what one call adds, as a division
 abbrev pub division_of : Absorbing → Division
-division_of a = record { records = Option-to_list a.completed; skipped = a.skipped; rest = a.rest }
+division_of a = record { records = option_to_list a.completed; skipped = a.skipped; rest = a.rest }
 
 -- what a call comes to, where w waited
 pub record Took (w piece : List ℕ) (a : Absorbing) : Type 0 where
@@ -52,8 +53,8 @@ module _ (w piece : List ℕ) where
       whole_again = rw (append_assoc, used_offered v h, take-append-drop v (offered piece))
 
       go : (m : Option Place) → first_record (w ++ take v piece) ≡ m → (divide (w ++ take v piece)).records ≡ []
-      go none e = none_records (none_found (w ++ take v piece) e)
-      go (some q) e =
+      go None e = none_records (none_found (w ++ take v piece) e)
+      go (Some q) e =
           let f : First (w ++ take v piece) q = first_found (w ++ take v piece) q e in
           let g : First all q = rw whole_again at (first_more (drop v (offered piece)) f) in
           absurd (late (no_first q g) (first_fits f))
@@ -62,12 +63,12 @@ module _ (w piece : List ℕ) where
           late a c = omega (arith, length-append w (take v piece), length-take v piece)
 
   -- no record is completed: all is used, and what is left waits
-  kept : first_record all ≡ none → Took w piece (keeping all (length (offered piece)))
-  unfolding keeping Option-to_list
+  kept : first_record all ≡ None → Took w piece (keeping all (length (offered piece)))
+  unfolding keeping
   kept e =
       record {
         within = omega arith;
-        none_before = λ v l. early v (omega arith) (λ q f. absurd (none-ne-some q (sym e ∙ found_first f)));
+        none_before = λ v l. early v (omega arith) (λ q f. absurd (none-some q (sym e ∙ found_first f)));
         stops = inl refl;
         some_used = λ l. omega (arith, offers l);
         divides = rw all_offered (sym (λ i. record { records = none_records (none_found all e) i; skipped = (divide all).skipped; rest = (divide all).rest }));
@@ -120,7 +121,7 @@ module _ (w piece : List ℕ) where
 
     -- a record is completed
     completed : Took w piece (completing all (length w) p)
-    unfolding completing Option-to_list
+    unfolding completing
     completed =
         record {
           within = inside;
@@ -132,7 +133,7 @@ module _ (w piece : List ℕ) where
       where
         first_end : (v : ℕ) → v < end_of p - length w → (q : Place) → First all q → length w + v < end_of q
         first_end v l q g =
-            let e : p ≡ q = some-injective p q (sym (found_first f) ∙ found_first g) in
+            let e : p ≡ q = same_Some p q (sym (found_first f) ∙ found_first g) in
             rw (← e) (omega arith)
 
   -- every call
@@ -142,5 +143,5 @@ module _ (w piece : List ℕ) where
     where
       go : (m : Option Place) → first_record all ≡ m
           → Took w piece (or_else m (keeping all (length (offered piece))) (λ p. completing all (length w) p))
-      go none e = kept e
-      go (some p) e = completed waits p (first_found all p e)
+      go None e = kept e
+      go (Some p) e = completed waits p (first_found all p e)

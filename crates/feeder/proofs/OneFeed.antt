@@ -1,8 +1,8 @@
 -- One feeding call of the code: refused, or its bytes taken and its record done, as the definition says.
+use Rattle.std.specs.Prelude.{Some}
 use mathlib.Core.Path.{◌≡◌}
 use mathlib.Core.Bool.{true, false}
 use mathlib.Core.List.{List}
-use mathlib.Core.Option.{some}
 use Prim.Native.Nat.{ℕ, ◌≤◌, ◌<◌}
 use lib.ListN.{length}
 use borrow.Author.Tests.{lt-ltb, le-ltb}
@@ -28,7 +28,7 @@ module _ (f : Feeder) (piece b buffer : List ℕ) where
   -- ---- refused
 
   module _ {r : Absorbed} where
-    refused : (n : ℕ) → first_applying (checks f b buffer) ≡ some n → r ≡ refused_with n f.count → answer_for r f.waiting b buffer ≡ feed f piece b buffer
+    refused : (n : ℕ) → first_applying (checks f b buffer) ≡ Some n → r ≡ refused_with n f.count → answer_for r f.waiting b buffer ≡ feed f piece b buffer
     unfolding feed or_else refusing answer_for
     refused n q e = rw (q, e)
 

@@ -1,9 +1,10 @@
 -- What a refused call and a refused command leave, in bytes.
+use Rattle.std.specs.Prelude.{Option, None, Some}
 use mathlib.Core.Path.{◌≡◌, refl, sym, ap, ◌∙◌}
 use mathlib.Core.Logic.{◌≢◌, ◌↔◌}
 use mathlib.Core.Bool.{Bool, true, false, cond, not}
 use mathlib.Core.List.{List, [], ◌∷◌}
-use mathlib.Core.Option.{Option, none, some, none-ne-some}
+use Rattle.std.proofs.lemmas.Option.{none-some}
 use Prim.Native.Nat.{ℕ, zero, suc, ◌+◌, ◌*◌, ◌≤◌, ◌<◌}
 use native.Mathlib.Omega.{arith}
 use lib.Dec.{ltb}
@@ -49,8 +50,8 @@ unfolding feed or_else answering
 refused_call f piece b buffer = go (first_applying (checks f b buffer))
   where
     go : (m : Option ℕ) → (answer_by f piece b buffer m).fed.refusal ≢ 0 → Untouched f b buffer (answer_by f piece b buffer m)
-    go none h = absurd (h refl)
-    go (some n) h = refusing_leaves n f b buffer
+    go None h = absurd (h refl)
+    go (Some n) h = refusing_leaves n f b buffer
 
 -- ---- which calls are refused
 
@@ -69,7 +70,7 @@ module _ (f : Feeder) (piece b buffer : List ℕ) where
     where
       go : (left well small : Bool) → is_left f ≡ left → well_formed b ≡ well → ltb (length buffer) buffer_least ≡ small
           → Exactly f b buffer
-          (answer_by f piece b buffer (cond (not left) (some 1) (cond (not well) (some 2) (cond small (some 3) none)))).fed.refusal
+          (answer_by f piece b buffer (cond (not left) (Some 1) (cond (not well) (Some 2) (cond small (Some 3) None)))).fed.refusal
       go false well small p q r =
           ((λ h. p, λ h. refl), (λ h. impossible cc, λ h. impossible cc), (λ h. impossible cc, λ h. impossible cc), (λ h. impossible cc, λ h. impossible cc))
       go true false small p q r =
@@ -98,17 +99,17 @@ module _ (f : Feeder) (piece b buffer : List ℕ) where
 
   -- with no record completed nothing is replied, and with one something
   pub replied_exactly : (feed f piece b buffer).fed.refusal ≡ 0
-      → ((feed f piece b buffer).fed.replied ≡ 0) ↔ ((absorb (waiting_in f) piece).completed ≡ none)
+      → ((feed f piece b buffer).fed.replied ≡ 0) ↔ ((absorb (waiting_in f) piece).completed ≡ None)
   unfolding answering doing or_else exec_bytes
   replied_exactly h = rw (accepted_call h) (go (absorb (waiting_in f) piece).completed)
     where
-      go : (m : Option Record) → (length (doing m b).reply ≡ 0) ↔ (m ≡ none)
-      go none = (λ e. refl, λ e. refl)
-      go (some r) = (λ e. impossible (omega (arith, exec_some r.clock r.command (decode b))), λ e. impossible cc)
+      go : (m : Option Record) → (length (doing m b).reply ≡ 0) ↔ (m ≡ None)
+      go None = (λ e. refl, λ e. refl)
+      go (Some r) = (λ e. impossible (omega (arith, exec_some r.clock r.command (decode b))), λ e. impossible cc)
 
   -- a record that is refused writes its line alone
-  pub refused_writes : (feed f piece b buffer).fed.refusal ≡ 0 → (r : Record) → (absorb (waiting_in f) piece).completed ≡ some r
-      → (n : ℕ) → (exec r.clock r.command (decode b)).refusal ≡ some n
+  pub refused_writes : (feed f piece b buffer).fed.refusal ≡ 0 → (r : Record) → (absorb (waiting_in f) piece).completed ≡ Some r
+      → (n : ℕ) → (exec r.clock r.command (decode b)).refusal ≡ Some n
       → ((feed f piece b buffer).buffer ≡ laid_over (error_line n) buffer) × ((feed f piece b buffer).fed.replied ≡ length (error_line n))
   unfolding answering doing or_else exec_bytes
   refused_writes h r c n e =
@@ -121,11 +122,11 @@ reply_short clock command b well = reply_fits clock command (decode b) (decode_v
 
 doing_short : (m : Option Record) (b : List ℕ) → well_formed b ≡ true → length (doing m b).reply ≤ buffer_least
 unfolding doing or_else
-doing_short none b well = omega arith
-doing_short (some r) b well = reply_short r.clock r.command b well
+doing_short None b well = omega arith
+doing_short (Some r) b well = reply_short r.clock r.command b well
 
 -- a call of which no check applies has a well-formed store and a large buffer
-none_refused : (f : Feeder) (b buffer : List ℕ) → first_applying (checks f b buffer) ≡ none → (well_formed b ≡ true) × (buffer_least ≤ length buffer)
+none_refused : (f : Feeder) (b buffer : List ℕ) → first_applying (checks f b buffer) ≡ None → (well_formed b ≡ true) × (buffer_least ≤ length buffer)
 unfolding checks
 none_refused f b buffer e =
     let left = first_none _ _ e in
@@ -138,8 +139,8 @@ unfolding feed or_else answering refusing
 buffer_length f piece b buffer = go (first_applying (checks f b buffer)) refl
   where
     go : (m : Option ℕ) → first_applying (checks f b buffer) ≡ m → length (answer_by f piece b buffer m).buffer ≡ length buffer
-    go (some n) e = refl
-    go none e =
+    go (Some n) e = refl
+    go None e =
         let m : Option Record = (absorb (waiting_in f) piece).completed in
         let fine = none_refused f b buffer e in
         length_laid (doing m b).reply buffer (omega (arith, doing_short m b fine.0, fine.1))
@@ -152,18 +153,18 @@ buffer_beyond f piece b buffer = go (first_applying (checks f b buffer))
   where
     go : (m : Option ℕ)
         → drop (answer_by f piece b buffer m).fed.replied (answer_by f piece b buffer m).buffer ≡ drop (answer_by f piece b buffer m).fed.replied buffer
-    go none = drop_laid (doing (absorb (waiting_in f) piece).completed b).reply buffer
-    go (some n) = refl
+    go None = drop_laid (doing (absorb (waiting_in f) piece).completed b).reply buffer
+    go (Some n) = refl
 
 -- with no record completed, store and buffer are as they were
-pub no_record_keeps : (f : Feeder) (piece b buffer : List ℕ) → (absorb (waiting_in f) piece).completed ≡ none
+pub no_record_keeps : (f : Feeder) (piece b buffer : List ℕ) → (absorb (waiting_in f) piece).completed ≡ None
     → ((feed f piece b buffer).store ≡ b) × ((feed f piece b buffer).buffer ≡ buffer)
 unfolding feed or_else answering refusing
 no_record_keeps f piece b buffer e = go (first_applying (checks f b buffer))
   where
     go : (m : Option ℕ) → ((answer_by f piece b buffer m).store ≡ b) × ((answer_by f piece b buffer m).buffer ≡ buffer)
-    go none = unfold doing laid_over in rw e (refl, refl)
-    go (some n) = (refl, refl)
+    go None = unfold doing laid_over in rw e (refl, refl)
+    go (Some n) = (refl, refl)
 
 -- a reply lies in its buffer
 pub reply_inside : (f : Feeder) (piece b buffer : List ℕ) → (feed f piece b buffer).fed.replied ≤ length buffer
@@ -171,28 +172,28 @@ unfolding feed or_else answering refusing
 reply_inside f piece b buffer = go (first_applying (checks f b buffer)) refl
   where
     go : (m : Option ℕ) → first_applying (checks f b buffer) ≡ m → (answer_by f piece b buffer m).fed.replied ≤ length buffer
-    go (some n) e = omega arith
-    go none e =
+    go (Some n) e = omega arith
+    go None e =
         let fine = none_refused f b buffer e in
         omega (arith, doing_short (absorb (waiting_in f) piece).completed b fine.0, fine.1)
 
 -- ---- a refused command, in the store's bytes
 
 -- 10 to 18 leave the store byte for byte
-pub early_bytes : (clock : ℕ) (command b : List ℕ) (n : ℕ) → well_formed b ≡ true → (exec clock command (decode b)).refusal ≡ some n → n ≤ early_most
+pub early_bytes : (clock : ℕ) (command b : List ℕ) (n : ℕ) → well_formed b ≡ true → (exec clock command (decode b)).refusal ≡ Some n → n ≤ early_most
     → (exec_bytes clock command b).store ≡ b
 unfolding exec_bytes
 early_bytes clock command b n well r l = ap encode (early_refusal clock command (decode b) n r l) ∙ encode_decode b well
 
 -- a slot that holds an entry is one of the slots
-held_inside : (ss : List Slot) (i : ℕ) (e : Entry) → get_or ss i none ≡ some e → i < length ss
-held_inside [] i e h = absurd (none-ne-some e h)
+held_inside : (ss : List Slot) (i : ℕ) (e : Entry) → get_or ss i None ≡ Some e → i < length ss
+held_inside [] i e h = absurd (none-some e h)
 held_inside (s ∷ ss) zero e h = omega arith
 held_inside (s ∷ ss) (suc i) e h = omega (arith, held_inside ss i e h)
 
 -- every live entry's slot is left byte for byte, whatever the refusal
-pub live_bytes : (clock : ℕ) (command b : List ℕ) (n : ℕ) → well_formed b ≡ true → (exec clock command (decode b)).refusal ≡ some n
-    → (i : ℕ) (e : Entry) → i < slot_count b → get_or (decode b).slots i none ≡ some e → live (now_at clock (decode b)) e ≡ true
+pub live_bytes : (clock : ℕ) (command b : List ℕ) (n : ℕ) → well_formed b ≡ true → (exec clock command (decode b)).refusal ≡ Some n
+    → (i : ℕ) (e : Entry) → i < slot_count b → get_or (decode b).slots i None ≡ Some e → live (now_at clock (decode b)) e ≡ true
     → part (header_size + slot_size * i) slot_size (exec_bytes clock command b).store ≡ part (header_size + slot_size * i) slot_size b
 unfolding exec_bytes
 live_bytes clock command b n well r i e l h alive =
@@ -204,5 +205,5 @@ live_bytes clock command b n well r i e l h alive =
     after : Store
     after = (exec clock command (decode b)).store
 
-    kept : get_or after.slots i none ≡ some e
+    kept : get_or after.slots i None ≡ Some e
     kept = refused_keeps_live clock command (decode b) n r i e h alive

@@ -1,8 +1,8 @@
 -- Where reading stops: from a byte to skip on it stops where it stops from the next.
+use Rattle.std.specs.Prelude.{Option, None, Some}
 use mathlib.Core.Path.{◌≡◌, refl, sym, ap, ◌∙◌}
 use mathlib.Core.Bool.{Bool, true, false, cond, not, ◌&&◌, false≢true}
 use mathlib.Core.List.{List, ◌∷◌, ◌++◌}
-use mathlib.Core.Option.{Option, none, some}
 use Prim.Native.Nat.{ℕ, zero, suc, ◌+◌, ◌-◌, ◌≤◌, ◌<◌}
 use native.Mathlib.Nat.{add-zero, zero-add}
 use native.Mathlib.Numerals.{add-one}
@@ -37,12 +37,12 @@ stop_cons b s = go (head_of (b ∷ s)) (first_record s)
     go : (h : Head) (m : Option Place)
         → or_else (placed_at h m) (stops.Rest (divided_at h (b ∷ s) (λ k. divide_after k s)).skipped) (λ p. stops.Record p.at p.size)
         ≡ stopped_at h (or_else m (stops.Rest (divide_after 0 s).skipped) (λ p. stops.Record p.at p.size))
-    go skip none = ap stops.Rest (omega arith)
-    go skip (some p) = ap (λ (n : ℕ). stops.Record n p.size) (omega arith)
-    go (whole n) none = refl
-    go (whole n) (some p) = refl
-    go wait none = refl
-    go wait (some p) = refl
+    go skip None = ap stops.Rest (omega arith)
+    go skip (Some p) = ap (λ (n : ℕ). stops.Record n p.size) (omega arith)
+    go (whole n) None = refl
+    go (whole n) (Some p) = refl
+    go wait None = refl
+    go wait (Some p) = refl
 
 module _ (s : List ℕ) (k : ℕ) where
   stop_step : k < length s → stop_from k s ≡ later_by k (stopped_at (head_of (drop k s)) (stop_of (drop (suc k) s)))
@@ -104,27 +104,27 @@ stop_begins s = go (stop_of s)
 
 -- what a stop says
 data Stopped (s : List ℕ) : Stop → Type 0 where
-  at_record : {at n : ℕ} → first_record s ≡ some (record { at = at; size = n }) → Stopped s (stops.Record at n)
-  at_rest : {k : ℕ} → first_record s ≡ none → (divide s).skipped ≡ k → Stopped s (stops.Rest k)
+  at_record : {at n : ℕ} → first_record s ≡ Some (record { at = at; size = n }) → Stopped s (stops.Record at n)
+  at_rest : {k : ℕ} → first_record s ≡ None → (divide s).skipped ≡ k → Stopped s (stops.Rest k)
 
 stop_says : (s : List ℕ) (m : Stop) → m ≡ stop_of s → Stopped s m
 unfolding stop_of or_else
 stop_says s m e = rw e (go (first_record s) refl)
   where
     go : (f : Option Place) → first_record s ≡ f → Stopped s (or_else f (stops.Rest (divide s).skipped) (λ p. stops.Record p.at p.size))
-    go none q = at_rest q refl
-    go (some p) q = at_record q
+    go None q = at_rest q refl
+    go (Some p) q = at_record q
 
-pub stop_record : (s : List ℕ) (at n : ℕ) → stops.Record at n ≡ stop_of s → first_record s ≡ some (record { at = at; size = n })
+pub stop_record : (s : List ℕ) (at n : ℕ) → stops.Record at n ≡ stop_of s → first_record s ≡ Some (record { at = at; size = n })
 stop_record s at n e = go (stop_says s (stops.Record at n) e)
   where
-    go : Stopped s (stops.Record at n) → first_record s ≡ some (record { at = at; size = n })
+    go : Stopped s (stops.Record at n) → first_record s ≡ Some (record { at = at; size = n })
     go (at_record q) = q
 
-pub stop_rest : (s : List ℕ) (at : ℕ) → stops.Rest at ≡ stop_of s → (first_record s ≡ none) × ((divide s).skipped ≡ at)
+pub stop_rest : (s : List ℕ) (at : ℕ) → stops.Rest at ≡ stop_of s → (first_record s ≡ None) × ((divide s).skipped ≡ at)
 stop_rest s at e = go (stop_says s (stops.Rest at) e)
   where
-    go : Stopped s (stops.Rest at) → (first_record s ≡ none) × ((divide s).skipped ≡ at)
+    go : Stopped s (stops.Rest at) → (first_record s ≡ None) × ((divide s).skipped ≡ at)
     go (at_rest q k) = (q, k)
 
 -- ---- many bytes at a time

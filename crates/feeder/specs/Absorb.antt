@@ -1,6 +1,6 @@
 -- Absorbing (01, "The record"): what a call takes of its piece and hands out. It knows no store and no reply buffer.
+use Rattle.std.specs.Prelude.{Option, None, Some, option_map}
 use Rattle.std.specs.Prelude.{List, [], ◌∷◌, ◌++◌, ℕ, suc, ◌+◌, ◌-◌, length, take, drop}
-use Rattle.std.proofs.Math.Option.{Option, none, some, map}
 use Rattle.wire.specs.Lists.{or_else}
 use Rattle.feeder.specs.Record.{Record, Head, head_of, record_of, command_at}
 use Rattle.feeder.specs.Record.Head.{skip, whole, wait}
@@ -19,12 +19,12 @@ abbrev pub later : Place → Place
 later p = record { at = suc p.at; size = p.size }
 
 unfoldable pub placed_at : Head → Option Place → Option Place
-placed_at skip more = map later more
-placed_at (whole n) more = some (record { at = 0; size = n })
-placed_at wait more = none
+placed_at skip more = option_map later more
+placed_at (whole n) more = Some (record { at = 0; size = n })
+placed_at wait more = None
 
 unfoldable pub first_record : List ℕ → Option Place
-first_record [] = none
+first_record [] = None
 first_record (b ∷ s) = placed_at (head_of (b ∷ s)) (first_record s)
 
 -- just past a record
@@ -44,7 +44,7 @@ pub record Absorbing : Type 0 where
 
 -- no record is completed: the bytes looked at divide into skipped ones and a rest
 unfoldable pub keeping : List ℕ → ℕ → Absorbing
-keeping s used = record { used = used; skipped = (divide s).skipped; completed = none; rest = (divide s).rest }
+keeping s used = record { used = used; skipped = (divide s).skipped; completed = None; rest = (divide s).rest }
 
 -- "up to and with the last byte of the first record completed": all before the record is skipped, and nothing waits after it
 unfoldable pub completing : List ℕ → ℕ → Place → Absorbing
@@ -52,7 +52,7 @@ completing s waited p =
     record {
       used = end_of p - waited;
       skipped = p.at;
-      completed = some (record_of p.size (drop p.at s));
+      completed = Some (record_of p.size (drop p.at s));
       rest = [];
     }
 

@@ -1,6 +1,6 @@
 -- The paper's worked streams: "Whole example", and the mark that follows a stray 45.
+use Rattle.std.specs.Prelude.{None}
 use Rattle.std.specs.Prelude.{List, [], ◌∷◌, ◌++◌, ℕ}
-use Rattle.std.proofs.Math.Option.{none}
 use Prim.Native.String.{String}
 use Rattle.wire.specs.Bytes.{text}
 use Rattle.store.specs.Store.{encode}
@@ -14,7 +14,7 @@ whole_example =
     ++ text "*3\r\n$6\r\nEXHGET\r\n$1\r\nm\r\n$2\r\nt1\r\n"
 
 unfoldable pub empty_at : ℕ → List ℕ
-empty_at clock = encode (record { clock = clock; slots = none ∷ [] })
+empty_at clock = encode (record { clock = clock; slots = None ∷ [] })
 
 -- a stream on an empty store of one slot, and what it comes to
 pub record StreamCase : Type 0 where

@@ -1,6 +1,6 @@
 -- One feeding call (01, "The record" and refusals 1 to 3): checked, its bytes absorbed, and the record that they complete done.
+use Rattle.std.specs.Prelude.{Option}
 use Rattle.std.specs.Prelude.{not, List, [], ◌∷◌, ℕ, ltb, length}
-use Rattle.std.proofs.Math.Option.{Option}
 use Rattle.wire.specs.Lists.{or_else}
 use Rattle.wire.specs.Replies.{laid_over}
 use Rattle.store.specs.Store.{well_formed}

@@ -1,7 +1,7 @@
 -- A list of absorbing calls: each gets the bytes that the last one left waiting, and a piece of its own. Stores, replies and buffers are not
 -- spoken of here.
-use Rattle.std.specs.Prelude.{◌≡◌, ◌⊎◌, ℕ, suc, ◌+◌, ◌≤◌, ◌<◌, length, take}
-use mathlib.Core.List.{List, [], ◌∷◌, ◌++◌, Option-to_list}
+use Rattle.std.specs.Prelude.{option_to_list, ◌≡◌, ◌⊎◌, ℕ, suc, ◌+◌, ◌≤◌, ◌<◌, length, take}
+use mathlib.Core.List.{List, [], ◌∷◌, ◌++◌}
 use Rattle.feeder.specs.Stream.{Division, ended, divide}
 use Rattle.feeder.specs.Absorb.{offered, Absorbing, absorb}
 
@@ -21,7 +21,7 @@ counted t piece a =
       used = t.used ++ take a.used piece;
       divided =
           record {
-            records = t.divided.records ++ Option-to_list a.completed;
+            records = t.divided.records ++ option_to_list a.completed;
             skipped = t.divided.skipped + a.skipped;
             rest = a.rest;
           };

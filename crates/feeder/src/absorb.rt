@@ -1,6 +1,6 @@
 // Taking bytes: up to the first record completed, which is done, the piece's end or 65,536 bytes.
 ghost use Rattle.std.specs.Prelude.{◌≡◌, true, ◌++◌, ◌+◌, ◌≤◌, ◌<◌, length, take, drop};
-ghost use Rattle.std.proofs.Math.Option.{some};
+ghost use Rattle.std.specs.Prelude.{Some};
 ghost use Rattle.wire.specs.Replies.{laid_over};
 ghost use Rattle.store.specs.Store.{well_formed};
 ghost use Rattle.commands.specs.Refusal.{buffer_least};
@@ -61,7 +61,7 @@ fn append(out: &mut [u8], count: usize, piece: &[u8])
 fn do_record(bytes: &[u8], size: usize, store: &mut [u8], reply: &mut [u8]) -> Executed
     requires size_in_bounds { command_at + size ≤ length bytes.now }
     requires store_value { (well_formed store.old ≡ true) × (buffer_least ≤ length reply.old) }
-    ensures { let done = doing (some (record_of size bytes.now)) store.old in
+    ensures { let done = doing (Some (record_of size bytes.now)) store.old in
         Replied done store.new reply.old reply.new result }
 {
     let clock = read_le(&bytes[CLOCK_AT..LENGTH_AT]);
@@ -80,7 +80,7 @@ fn do_joined(
 ) -> Executed
     requires completing { Completing waiting.now piece.now at size × (at < length waiting.now) }
     requires store_value { (well_formed store.old ≡ true) × (buffer_least ≤ length reply.old) }
-    ensures { let done = doing (some (record_of size (drop at (waiting.now ++ piece.now)))) store.old in
+    ensures { let done = doing (Some (record_of size (drop at (waiting.now ++ piece.now)))) store.old in
         Replied done store.new reply.old reply.new result }
 {
     let end = at + (COMMAND_AT + size) - waiting.len();
@@ -100,7 +100,7 @@ fn complete(
 ) -> Executed
     requires completing { Completing waiting.now piece.now at size }
     requires store_value { (well_formed store.old ≡ true) × (buffer_least ≤ length reply.old) }
-    ensures { let done = doing (some (record_of size (drop at (waiting.now ++ piece.now)))) store.old in
+    ensures { let done = doing (Some (record_of size (drop at (waiting.now ++ piece.now)))) store.old in
         Replied done store.new reply.old reply.new result }
 {
     let count = waiting.len();

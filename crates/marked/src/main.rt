@@ -9,9 +9,9 @@ ghost use Rattle.store.specs.Promises.{Held};
 use commands::execute::{BUFFER_LEAST, execute};
 use store::check::well_formed;
 use store::layout::{HEADER_SIZE, SLOT_SIZE};
-use store::{Expiry, read};
+use store::read;
 use wire::bytes::clear;
-use wire::integers::{Natural, read_natural};
+use wire::integers::read_natural;
 use wire::replies::{put_bulk, put_header};
 
 // The descriptors of the standard streams.
@@ -144,10 +144,10 @@ fn run_line(clock: u64, line: &[u8], store: &mut [u8]) {
     answer(clock, &command[..n], store);
 }
 
-fn show_expiry(expiry: Expiry) {
+fn show_expiry(expiry: Option<u64>) {
     match expiry {
-        Expiry::Never => write(b"no expiry\n"),
-        Expiry::At(instant) => say(b"expires at ", instant, b"\n"),
+        None => write(b"no expiry\n"),
+        Some(instant) => say(b"expires at ", instant, b"\n"),
     }
 }
 
@@ -196,7 +196,7 @@ fn take_line(line: &[u8], store: &mut [u8]) {
         return;
     }
     let end = find_byte(line, 0, SPACE);
-    let Natural::Value(clock) = read_natural(&line[..end], LATEST) else {
+    let Some(clock) = read_natural(&line[..end], LATEST) else {
         clear(store);
         write_spelt(line);
         return;

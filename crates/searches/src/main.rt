@@ -5,7 +5,6 @@
 
 ghost use Rattle.std.specs.Prelude.{◌≤◌, ◌<◌, length};
 
-use store::Found;
 
 // The descriptors of the standard streams.
 const STDIN: i32 = 0;
@@ -20,12 +19,12 @@ fn put(text: &[u8]) {
     io::write_all(STDOUT, text);
 }
 
-fn put_slot(found: Found) {
+fn put_slot(found: Option<usize>) {
     match found {
-        Found::At(i) => {
+        Some(i) => {
             io::print_decimal(STDOUT, i as u64);
         }
-        Found::Nothing => {
+        None => {
             put(b"-");
         }
     }

@@ -1,8 +1,9 @@
 -- Laws of the Bloom filter of names: a name that was inserted has its bits, so that a slot whose name lacks one clashes with no slot seen before.
+use Rattle.std.specs.Prelude.{None, Some}
 use mathlib.Core.Path.{◌≡◌, refl, sym, ap, ap₂, subst, ◌∙◌}
 use mathlib.Core.Bool.{Bool, true, false, cond, not, and-true, and-false}
 use mathlib.Core.List.{List, [], ◌∷◌}
-use mathlib.Core.Option.{none, some, none-ne-some}
+use Rattle.std.proofs.lemmas.Option.{none-some}
 use Prim.Native.Nat.{ℕ, zero, suc, ◌+◌, ◌-◌, ◌*◌, ◌/◌, ◌%◌, ◌^◌, ◌≤◌, ◌<◌, max}
 use native.Mathlib.Nat.{one-mul}
 use native.Mathlib.Omega.{arith}
@@ -29,7 +30,7 @@ use Rattle.store.proofs.StoreChecks.{slots_of_at, length_slots_of, slot_bytes_le
 
 -- ---- names
 
-module _ (t : List ℕ) (w : SlotBytes t) (e : Entry) (h : decode_slot t ≡ some e) where
+module _ (t : List ℕ) (w : SlotBytes t) (e : Entry) (h : decode_slot t ≡ Some e) where
   -- its entry fits, and its bytes are the entry's
   entry_fits : Fits e
   entry_fits = subst FitsSlot h (decode_fits_slot t w.size w.bytes w.well)
@@ -44,7 +45,7 @@ module _ (t : List ℕ) (w : SlotBytes t) (e : Entry) (h : decode_slot t ≡ som
   name_entry = rw (← entry_back, key_bytes e entry_fits, field_bytes e entry_fits)
 
 -- slots that clash have the same name
-pub clash_name : (t u : List ℕ) → SlotBytes t → SlotBytes u → (d e : Entry) → decode_slot t ≡ some d → decode_slot u ≡ some e → clash (some d) (some e) ≡ true
+pub clash_name : (t u : List ℕ) → SlotBytes t → SlotBytes u → (d e : Entry) → decode_slot t ≡ Some d → decode_slot u ≡ Some e → clash (Some d) (Some e) ≡ true
     → name_hash t ≡ name_hash u
 unfolding clash or_else
 clash_name t u v w d e p q h =
@@ -167,28 +168,28 @@ module _ (count : ℕ) (b : List ℕ) (i : ℕ) (m : List ℕ) (c : Turn count b
   -- a later slot of another name does not clash
   apart_go : (j : ℕ) → i < j → j < count → may_contain (name_hash (slot_at b i)) m ≡ false
       → (s u : Slot) → decode_slot (slot_at b i) ≡ s → decode_slot (slot_at b j) ≡ u → (x : Bool) → clash s u ≡ x → clash s u ≡ false
-  apart_go j l n f none u p q x h = none_clash u
-  apart_go j l n f (some d) none p q x h = clash_none (some d)
-  apart_go j l n f (some d) (some e) p q false h = h
-  apart_go j l n f (some d) (some e) p q true h =
+  apart_go j l n f None u p q x h = none_clash u
+  apart_go j l n f (Some d) None p q x h = clash_none (Some d)
+  apart_go j l n f (Some d) (Some e) p q false h = h
+  apart_go j l n f (Some d) (Some e) p q true h =
       let same_name : name_hash (slot_at b i) ≡ name_hash (slot_at b j)
       = clash_name (slot_at b i) (slot_at b j) (slot_bytes_lem count b i i c.slots (omega arith) c.inside) (slot_bytes_lem count b i j c.slots (omega arith) n) d e p q h in
-      let held : get_or (slot_at b j) state_at 0 ≡ empty_state → ⊥ = λ z. none-ne-some e (sym (state_empty (slot_at b j) z) ∙ q) in
+      let held : get_or (slot_at b j) state_at 0 ≡ empty_state → ⊥ = λ z. none-some e (sym (state_empty (slot_at b j) z) ∙ q) in
       both_ways (rw same_name (c.covered.names j (omega arith) n held)) f
 
   -- a slot whose name is new clashes with no later one
   pub new_apart : may_contain (name_hash (slot_at b i)) m ≡ false → any (clash (decode_slot (slot_at b i))) (drop (i + 1) (slots_of count b)) ≡ false
-  new_apart f = any_none (clash (decode_slot (slot_at b i))) (drop (i + 1) (slots_of count b)) none each
+  new_apart f = any_none (clash (decode_slot (slot_at b i))) (drop (i + 1) (slots_of count b)) None each
     where
-      each : (k : ℕ) → k < length (drop (i + 1) (slots_of count b)) → clash (decode_slot (slot_at b i)) (get_or (drop (i + 1) (slots_of count b)) k none) ≡ false
+      each : (k : ℕ) → k < length (drop (i + 1) (slots_of count b)) → clash (decode_slot (slot_at b i)) (get_or (drop (i + 1) (slots_of count b)) k None) ≡ false
       each k l =
           let n : i + 1 + k < count = omega (arith, length-drop (i + 1) (slots_of count b), length_slots_of count b) in
-          rw (get_or-drop (i + 1) (slots_of count b) k none, slots_of_at count b (i + 1 + k) n)
+          rw (get_or-drop (i + 1) (slots_of count b) k None, slots_of_at count b (i + 1 + k) n)
           (apart_go (i + 1 + k) (omega arith) n f (decode_slot (slot_at b i)) (decode_slot (slot_at b (i + 1 + k))) refl refl _ refl)
 
   -- an empty slot clashes with none
   pub empty_apart : get_or (slot_at b i) state_at 0 ≡ empty_state → any (clash (decode_slot (slot_at b i))) (drop (i + 1) (slots_of count b)) ≡ false
-  empty_apart h = rw (state_empty (slot_at b i) h) (any_none (clash none) (drop (i + 1) (slots_of count b)) none (λ k l. none_clash (get_or (drop (i + 1) (slots_of count b)) k none)))
+  empty_apart h = rw (state_empty (slot_at b i) h) (any_none (clash None) (drop (i + 1) (slots_of count b)) None (λ k l. none_clash (get_or (drop (i + 1) (slots_of count b)) k None)))
 
   -- the filter of the slots from this one on
   pub covered_again : Covered count b i (with_slot_name (slot_at b i) m)
@@ -305,7 +306,7 @@ module _ (count : ℕ) (b : List ℕ) where
           let n : i - 1 < count = omega (arith, f.inside) in
           let k : i - 1 < length (slots_of count b) = omega (arith, length_slots_of count b) in
           let d : drop (i - 1) (slots_of count b) ≡ decode_slot (slot_at b (i - 1)) ∷ drop i (slots_of count b)
-          = drop-cons (slots_of count b) (i - 1) none k ∙ rw (slots_of_at count b (i - 1) n, s) in
+          = drop-cons (slots_of count b) (i - 1) None k ∙ rw (slots_of_at count b (i - 1) n, s) in
           rw (d, f.apart, e) (and-true (not (any (clash (decode_slot (slot_at b (i - 1)))) (drop i (slots_of count b)))))
 
       module _ (n : List ℕ) (r : Bool) (t : Turned count b (i - 1) m n r) where

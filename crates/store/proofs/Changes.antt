@@ -1,8 +1,8 @@
 -- Bytes of a store written anew: those of one slot, or of the clock, and what the store then holds.
+use Rattle.std.specs.Prelude.{Option, None, Some}
 use mathlib.Core.Path.{◌≡◌, refl, sym, ap, subst, ◌∙◌}
 use mathlib.Core.Bool.{Bool, true, false, cond, false≢true}
 use mathlib.Core.List.{List, [], ◌∷◌, ◌++◌, map, flatten, append_assoc}
-use mathlib.Core.Option.{none, some}
 use Prim.Native.Nat.{ℕ, zero, suc, ◌+◌, ◌-◌, ◌*◌, ◌≤◌, ◌<◌}
 use native.Mathlib.Omega.{arith}
 use lib.Dec.{eqb}
@@ -12,7 +12,6 @@ use borrow.Rule.Slice.PartMut.{mid_of, put_mid}
 use Rattle.wire.specs.Lists.{or_else}
 use Rattle.wire.specs.Bytes.{to_le, part}
 use Rattle.wire.proofs.ByteLaws.{length_to_le}
-use Rattle.store.specs.declared.Expiry.{Expiry}
 use Rattle.store.specs.Layout.{header_size, slot_size, clock_size, reserved_size, time_limit, version_most}
 use Rattle.store.specs.Store.{Entry, Slot, Store, slot_count, decode, encode_entry, encode_slot, encode, clash, instant_of, well_formed, with_clock, entry_at}
 use Rattle.store.specs.Time.{empty_slot}
@@ -74,7 +73,7 @@ module _ (s : Store) (v : Valid s) where
   -- ---- a store stays valid
 
   -- with another slot that fits and clashes with no other
-  slot_valid : (i : ℕ) (x : Slot) → i < length s.slots → FitsSlot x → ((j : ℕ) → (i ≡ j → ⊥) → clash x (get_or s.slots j none) ≡ false)
+  slot_valid : (i : ℕ) (x : Slot) → i < length s.slots → FitsSlot x → ((j : ℕ) → (i ≡ j → ⊥) → clash x (get_or s.slots j None) ≡ false)
       → Valid (with_slot i x s)
   slot_valid i x l f a =
       record {
@@ -85,7 +84,7 @@ module _ (s : Store) (v : Valid s) where
         apart = apart_set s.slots i x l v.apart a;
       }
     where
-      each : (j : ℕ) (t : Bool) → FitsSlot (cond t x (get_or s.slots j none))
+      each : (j : ℕ) (t : Bool) → FitsSlot (cond t x (get_or s.slots j None))
       each j true = f
       each j false = v.fits j
 
@@ -116,14 +115,14 @@ module _ (b : List ℕ) (h : well_formed b ≡ true) where
     inside = rw (length_decode b) l
 
     -- a slot's bytes written anew
-    pub slot_written : (x : Slot) → FitsSlot x → ((j : ℕ) → (i ≡ j → ⊥) → clash x (get_or (decode b).slots j none) ≡ false)
+    pub slot_written : (x : Slot) → FitsSlot x → ((j : ℕ) → (i ≡ j → ⊥) → clash x (get_or (decode b).slots j None) ≡ false)
         → Holds (put_mid (header_size + slot_size * i) slot_size b (encode_slot x)) (with_slot i x (decode b))
     slot_written x f a =
         encode_holds (ap (λ (z : List ℕ). put_mid (header_size + slot_size * i) slot_size z (encode_slot x)) (sym (encode_decode b h)) ∙ encode_slot_lem (decode b) (decode_valid b h) i x inside)
         (slot_valid (decode b) (decode_valid b h) i x inside f a)
 
     -- a slot's bytes are those of what it holds
-    pub slot_read : part (header_size + slot_size * i) slot_size b ≡ encode_slot (get_or (decode b).slots i none)
+    pub slot_read : part (header_size + slot_size * i) slot_size b ≡ encode_slot (get_or (decode b).slots i None)
     slot_read = ap (λ (z : List ℕ). part (header_size + slot_size * i) slot_size z) (sym (encode_decode b h)) ∙ encode_at (decode b) (decode_valid b h) i inside
 
     -- a slot's bytes are 128
@@ -133,7 +132,7 @@ module _ (b : List ℕ) (h : well_formed b ≡ true) where
         rw e (length-take-le slot_size (drop (header_size + slot_size * i) b) (rw length-drop (omega (arith, (well_formed_lem b h).size))))
 
     -- a slot's bytes are those of x
-    slot_put : (x : Slot) (y : List ℕ) → FitsSlot x → ((j : ℕ) → (i ≡ j → ⊥) → clash x (get_or (decode b).slots j none) ≡ false) → y ≡ encode_slot x
+    slot_put : (x : Slot) (y : List ℕ) → FitsSlot x → ((j : ℕ) → (i ≡ j → ⊥) → clash x (get_or (decode b).slots j None) ≡ false) → y ≡ encode_slot x
         → Holds (replaced i b y) (with_slot i x (decode b))
     slot_put x y f a q =
         let e : header_size + slot_size * i + slot_size - (header_size + slot_size * i) ≡ slot_size = omega arith in
@@ -141,28 +140,28 @@ module _ (b : List ℕ) (h : well_formed b ≡ true) where
 
     -- a slot's bytes are zero
     pub slot_cleared : (y : List ℕ) → y ≡ replicate (length (slot_of i b)) 0
-        → Holds (replaced i b y) (with_slot i none (decode b))
+        → Holds (replaced i b y) (with_slot i None (decode b))
     unfolding encode_slot
-    slot_cleared y q = slot_put none y tt (λ j d. none_clash (get_or (decode b).slots j none)) (q ∙ ap (λ (n : ℕ). replicate n 0) size)
+    slot_cleared y q = slot_put None y tt (λ j d. none_clash (get_or (decode b).slots j None)) (q ∙ ap (λ (n : ℕ). replicate n 0) size)
 
 -- an entry is put into a slot
 pub slot_placed : (b : List ℕ) (i : ℕ) (e : Entry) (y : List ℕ) → Placeable b i e → y ≡ encode_entry e
-    → Holds (replaced i b y) (with_slot i (some e) (decode b))
+    → Holds (replaced i b y) (with_slot i (Some e) (decode b))
 unfolding encode_slot clash or_else
 slot_placed b i e y p q =
-    slot_put b p.well i p.inside (some e) y p.fits p.alone q
+    slot_put b p.well i p.inside (Some e) y p.fits p.alone q
 
 -- a slot that is not empty holds its entry
-pub held_entry : (ss : List Slot) (i : ℕ) → empty_slot (get_or ss i none) ≡ false → get_or ss i none ≡ some (entry_at ss i)
+pub held_entry : (ss : List Slot) (i : ℕ) → empty_slot (get_or ss i None) ≡ false → get_or ss i None ≡ Some (entry_at ss i)
 unfolding entry_at empty_slot or_else
-held_entry ss i h = go (get_or ss i none) refl
+held_entry ss i h = go (get_or ss i None) refl
   where
-    go : (o : Slot) → get_or ss i none ≡ o → get_or ss i none ≡ some (entry_at ss i)
-    go none q = let z : ◌≡◌ {A = Bool} true false = rw q at h in absurd (false≢true (sym z))
-    go (some e) q = q ∙ rw q
+    go : (o : Slot) → get_or ss i None ≡ o → get_or ss i None ≡ Some (entry_at ss i)
+    go None q = let z : ◌≡◌ {A = Bool} true false = rw q at h in absurd (false≢true (sym z))
+    go (Some e) q = q ∙ rw q
 
 -- an entry with another version and expiry fits if these do
-pub stamped_fits : {e : Entry} (n : ℕ) (x : Expiry) → Fits e → n ≤ version_most → instant_of x ≤ time_limit → Fits (stamped n x e)
+pub stamped_fits : {e : Entry} (n : ℕ) (x : Option ℕ) → Fits e → n ≤ version_most → instant_of x ≤ time_limit → Fits (stamped n x e)
 stamped_fits n x h u w =
     record {
       short = h.short;
@@ -174,18 +173,18 @@ stamped_fits n x h u w =
     }
 
 -- the entry of a slot is stamped anew
-module _ (b : List ℕ) (i : ℕ) (n : ℕ) (x : Expiry) (y : List ℕ) (p : Held b i) where
+module _ (b : List ℕ) (i : ℕ) (n : ℕ) (x : Option ℕ) (y : List ℕ) (p : Held b i) where
   old : Entry
   old = entry_at (decode b).slots i
 
-  here : get_or (decode b).slots i none ≡ some old
+  here : get_or (decode b).slots i None ≡ Some old
   unfolding old
   here = held_entry (decode b).slots i p.held
 
   fits : Fits old
   fits = subst FitsSlot here ((decode_valid b p.well).fits i)
 
-  alone : (j : ℕ) → (i ≡ j → ⊥) → clash (some (stamped n x old)) (get_or (decode b).slots j none) ≡ false
+  alone : (j : ℕ) → (i ≡ j → ⊥) → clash (Some (stamped n x old)) (get_or (decode b).slots j None) ≡ false
   unfolding clash or_else
   alone j d = rw here at (apart_at (decode b).slots (decode_valid b p.well).apart i j d)
 
@@ -196,10 +195,10 @@ module _ (b : List ℕ) (i : ℕ) (n : ℕ) (x : Expiry) (y : List ℕ) (p : Hel
   pub slot_stamped : n ≤ version_most → instant_of x ≤ time_limit
       → y ≡ stamped_bytes n x (slot_of i b)
       → Holds (replaced i b y)
-      (with_slot i (some (stamped n x (entry_at (decode b).slots i))) (decode b))
+      (with_slot i (Some (stamped n x (entry_at (decode b).slots i))) (decode b))
   unfolding encode_slot old
   slot_stamped u w q =
-      slot_put b p.well i p.inside (some (stamped n x old)) y
+      slot_put b p.well i p.inside (Some (stamped n x old)) y
       (stamped_fits n x fits u w)
       alone
       (q ∙ ap (stamped_bytes n x) bytes ∙ stamp_entry old n x)

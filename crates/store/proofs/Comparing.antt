@@ -1,8 +1,8 @@
 -- The bytes of a slot compared with a key and a field by words, and the search that counts them.
+use Rattle.std.specs.Prelude.{Option, None, Some}
 use mathlib.Core.Path.{◌≡◌, refl, sym, ap, ◌∙◌}
 use mathlib.Core.Bool.{Bool, true, false, false≢true, cond, not, ◌&&◌, ◌||◌}
 use mathlib.Core.List.{List, ◌++◌}
-use mathlib.Core.Option.{Option, none, some}
 use Prim.Native.Nat.{ℕ, suc, ◌+◌, ◌-◌, ◌*◌, ◌/◌, ◌%◌, ◌≤◌, ◌<◌}
 use native.Mathlib.Numerals.{add-one}
 use native.Mathlib.Omega.{arith}
@@ -13,12 +13,10 @@ use lib.Seq.{take-add, take_all, take-length, length-take-le, get_or-take, drop-
 use borrow.Author.Tests.{eq-eqb, ne_eqb, eqb-true, eqb-false}
 use Rattle.wire.specs.Lists.{or_else}
 use Rattle.wire.specs.Bytes.{Bytes, part, padded, same, from_le, to_le}
-use Rattle.store.specs.declared.Found.{Found}
-use Rattle.store.specs.declared.Found.TheVariants as founds
 use Rattle.store.specs.Layout.{header_size, slot_size, slots_most, state_at, key_length_at, field_length_at, empty_state, key_at, key_most, field_most}
 use Rattle.store.specs.Store.{Slot, decode_entry, decode_slot, decode, well_formed, holds}
 use Rattle.store.specs.Search.{skipped, run_compared, slot_compared, compared}
-use Rattle.store.specs.Promises.{SlotBytes, HeldBytes, slot_at, name_words, run_start, fingerprint_of, found_for, lowest_from, searched, searched_within}
+use Rattle.store.specs.Promises.{SlotBytes, HeldBytes, slot_at, name_words, run_start, fingerprint_of, lowest_from, searched, searched_within}
 use Rattle.store.proofs.Pieces.{length_part}
 use Rattle.wire.proofs.Lists.{both_ways, impossible}
 use Rattle.wire.proofs.ByteLaws.{bytes_append, bytes_padded, bytes_part, length_to_le, same_refl, same_true, to_le_from_le}
@@ -89,8 +87,8 @@ other_name k f k' f' d = go (same k k') refl (same f f') refl
 
 skipped_other : (k f : List ℕ) (s : Slot) → skipped k f s ≡ true → holds k f s ≡ false
 unfolding skipped holds or_else
-skipped_other k f none h = refl
-skipped_other k f (some e) h = other_name e.key e.field k f (λ p q.
+skipped_other k f None h = refl
+skipped_other k f (Some e) h = other_name e.key e.field k f (λ p q.
     false≢true (rw (p, q, eq-eqb (length k) (length k) refl, eq-eqb (length f) (length f) refl) at h))
 
 not_either : (a b : Bool) → not a || not b ≡ false → (a ≡ true) × (b ≡ true)
@@ -132,7 +130,7 @@ not_skipped t k f w h = go (eqb (get_or t state_at 0) empty_state) refl
         }
 
     go : (x : Bool) → eqb (get_or t state_at 0) empty_state ≡ x → Comparable t k f
-    go true e = both_ways {t = skipped k f none} refl (rw (state_empty t (eqb-true (get_or t state_at 0) empty_state e)) at h)
+    go true e = both_ways {t = skipped k f None} refl (rw (state_empty t (eqb-true (get_or t state_at 0) empty_state e)) at h)
     go false e = lengths (record { slot = w; held = eqb-false (get_or t state_at 0) empty_state e })
 
 six_words : (ws k f : List ℕ) → ws ≡ name_words k f → length ws ≡ 6
@@ -268,14 +266,14 @@ module _ (k f : List ℕ) (ss : List Slot) (i : ℕ) where
   counted_end l = rw (drop_of_length-le ss l)
 
   -- slot i is the match, or the search goes on
-  counted_hit : i < length ss → holds k f (get_or ss i none) ≡ true → compared k f (drop i ss) ≡ slot_compared k f (get_or ss i none)
+  counted_hit : i < length ss → holds k f (get_or ss i None) ≡ true → compared k f (drop i ss) ≡ slot_compared k f (get_or ss i None)
   unfolding compared
-  counted_hit l h = rw (drop-cons ss i none l, h) (omega arith)
+  counted_hit l h = rw (drop-cons ss i None l, h) (omega arith)
 
-  counted_skip : i < length ss → holds k f (get_or ss i none) ≡ false
-      → compared k f (drop i ss) ≡ slot_compared k f (get_or ss i none) + compared k f (drop (i + 1) ss)
+  counted_skip : i < length ss → holds k f (get_or ss i None) ≡ false
+      → compared k f (drop i ss) ≡ slot_compared k f (get_or ss i None) + compared k f (drop (i + 1) ss)
   unfolding compared
-  counted_skip l h = rw (drop-cons ss i none l, h, add-one)
+  counted_skip l h = rw (drop-cons ss i None l, h, add-one)
 
 -- among the first n slots, from one on: before slot i nothing was found, and m bytes were compared
 pub record Searching (k f b : List ℕ) (n from i m : ℕ) : Type 0 where
@@ -295,12 +293,12 @@ module _ {k f b : List ℕ} {n from i m : ℕ} (s : Searching k f b n from i m) 
   sized : length (take n (decode b).slots) ≡ n
   sized = length-take-le n (decode b).slots s.most
 
-  pub searching_ends : n ≤ i → record { found = founds.Nothing; compared = m } ≡ searched_within from n k f (decode b).slots
-  unfolding searched_within found_for
+  pub searching_ends : n ≤ i → record { found = None; compared = m } ≡ searched_within from n k f (decode b).slots
+  unfolding searched_within
   searching_ends l =
       let past : length (take n (decode b).slots) ≤ i = rw sized l in
       let bytes : m ≡ compared k f (drop from (take n (decode b).slots)) = omega (arith, s.total, counted_end k f (take n (decode b).slots) i past) in
-      let slot = ap found_for (sym (lowest_end (holds k f) (take n (decode b).slots) i past) ∙ s.rest) in
+      let slot = (sym (lowest_end (holds k f) (take n (decode b).slots) i past) ∙ s.rest) in
       λ j. record { found = slot j; compared = bytes j }
 
   -- few slots, so few bytes
@@ -321,15 +319,15 @@ module _ {k f b : List ℕ} {n from i m : ℕ} (s : Searching k f b n from i m) 
     inside : i < length (take n (decode b).slots)
     inside = rw sized l
 
-    slot_is : decode_slot t ≡ get_or (take n (decode b).slots) i none
-    slot_is = walk_means walk (omega (arith, s.most)) e ∙ sym (get_or-take n (decode b).slots i none l)
+    slot_is : decode_slot t ≡ get_or (take n (decode b).slots) i None
+    slot_is = walk_means walk (omega (arith, s.most)) e ∙ sym (get_or-take n (decode b).slots i None l)
 
-    searching_finds : holds k f (decode_slot t) ≡ true → record { found = founds.At i; compared = m + c } ≡ searched_within from n k f (decode b).slots
-    unfolding searched_within found_for
+    searching_finds : holds k f (decode_slot t) ≡ true → record { found = Some i; compared = m + c } ≡ searched_within from n k f (decode b).slots
+    unfolding searched_within
     searching_finds h =
         let last = counted_hit k f (take n (decode b).slots) i inside (rw slot_is at h) in
         let bytes : m + c ≡ compared k f (drop from (take n (decode b).slots)) = omega (arith, s.total, last, rw slot_is at q) in
-        let slot = ap found_for (sym (lowest_hit (holds k f) (take n (decode b).slots) i inside (rw slot_is at h)) ∙ s.rest) in
+        let slot = (sym (lowest_hit (holds k f) (take n (decode b).slots) i inside (rw slot_is at h)) ∙ s.rest) in
         λ j. record { found = slot j; compared = bytes j }
 
     searching_goes_on : holds k f (decode_slot t) ≡ false → Searching k f b n from (i + 1) (m + c)
@@ -420,14 +418,14 @@ module _ {k f ws b : List ℕ} {n from i m : ℕ} {t : List ℕ} {w : ℕ} (s : 
         (alike_fails t k f s.lengths w x y ws l s.alike s.key_bytes s.field_bytes s.words p refl d))
 
   -- all words are the same
-  pub in_slot_finds : 6 ≤ w → record { found = founds.At i; compared = m + (length k + length f) } ≡ searched_within from n k f (decode b).slots
+  pub in_slot_finds : 6 ≤ w → record { found = Some i; compared = m + (length k + length f) } ≡ searched_within from n k f (decode b).slots
   in_slot_finds l =
       searching_finds s.searching s.inside s.slot (alike_counts_all t k f s.lengths w l s.alike) (alike_holds t k f s.lengths w l s.alike)
 
 -- among all slots
 pub search_whole : (k f : List ℕ) (n : ℕ) (ss : List Slot) → n ≡ length ss → searched_within 0 n k f ss ≡ searched k f ss
 unfolding searched_within searched
-search_whole k f n ss e = rw (e, take-length ss) (λ j. record { found = found_for (lowest_begin (holds k f) ss j); compared = compared k f ss })
+search_whole k f n ss e = rw (e, take-length ss) (λ j. record { found = (lowest_begin (holds k f) ss j); compared = compared k f ss })
 
 -- ---- slots with the field's fingerprint, one by one
 
@@ -436,7 +434,7 @@ pub fingerprint_named : (k f : List ℕ) {ws : List ℕ} → ws ≡ name_words k
 unfolding name_words fingerprint_of
 fingerprint_named k f e = rw e
 
-module _ (k f : List ℕ) {b : List ℕ} {n i : ℕ} {o : Option ℕ} {r : Found} (s : Seek (holds k f) b n i o) (l : i < n)
+module _ (k f : List ℕ) {b : List ℕ} {n i : ℕ} {o : Option ℕ} {r : Option ℕ} (s : Seek (holds k f) b n i o) (l : i < n)
     (e : r ≡ (searched_within i (i + 1) k f (decode b).slots).found) where
   abbrev ss : List Slot
   ss = (decode b).slots
@@ -447,32 +445,31 @@ module _ (k f : List ℕ) {b : List ℕ} {n i : ℕ} {o : Option ℕ} {r : Found
   one : length (take (i + 1) ss) ≡ i + 1
   one = length-take-le (i + 1) ss (omega (arith, here))
 
-  only : get_or (take (i + 1) ss) i none ≡ get_or ss i none
-  only = get_or-take (i + 1) ss i none (omega arith)
+  only : get_or (take (i + 1) ss) i None ≡ get_or ss i None
+  only = get_or-take (i + 1) ss i None (omega arith)
 
   -- the slot is the match, or it is not
-  hit : holds k f (get_or ss i none) ≡ true → r ≡ founds.At i
-  unfolding searched_within found_for
-  hit h = e ∙ ap found_for (lowest_hit (holds k f) (take (i + 1) ss) i (rw one (omega arith)) (rw only h))
+  hit : holds k f (get_or ss i None) ≡ true → r ≡ Some i
+  unfolding searched_within
+  hit h = e ∙ (lowest_hit (holds k f) (take (i + 1) ss) i (rw one (omega arith)) (rw only h))
 
-  miss : holds k f (get_or ss i none) ≡ false → r ≡ founds.Nothing
-  unfolding searched_within found_for
+  miss : holds k f (get_or ss i None) ≡ false → r ≡ None
+  unfolding searched_within
   miss h =
       e
-      ∙ ap found_for (lowest_skip (holds k f) (take (i + 1) ss) i (rw one (omega arith)) (rw only h)
+      ∙ (lowest_skip (holds k f) (take (i + 1) ss) i (rw one (omega arith)) (rw only h)
       ∙ lowest_end (holds k f) (take (i + 1) ss) (i + 1) (rw one (omega arith)))
 
-  pub candidate_found : {j : ℕ} → r ≡ founds.At j → founds.At j ≡ found_for o
-  unfolding found_for
-  candidate_found {j} q = go (holds k f (get_or ss i none)) refl
+  pub candidate_found : {j : ℕ} → r ≡ Some j → Some j ≡ o
+  candidate_found {j} q = go (holds k f (get_or ss i None)) refl
     where
-      go : (x : Bool) → holds k f (get_or ss i none) ≡ x → founds.At j ≡ found_for o
-      go true h = sym q ∙ hit h ∙ ap found_for (sym (lowest_hit (holds k f) ss i here h) ∙ s.rest)
-      go false h = let z : founds.At j ≡ founds.Nothing = sym q ∙ miss h in impossible cc
+      go : (x : Bool) → holds k f (get_or ss i None) ≡ x → Some j ≡ o
+      go true h = sym q ∙ hit h ∙ (sym (lowest_hit (holds k f) ss i here h) ∙ s.rest)
+      go false h = let z : Some j ≡ None = sym q ∙ miss h in impossible cc
 
-  pub candidate_passed : r ≡ founds.Nothing → Seek (holds k f) b n (i + 1) o
-  candidate_passed q = go (holds k f (get_or ss i none)) refl
+  pub candidate_passed : r ≡ None → Seek (holds k f) b n (i + 1) o
+  candidate_passed q = go (holds k f (get_or ss i None)) refl
     where
-      go : (x : Bool) → holds k f (get_or ss i none) ≡ x → Seek (holds k f) b n (i + 1) o
-      go true h = let z : founds.At i ≡ founds.Nothing = sym (hit h) ∙ q in impossible cc
+      go : (x : Bool) → holds k f (get_or ss i None) ≡ x → Seek (holds k f) b n (i + 1) o
+      go true h = let z : Some i ≡ None = sym (hit h) ∙ q in impossible cc
       go false h = record { walk = s.walk; rest = sym (lowest_skip (holds k f) ss i here h) ∙ s.rest }

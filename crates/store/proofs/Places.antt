@@ -1,7 +1,7 @@
 -- Where a slot's bytes stand in a store's.
+use Rattle.std.specs.Prelude.{None}
 use mathlib.Core.Path.{◌≡◌, refl, ◌∙◌}
 use mathlib.Core.List.{List, []}
-use mathlib.Core.Option.{none}
 use Prim.Native.Nat.{ℕ, zero, suc, ◌+◌, ◌*◌, ◌<◌}
 use native.Mathlib.Omega.{arith}
 use lib.ListN.{length, take, drop, get_or, get_or-map}
@@ -27,12 +27,12 @@ unfolding slot_bytes part
 slot_part b i d l = rw (← drop-drop (slot_size * i) header_size b) (slots_in_at (slot_count b) (drop header_size b) i d l)
 
 -- a store's slot is what its bytes mean
-pub decode_at : (b : List ℕ) (i : ℕ) → i < slot_count b → get_or (decode b).slots i none ≡ decode_slot (part (header_size + slot_size * i) slot_size b)
+pub decode_at : (b : List ℕ) (i : ℕ) → i < slot_count b → get_or (decode b).slots i None ≡ decode_slot (part (header_size + slot_size * i) slot_size b)
 unfolding decode decode_slot
 decode_at b i l = get_or-map decode_slot (slot_bytes b) i [] ∙ rw (slot_part b i [] l)
 
 -- a slot's bytes are those of what it holds, whatever the other slots hold
-pub encode_at : (s : Store) → Valid s → (i : ℕ) → i < length s.slots → part (header_size + slot_size * i) slot_size (encode s) ≡ encode_slot (get_or s.slots i none)
+pub encode_at : (s : Store) → Valid s → (i : ℕ) → i < length s.slots → part (header_size + slot_size * i) slot_size (encode s) ≡ encode_slot (get_or s.slots i None)
 encode_at s v i l =
     let m : i < slot_count (encode s) = rw (count_encode s v) l in
-    rw (← slot_part (encode s) i (encode_slot none) m, slots_encode s v) (get_or-map encode_slot s.slots i none)
+    rw (← slot_part (encode s) i (encode_slot None) m, slots_encode s v) (get_or-map encode_slot s.slots i None)

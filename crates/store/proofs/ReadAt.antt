@@ -1,8 +1,8 @@
 -- Slot i of a well-formed store: its bytes, and what they mean.
+use Rattle.std.specs.Prelude.{None}
 use mathlib.Core.Path.{◌≡◌, refl, sym}
 use mathlib.Core.Bool.{true}
 use mathlib.Core.List.{List, []}
-use mathlib.Core.Option.{none}
 use Prim.Native.Nat.{ℕ, ◌+◌, ◌-◌, ◌*◌, ◌/◌, ◌≤◌, ◌<◌}
 use native.Mathlib.Omega.{arith}
 use lib.ListN.{length, drop, get_or}
@@ -54,7 +54,7 @@ module _ (b : List ℕ) (i : ℕ) (h : well_formed b ≡ true) (l : i < slot_cou
       })
 
 -- they mean what the store's slot holds
-pub slot_means : (b : List ℕ) (i : ℕ) {t : List ℕ} → i < slot_count b → t ≡ slot_at b i → decode_slot t ≡ get_or (decode b).slots i none
+pub slot_means : (b : List ℕ) (i : ℕ) {t : List ℕ} → i < slot_count b → t ≡ slot_at b i → decode_slot t ≡ get_or (decode b).slots i None
 slot_means b i l e = rw (e, decode_at b i l)
 
 -- ---- a slot that holds an entry
@@ -62,7 +62,7 @@ slot_means b i l e = rw (e, decode_at b i l)
 module _ {b t : List ℕ} {i : ℕ} (h : Held b i) (e : t ≡ slot_at b i) where
   not_empty : get_or t state_at 0 ≡ empty_state → ⊥
   unfolding empty_slot or_else
-  not_empty z = both_ways {t = empty_slot none} refl (rw (← slot_means b i h.inside e, state_empty t z) at h.held)
+  not_empty z = both_ways {t = empty_slot None} refl (rw (← slot_means b i h.inside e, state_empty t z) at h.held)
 
   -- its bytes are those of a slot that holds an entry
   pub held_bytes : HeldBytes t

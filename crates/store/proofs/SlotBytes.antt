@@ -1,8 +1,8 @@
 -- The bytes of one slot: what is read of them is what was written.
+use Rattle.std.specs.Prelude.{Option, None, Some}
 use mathlib.Core.Path.{◌≡◌, refl, ap}
 use mathlib.Core.Bool.{true, false, cond, ◌||◌}
 use mathlib.Core.List.{List, [], ◌∷◌, map, flatten}
-use mathlib.Core.Option.{none, some}
 use Prim.Native.Nat.{ℕ, zero, suc, ◌-◌, ◌≤◌, ◌<◌}
 use native.Mathlib.Omega.{arith}
 use lib.Dec.{leb, eqb}
@@ -12,8 +12,6 @@ use Rattle.wire.specs.Lists.{every, all}
 use Rattle.wire.specs.Bytes.{Bytes, from_le, to_le, part, padded, all_zero}
 use Rattle.wire.proofs.Lists.{and_both}
 use Rattle.wire.proofs.ByteLaws.{bytes_flatten, bytes_padded, bytes_to_le, bytes_zeros, drop_padded, from_le_to_le, length_padded, length_to_le, take_padded, zero_replicate}
-use Rattle.store.specs.declared.Expiry.{Expiry}
-use Rattle.store.specs.declared.Expiry.TheVariants.{Never, At}
 use Rattle.store.specs.Layout.{slot_size, state_at, key_length_at, field_length_at, value_length_at, empty_state, expiring_state, version_at, version_size, expiry_at, expiry_size, key_at, key_most, field_at, field_most, value_at, value_most, time_limit}
 use Rattle.store.specs.Store.{Entry, Slot, decode_expiry, decode_entry, decode_slot, state_of, instant_of, encode_entry, encode_slot, zero_beyond, held_well, length_tests, expiry_tests, place_tests, slot_well}
 use Rattle.store.specs.Valid.{Fits, FitsSlot}
@@ -49,26 +47,26 @@ beyond_at : (at size : ℕ) (s t : List ℕ) → part at size t ≡ padded size 
 unfolding zero_beyond
 beyond_at at size s t q = rw (q, drop_padded size s) (zero_replicate (size - length s))
 
-expiry_of : (x : Expiry) → cond (eqb (state_of x) expiring_state) (At (instant_of x)) Never ≡ x
+expiry_of : (x : Option ℕ) → cond (eqb (state_of x) expiring_state) (Some (instant_of x)) None ≡ x
 unfolding state_of instant_of
-expiry_of Never = refl
-expiry_of (At t) = refl
+expiry_of None = refl
+expiry_of (Some t) = refl
 
-held_state_lem : (x : Expiry) → eqb (state_of x) empty_state ≡ false
+held_state_lem : (x : Option ℕ) → eqb (state_of x) empty_state ≡ false
 unfolding state_of
-held_state_lem Never = refl
-held_state_lem (At t) = refl
+held_state_lem None = refl
+held_state_lem (Some t) = refl
 
-well_state : (x : Expiry) → leb (state_of x) expiring_state ≡ true
+well_state : (x : Option ℕ) → leb (state_of x) expiring_state ≡ true
 unfolding state_of
-well_state Never = refl
-well_state (At t) = refl
+well_state None = refl
+well_state (Some t) = refl
 
 -- an entry with no expiry has zero for one
-well_expiry : (x : Expiry) → (eqb (state_of x) expiring_state || all_zero (to_le expiry_size (instant_of x))) ≡ true
+well_expiry : (x : Option ℕ) → (eqb (state_of x) expiring_state || all_zero (to_le expiry_size (instant_of x))) ≡ true
 unfolding state_of instant_of to_le all_zero all
-well_expiry Never = refl
-well_expiry (At t) = refl
+well_expiry None = refl
+well_expiry (Some t) = refl
 
 module _ (e : Entry) (h : Fits e) where
   sized : map length (pieces e) ≡ sizes
@@ -184,7 +182,7 @@ module _ (e : Entry) (h : Fits e) where
   unfolding pieces
   bytes_encode_entry = rw encode_pieces (bytes_flatten (pieces e) each)
     where
-      state : (x : Expiry) → state_of x < 256
+      state : (x : Option ℕ) → state_of x < 256
       state x = omega (arith, leb-true (state_of x) expiring_state (well_state x))
 
       each : (i : ℕ) → Bytes (get_or (pieces e) i [])
@@ -205,23 +203,23 @@ module _ (e : Entry) (h : Fits e) where
 -- a slot's bytes are as many as a slot has
 pub length_encode_slot : (s : Slot) → FitsSlot s → length (encode_slot s) ≡ slot_size
 unfolding encode_slot
-length_encode_slot none h = refl
-length_encode_slot (some e) h = length_encode_entry e h
+length_encode_slot None h = refl
+length_encode_slot (Some e) h = length_encode_entry e h
 
 -- a slot is read back
 pub decode_encode_slot : (s : Slot) → FitsSlot s → decode_slot (encode_slot s) ≡ s
 unfolding encode_slot decode_slot
-decode_encode_slot none h = refl
-decode_encode_slot (some e) h = rw (state_at_lem e h, held_state_lem e.expiry) (ap some (decode_encode_entry e h))
+decode_encode_slot None h = refl
+decode_encode_slot (Some e) h = rw (state_at_lem e h, held_state_lem e.expiry) (ap Some (decode_encode_entry e h))
 
 -- a slot's bytes pass its test
 pub well_encode_slot : (s : Slot) → FitsSlot s → slot_well (encode_slot s) ≡ true
 unfolding encode_slot slot_well
-well_encode_slot none h = zero_replicate slot_size
-well_encode_slot (some e) h = rw (state_at_lem e h, held_state_lem e.expiry) (well_encode_entry e h)
+well_encode_slot None h = zero_replicate slot_size
+well_encode_slot (Some e) h = rw (state_at_lem e h, held_state_lem e.expiry) (well_encode_entry e h)
 
 -- a slot's bytes are bytes
 pub bytes_encode_slot : (s : Slot) → FitsSlot s → Bytes (encode_slot s)
 unfolding encode_slot
-bytes_encode_slot none h = bytes_zeros slot_size
-bytes_encode_slot (some e) h = bytes_encode_entry e h
+bytes_encode_slot None h = bytes_zeros slot_size
+bytes_encode_slot (Some e) h = bytes_encode_entry e h

@@ -1,8 +1,8 @@
 -- What a slot's parts are, in the forms in which the code takes them.
+use Rattle.std.specs.Prelude.{None, Some}
 use mathlib.Core.Path.{◌≡◌, refl, sym, ap, ◌∙◌}
 use mathlib.Core.Bool.{Bool, true, false, cond, not, ◌&&◌, and-true, and-false}
 use mathlib.Core.List.{List, ◌++◌}
-use mathlib.Core.Option.{none, some}
 use Prim.Native.Nat.{ℕ, ◌+◌, ◌-◌, ◌≤◌, ◌<◌}
 use native.Mathlib.Omega.{arith}
 use lib.Bits.{bit_xor, xor_zero_r}
@@ -14,7 +14,6 @@ use Rattle.wire.specs.Lists.{or_else}
 use Rattle.wire.specs.Bytes.{Bytes, part, padded, same, from_le}
 use Rattle.wire.proofs.ByteLaws.{bytes_part, to_le_from_le, same_refl, from_le_padded}
 use Rattle.wire.proofs.ByteLoops.{not_same}
-use Rattle.store.specs.declared.Expiry.TheVariants.{Never, At}
 use Rattle.store.specs.Layout.{state_at, key_length_at, field_length_at, empty_state, expiring_state, expiry_at, expiry_size, key_at, key_most, field_at, field_most}
 use Rattle.store.specs.Store.{Slot, decode_expiry, decode_entry, decode_slot, slot_well, holds}
 use Rattle.store.specs.Promises.{SlotBytes, HeldBytes, fingerprint_of}
@@ -29,19 +28,19 @@ part_of a n s = let e : a + n - a ≡ n = omega arith in rw e
 
 -- ---- by the state
 
-pub state_empty : (t : List ℕ) → get_or t state_at 0 ≡ empty_state → decode_slot t ≡ none
+pub state_empty : (t : List ℕ) → get_or t state_at 0 ≡ empty_state → decode_slot t ≡ None
 unfolding decode_slot
 state_empty t h = rw (eq-eqb (get_or t state_at 0) empty_state h)
 
-pub state_held : (t : List ℕ) → (get_or t state_at 0 ≡ empty_state → ⊥) → decode_slot t ≡ some (decode_entry t)
+pub state_held : (t : List ℕ) → (get_or t state_at 0 ≡ empty_state → ⊥) → decode_slot t ≡ Some (decode_entry t)
 unfolding decode_slot
 state_held t h = rw (ne_eqb (get_or t state_at 0) empty_state h)
 
-pub state_expiring : (t : List ℕ) → get_or t state_at 0 ≡ expiring_state → decode_expiry t ≡ At (from_le (part expiry_at expiry_size t))
+pub state_expiring : (t : List ℕ) → get_or t state_at 0 ≡ expiring_state → decode_expiry t ≡ Some (from_le (part expiry_at expiry_size t))
 unfolding decode_expiry
 state_expiring t h = rw (eq-eqb (get_or t state_at 0) expiring_state h)
 
-pub state_lasting : (t : List ℕ) → (get_or t state_at 0 ≡ expiring_state → ⊥) → decode_expiry t ≡ Never
+pub state_lasting : (t : List ℕ) → (get_or t state_at 0 ≡ expiring_state → ⊥) → decode_expiry t ≡ None
 unfolding decode_expiry
 state_lasting t h = rw (ne_eqb (get_or t state_at 0) expiring_state h)
 
@@ -51,7 +50,7 @@ pub empty_state_lem : (t : List ℕ) → empty_slot (decode_slot t) ≡ eqb (get
 unfolding empty_slot decode_slot or_else
 empty_state_lem t = go (eqb (get_or t state_at 0) empty_state)
   where
-    go : (x : Bool) → or_else (cond x none (some (decode_entry t))) true (λ e. false) ≡ x
+    go : (x : Bool) → or_else (cond x None (Some (decode_entry t))) true (λ e. false) ≡ x
     go true = refl
     go false = refl
 
@@ -75,8 +74,8 @@ dead_held t time h = rw (state_held t h)
 -- a live entry of a key is live, and of the key
 pub live_of_key_lem : (time : ℕ) (k : List ℕ) (s : Slot) → live_of_key time k s ≡ live_slot time s && of_key k s
 unfolding live_of_key live_slot of_key or_else
-live_of_key_lem time k none = refl
-live_of_key_lem time k (some e) = turned (same e.key k) (live time e)
+live_of_key_lem time k None = refl
+live_of_key_lem time k (Some e) = turned (same e.key k) (live time e)
   where
     turned : (a b : Bool) → a && b ≡ b && a
     turned true true = refl

@@ -1,8 +1,8 @@
 -- Laws of the tests of a store's bytes, in the forms in which the code makes them.
+use Rattle.std.specs.Prelude.{None}
 use mathlib.Core.Path.{◌≡◌, refl, sym, ◌∙◌}
 use mathlib.Core.Bool.{Bool, true, false, cond, ◌&&◌, and-true, and-false, or-true}
 use mathlib.Core.List.{List, [], ◌∷◌}
-use mathlib.Core.Option.{none}
 use Prim.Native.Nat.{ℕ, zero, suc, ◌+◌, ◌-◌, ◌*◌, ◌≤◌, ◌<◌}
 use native.Mathlib.Omega.{arith}
 use lib.Dec.{leb}
@@ -40,7 +40,7 @@ module _ (count : ℕ) (b : List ℕ) where
   piece_at i d l = rw (← drop-drop (slot_size * i) header_size b) (slots_in_at count (drop header_size b) i d l)
 
   -- what a slot holds is what its bytes mean
-  pub slots_of_at : (i : ℕ) → i < count → get_or (slots_of count b) i none ≡ decode_slot (slot_at b i)
+  pub slots_of_at : (i : ℕ) → i < count → get_or (slots_of count b) i None ≡ decode_slot (slot_at b i)
   unfolding slots_of decode_slot
   slots_of_at i l = get_or-map decode_slot pieces i [] ∙ rw (piece_at i [] l)
 
@@ -111,7 +111,7 @@ module _ (k f : List ℕ) (count : ℕ) (b : List ℕ) (from : ℕ) where
         let n : i - 1 < count = omega (arith, g.inside) in
         let m : i - 1 < length (slots_of count b) = omega (arith, length_slots_of count b) in
         let s : suc (i - 1) ≡ i = omega arith in
-        drop-cons (slots_of count b) (i - 1) none m ∙ rw (slots_of_at count b (i - 1) n, s)
+        drop-cons (slots_of count b) (i - 1) None m ∙ rw (slots_of_at count b (i - 1) n, s)
 
     pub seek_finds : holds k f (decode_slot (slot_at b (i - 1))) ≡ true → any (holds k f) (drop from (slots_of count b)) ≡ true
     unfolding any

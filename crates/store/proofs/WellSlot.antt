@@ -1,9 +1,9 @@
 -- The bytes of a slot that pass its test: they are the bytes of what they mean, and that fits.
+use Rattle.std.specs.Prelude.{None, Some}
 use mathlib.Core.Path.{◌≡◌, refl, sym}
 use mathlib.Core.Bool.{Bool, true, false, cond, ◌||◌}
 use mathlib.Core.List.{List, [], ◌∷◌}
 use mathlib.Core.Logic.{◌≢◌}
-use mathlib.Core.Option.{none, some}
 use Prim.Native.Nat.{ℕ, ◌+◌, ◌≤◌}
 use native.Mathlib.Omega.{arith}
 use lib.Dec.{eqb}
@@ -13,7 +13,6 @@ use Rattle.wire.specs.Lists.{every}
 use Rattle.wire.specs.Bytes.{Bytes, from_le, to_le, part, padded, all_zero}
 use Rattle.wire.proofs.Lists.{every_at}
 use Rattle.wire.proofs.ByteLaws.{bytes_part, padded_is}
-use Rattle.store.specs.declared.Expiry.TheVariants.{Never, At}
 use Rattle.store.specs.Layout.{slot_size, state_at, key_length_at, field_length_at, value_length_at, empty_state, expiring_state, version_at, version_size, expiry_at, expiry_size, key_at, key_most, field_at, field_most, value_at, value_most, time_limit}
 use Rattle.store.specs.Store.{Slot, decode_expiry, decode_entry, decode_slot, state_of, instant_of, encode_entry, encode_slot, zero_beyond, length_tests, expiry_tests, place_tests, held_well, slot_well}
 use Rattle.store.specs.Valid.{Fits, FitsSlot}
@@ -71,7 +70,7 @@ module _ (t : List ℕ) (l : length t ≡ slot_size) (b : Bytes t) (w : HeldTest
   unfolding decode_expiry state_of
   state_back = go (eqb (get_or t state_at 0) expiring_state) refl
     where
-      go : (x : Bool) → eqb (get_or t state_at 0) expiring_state ≡ x → state_of (cond x (At (from_le (part expiry_at expiry_size t))) Never) ≡ get_or t state_at 0
+      go : (x : Bool) → eqb (get_or t state_at 0) expiring_state ≡ x → state_of (cond x (Some (from_le (part expiry_at expiry_size t))) None) ≡ get_or t state_at 0
       go true q = sym (eqb-true (get_or t state_at 0) expiring_state q)
       go false q =
           let h : get_or t state_at 0 ≢ 2 = eqb-false (get_or t state_at 0) expiring_state q in
@@ -83,7 +82,7 @@ module _ (t : List ℕ) (l : length t ≡ slot_size) (b : Bytes t) (w : HeldTest
   expiry_back = go (eqb (get_or t state_at 0) expiring_state) w.never
     where
       go : (x : Bool) → (x || all_zero (part expiry_at expiry_size t)) ≡ true
-          → to_le expiry_size (instant_of (cond x (At (from_le (part expiry_at expiry_size t))) Never)) ≡ part expiry_at expiry_size t
+          → to_le expiry_size (instant_of (cond x (Some (from_le (part expiry_at expiry_size t))) None)) ≡ part expiry_at expiry_size t
       go true q = number_back expiry_at expiry_size t (omega arith) b
       go false q = sym (zeros_are expiry_size (part expiry_at expiry_size t) (length_part expiry_at expiry_size t (omega arith)) q)
 
@@ -91,7 +90,7 @@ module _ (t : List ℕ) (l : length t ≡ slot_size) (b : Bytes t) (w : HeldTest
   unfolding decode_expiry instant_of
   expiry_most = go (eqb (get_or t state_at 0) expiring_state)
     where
-      go : (x : Bool) → instant_of (cond x (At (from_le (part expiry_at expiry_size t))) Never) ≤ time_limit
+      go : (x : Bool) → instant_of (cond x (Some (from_le (part expiry_at expiry_size t))) None) ≤ time_limit
       go true = w.expiry
       go false = omega arith
 
@@ -140,11 +139,11 @@ module _ (t : List ℕ) (l : length t ≡ slot_size) (b : Bytes t) (w : HeldTest
 
 module _ (t : List ℕ) (l : length t ≡ slot_size) (b : Bytes t) (w : slot_well t ≡ true) where
   -- what holds of an empty slot and of a held one holds of what the slot means
-  slot_either : (P : Slot → Type 0) → (all_zero t ≡ true → P none) → (HeldTests t → (get_or t state_at 0 ≡ empty_state → ⊥) → P (some (decode_entry t))) → P (decode_slot t)
+  slot_either : (P : Slot → Type 0) → (all_zero t ≡ true → P None) → (HeldTests t → (get_or t state_at 0 ≡ empty_state → ⊥) → P (Some (decode_entry t))) → P (decode_slot t)
   unfolding decode_slot slot_well
   slot_either P p q = go (eqb (get_or t state_at 0) empty_state) refl w
     where
-      go : (x : Bool) → eqb (get_or t state_at 0) empty_state ≡ x → cond x (all_zero t) (held_well t) ≡ true → P (cond x none (some (decode_entry t)))
+      go : (x : Bool) → eqb (get_or t state_at 0) empty_state ≡ x → cond x (all_zero t) (held_well t) ≡ true → P (cond x None (Some (decode_entry t)))
       go true e h = p h
       go false e h = q (held_well_lem t h) (eqb-false (get_or t state_at 0) empty_state e)
 

@@ -1,4 +1,5 @@
 -- One slot's bytes, written place by place.
+use Rattle.std.specs.Prelude.{Option}
 use mathlib.Core.Path.{◌≡◌, refl, sym, ap, ◌∙◌}
 use mathlib.Core.List.{List, [], ◌∷◌, ◌++◌, flatten, append_assoc, append-nil}
 use Prim.Native.Nat.{ℕ, zero, suc, ◌+◌, ◌-◌, ◌%◌, ◌≤◌}
@@ -9,7 +10,6 @@ use borrow.Rule.Slice.PartMut.{mid_of, put_mid, same_len_mid}
 use Rattle.wire.specs.Bytes.{to_le, part, padded}
 use Rattle.wire.specs.Replies.{laid_over}
 use Rattle.wire.proofs.ByteLaws.{length_padded}
-use Rattle.store.specs.declared.Expiry.{Expiry}
 use Rattle.store.specs.Layout.{slot_size, key_length_at, field_length_at, value_length_at, version_size, expiry_size, key_at, key_most, field_at, field_most, value_at, value_most}
 use Rattle.store.specs.Store.{Entry, encode_entry, state_of, instant_of}
 use Rattle.store.specs.Promises.{Writable, stamped, stamped_bytes}
@@ -29,7 +29,7 @@ padded_over x s t u p q = rw (q, p) (ap (λ (l : List ℕ). x ++ l) (drop_replic
 -- ---- state, version and expiry
 
 -- written one after the other
-pub stamp_written : (t : List ℕ) (n : ℕ) (x : Expiry) (b z : ℕ) (u w : List ℕ) → length t ≡ slot_size → b ≡ state_of x → z ≡ instant_of x
+pub stamp_written : (t : List ℕ) (n : ℕ) (x : Option ℕ) (b z : ℕ) (u w : List ℕ) → length t ≡ slot_size → b ≡ state_of x → z ≡ instant_of x
     → u ≡ to_le (length (mid_of 4 4 (set t 0 b))) n
     → w ≡ to_le (length (mid_of 8 8 (put_mid 4 4 (set t 0 b) u))) z
     → put_mid 8 8 (put_mid 4 4 (set t 0 b) u) w ≡ stamped_bytes n x t
@@ -50,7 +50,7 @@ pub stamp_size : (t : List ℕ) (k f v : ℕ) (u : List ℕ) → length t ≡ sl
 stamp_size t k f v u n e = e ∙ rw (length-set, length-set, length-set) n
 
 -- an entry's bytes stamped anew are those of the entry stamped anew
-pub stamp_entry : (e : Entry) (n : ℕ) (x : Expiry) → stamped_bytes n x (encode_entry e) ≡ encode_entry (stamped n x e)
+pub stamp_entry : (e : Entry) (n : ℕ) (x : Option ℕ) → stamped_bytes n x (encode_entry e) ≡ encode_entry (stamped n x e)
 unfolding stamped_bytes encode_entry flatten to_le part
 stamp_entry e n x = refl
 

@@ -1,13 +1,9 @@
 -- What the functions of the store ask and answer, in the terms of the other definitions.
+use Rattle.std.specs.Prelude.{Option, None, option_map}
 use Rattle.std.specs.Prelude.{◌≡◌, Bool, true, false, cond, ◌&&◌, List, [], ◌∷◌, map, ◌++◌, ℕ, ◌+◌, ◌-◌, ◌*◌, ◌/◌, ◌%◌, ◌^◌, ◌≤◌, ◌<◌, ltb, eqb, length, take, drop, get_or, set}
-use Rattle.std.proofs.Math.Option
-use Rattle.std.proofs.Math.Option.{Option, none, some}
 use Rattle.std.specs.Int.Bits.{bit_and, bit_or, bit_xor}
 use Rattle.wire.specs.Lists.{every, all, any}
 use Rattle.wire.specs.Bytes.{Bytes, from_le, part, to_le}
-use Rattle.store.specs.declared.Expiry.{Expiry}
-use Rattle.store.specs.declared.Found.{Found}
-use Rattle.store.specs.declared.Found.TheVariants as founds
 use Rattle.store.specs.declared.Searched.{Searched}
 use Rattle.store.specs.Layout.{header_size, slot_size, state_at, key_length_at, key_at, key_most, field_at, field_most, empty_state, version_size, expiry_size}
 use Rattle.store.specs.Store.{Entry, with_version, with_expiry, Slot, Store, with_slots, decode_slot, slots_in, decode, slots_within, slot_count, slot_well, size_tests, well_formed, instant_of, holds, clash, distinct, state_of}
@@ -136,7 +132,7 @@ pub record Turned (count : ℕ) (b : List ℕ) (i : ℕ) (before after : List �
 pub record Held (b : List ℕ) (i : ℕ) : Type 0 where
   pub well : well_formed b ≡ true
   pub inside : i < slot_count b
-  pub held : empty_slot (get_or (decode b).slots i none) ≡ false
+  pub held : empty_slot (get_or (decode b).slots i None) ≡ false
 
 -- bytes are a well-formed store that holds s
 pub record Holds (b : List ℕ) (s : Store) : Type 0 where
@@ -145,21 +141,17 @@ pub record Holds (b : List ℕ) (s : Store) : Type 0 where
 
 -- ---- searches
 
-unfoldable pub found_for : Option ℕ → Found
-found_for none = founds.Nothing
-found_for (some i) = founds.At i
-
 -- the lowest slot from slot i on of which p holds
 unfoldable pub lowest_from : ℕ → (Slot → Bool) → List Slot → Option ℕ
-lowest_from i p ss = Option.map (λ j. i + j) (lowest_slot p (drop i ss))
+lowest_from i p ss = option_map (λ j. i + j) (lowest_slot p (drop i ss))
 
 -- "The search .. also hands back how many bytes it compared"
 unfoldable pub searched : List ℕ → List ℕ → List Slot → Searched
-searched k f ss = record { found = found_for (lowest_slot (holds k f) ss); compared = compared k f ss }
+searched k f ss = record { found = (lowest_slot (holds k f) ss); compared = compared k f ss }
 
 -- the same among the slots from i up to n
 unfoldable pub searched_within : ℕ → ℕ → List ℕ → List ℕ → List Slot → Searched
-searched_within i n k f ss = record { found = found_for (lowest_from i (holds k f) (take n ss)); compared = compared k f (drop i (take n ss)) }
+searched_within i n k f ss = record { found = (lowest_from i (holds k f) (take n ss)); compared = compared k f (drop i (take n ss)) }
 
 -- from a slot to another, no slot holds a field of a fingerprint
 pub record Skips (fingerprint from : ℕ) (ss : List Slot) (r : ℕ) : Type 0 where
@@ -172,11 +164,11 @@ abbrev pub with_slot : ℕ → Slot → Store → Store
 with_slot i x s = with_slots (set s.slots i x) s
 
 -- an entry with another version and expiry
-abbrev pub stamped : ℕ → Expiry → Entry → Entry
+abbrev pub stamped : ℕ → Option ℕ → Entry → Entry
 stamped n x e = with_version n (with_expiry x e)
 
 -- a slot's bytes with another state, version and expiry
-unfoldable pub stamped_bytes : ℕ → Expiry → List ℕ → List ℕ
+unfoldable pub stamped_bytes : ℕ → Option ℕ → List ℕ → List ℕ
 stamped_bytes n x t = (state_of x ∷ part key_length_at 3 t) ++ (to_le version_size n ++ (to_le expiry_size (instant_of x) ++ drop key_at t))
 
 -- a key, a field and a value fit a slot's bytes
@@ -189,4 +181,4 @@ pub record Placeable (b : List ℕ) (i : ℕ) (e : Entry) : Type 0 where
   pub well : well_formed b ≡ true
   pub inside : i < slot_count b
   pub fits : Fits e
-  pub alone : (j : ℕ) → (i ≡ j → ⊥) → holds e.key e.field (get_or (decode b).slots j none) ≡ false
+  pub alone : (j : ℕ) → (i ≡ j → ⊥) → holds e.key e.field (get_or (decode b).slots j None) ≡ false

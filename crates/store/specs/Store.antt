@@ -1,12 +1,10 @@
 -- What a store holds, the bytes of it, and which bytes are a store (01, "The store's bytes").
+use Rattle.std.specs.Prelude.{Option, None, Some}
 use Rattle.std.specs.Prelude.{Bool, true, false, cond, not, ◌&&◌, ◌||◌, ℕ, zero, suc, ◌+◌, ◌-◌, ◌*◌, ◌/◌, leb, ltb, eqb, length, take, drop, get_or, replicate}
 use mathlib.Core.List.{List, [], ◌∷◌, ◌++◌, map, flatten}
-use Rattle.std.proofs.Math.Option.{Option, none, some}
 use Rattle.std.proofs.Math.Pow.{are_bytes}
 use Rattle.wire.specs.Lists.{every, all, any, or_else}
 use Rattle.wire.specs.Bytes.{from_le, to_le, part, padded, all_zero, same}
-use Rattle.store.specs.declared.Expiry.{Expiry}
-use Rattle.store.specs.declared.Expiry.TheVariants.{Never, At}
 use Rattle.store.specs.Layout.{header_size, slot_size, slots_most, clock_size, reserved_size, state_at, key_length_at, field_length_at, value_length_at, version_at, version_size, expiry_at, expiry_size, key_at, key_most, field_at, field_most, value_at, value_most, empty_state, held_state, expiring_state, time_limit}
 
 -- ---- what a store holds
@@ -16,21 +14,21 @@ pub record Entry : Type 0 where
   pub field : List ℕ
   pub value : List ℕ
   pub version : ℕ
-  pub expiry : Expiry
+  pub expiry : Option ℕ
 
 -- Entries are built and changed by these alone.
-abbrev pub entry : List ℕ → List ℕ → List ℕ → ℕ → Expiry → Entry
+abbrev pub entry : List ℕ → List ℕ → List ℕ → ℕ → Option ℕ → Entry
 entry k f v n x = record { key = k; field = f; value = v; version = n; expiry = x }
 
 abbrev pub blank : Entry
-blank = entry [] [] [] 0 Never
+blank = entry [] [] [] 0 None
 
 -- an entry with another version
 abbrev pub with_version : ℕ → Entry → Entry
 with_version n e = entry e.key e.field e.value n e.expiry
 
 -- an entry with another expiry
-abbrev pub with_expiry : Expiry → Entry → Entry
+abbrev pub with_expiry : Option ℕ → Entry → Entry
 with_expiry x e = entry e.key e.field e.value e.version x
 
 -- a slot holds an entry, or is empty
@@ -39,7 +37,7 @@ Slot = Option Entry
 
 -- the entry of slot i; an empty one where there is none
 unfoldable pub entry_at : List Slot → ℕ → Entry
-entry_at ss i = or_else (get_or ss i none) blank (λ e. e)
+entry_at ss i = or_else (get_or ss i None) blank (λ e. e)
 
 pub record Store : Type 0 where
   pub clock : ℕ
@@ -53,8 +51,8 @@ with_slots ss s = record { clock = s.clock; slots = ss }
 
 -- ---- from bytes
 
-unfoldable pub decode_expiry : List ℕ → Expiry
-decode_expiry t = cond (eqb (get_or t state_at 0) expiring_state) (At (from_le (part expiry_at expiry_size t))) Never
+unfoldable pub decode_expiry : List ℕ → Option ℕ
+decode_expiry t = cond (eqb (get_or t state_at 0) expiring_state) (Some (from_le (part expiry_at expiry_size t))) None
 
 unfoldable pub decode_entry : List ℕ → Entry
 decode_entry t =
@@ -66,7 +64,7 @@ decode_entry t =
     (decode_expiry t)
 
 unfoldable pub decode_slot : List ℕ → Slot
-decode_slot t = cond (eqb (get_or t state_at 0) empty_state) none (some (decode_entry t))
+decode_slot t = cond (eqb (get_or t state_at 0) empty_state) None (Some (decode_entry t))
 
 -- the bytes of the first n slots
 unfoldable pub slots_in : ℕ → List ℕ → List (List ℕ)
@@ -91,13 +89,13 @@ decode b = record { clock = clock_of b; slots = map decode_slot (slot_bytes b) }
 
 -- ---- to bytes
 
-unfoldable pub state_of : Expiry → ℕ
-state_of Never = held_state
-state_of (At t) = expiring_state
+unfoldable pub state_of : Option ℕ → ℕ
+state_of None = held_state
+state_of (Some t) = expiring_state
 
-unfoldable pub instant_of : Expiry → ℕ
-instant_of Never = 0
-instant_of (At t) = t
+unfoldable pub instant_of : Option ℕ → ℕ
+instant_of None = 0
+instant_of (Some t) = t
 
 unfoldable pub encode_entry : Entry → List ℕ
 encode_entry e =
@@ -112,8 +110,8 @@ encode_entry e =
     )
 
 unfoldable pub encode_slot : Slot → List ℕ
-encode_slot none = replicate slot_size 0
-encode_slot (some e) = encode_entry e
+encode_slot None = replicate slot_size 0
+encode_slot (Some e) = encode_entry e
 
 unfoldable pub encode : Store → List ℕ
 encode s = to_le clock_size s.clock ++ replicate reserved_size 0 ++ flatten (map encode_slot s.slots)

@@ -1,6 +1,6 @@
 -- What well-formedness says of what a store holds, without its bytes: `well_formed b` exactly if `b` is `encode s` of a valid s.
+use Rattle.std.specs.Prelude.{None, Some}
 use Rattle.std.specs.Prelude.{◌≡◌, false, List, ℕ, ◌≤◌, ◌<◌, length, get_or}
-use Rattle.std.proofs.Math.Option.{none, some}
 use Rattle.wire.specs.Bytes.{Bytes}
 use Rattle.store.specs.Layout.{slots_most, key_most, field_most, value_most, version_most, time_limit}
 use Rattle.store.specs.Store.{Entry, Slot, Store, instant_of, clash}
@@ -21,16 +21,16 @@ pub record Fits (e : Entry) : Type 0 where
   pub value_bytes : Bytes e.value
 
 abbrev pub FitsSlot : Slot → Type 0
-FitsSlot none = Unit {0}
-FitsSlot (some e) = Fits e
+FitsSlot None = Unit {0}
+FitsSlot (Some e) = Fits e
 
 -- every slot fits; past the last slot there is none
 abbrev pub AllFit : List Slot → Type 0
-AllFit ss = (i : ℕ) → FitsSlot (get_or ss i none)
+AllFit ss = (i : ℕ) → FitsSlot (get_or ss i None)
 
 -- no two held slots have the same key and field
 abbrev pub Apart : List Slot → Type 0
-Apart ss = (i j : ℕ) → i < j → clash (get_or ss i none) (get_or ss j none) ≡ false
+Apart ss = (i j : ℕ) → i < j → clash (get_or ss i None) (get_or ss j None) ≡ false
 
 -- a store that bytes can hold
 pub record Valid (s : Store) : Type 0 where

@@ -1,6 +1,6 @@
 // Changes of a well-formed store, each said by what the store then holds.
 ghost use Rattle.std.specs.Prelude.{◌≡◌, true, length, ◌≤◌, ◌<◌};
-ghost use Rattle.std.proofs.Math.Option.{none, some};
+ghost use Rattle.std.specs.Prelude.{None, Some};
 ghost use Rattle.wire.specs.Bytes.{padded};
 ghost use Rattle.store.specs.Layout.{slot_size, time_limit, version_most};
 ghost use Rattle.store.specs.Store.{decode, well_formed, slot_count, encode_entry, state_of, instant_of, with_clock, entry, entry_at};
@@ -24,7 +24,7 @@ pub fn set_clock(store: &mut [u8], time: u64)
 // Empties slot i.
 pub fn remove(store: &mut [u8], i: usize)
     requires { (well_formed store.old ≡ true) × (i < slot_count store.old) }
-    ensures { Holds store.new (with_slot i none (decode store.old)) }
+    ensures { Holds store.new (with_slot i None (decode store.old)) }
 {
     clear(&mut store[slot::place(i)]);
 }
@@ -39,27 +39,27 @@ fn write_padded(from: &[u8], to: &mut [u8])
 }
 
 // The state of a slot that holds an entry.
-fn state_of(expiry: Expiry) -> u8
+fn state_of(expiry: Option<u64>) -> u8
     ensures { result ≡ state_of expiry }
 {
     match expiry {
-        Expiry::Never => HELD_STATE,
-        Expiry::At(_) => EXPIRING_STATE,
+        None => HELD_STATE,
+        Some(_) => EXPIRING_STATE,
     }
 }
 
 // The instant that is written for an expiry.
-fn instant_of(expiry: Expiry) -> u64
+fn instant_of(expiry: Option<u64>) -> u64
     ensures { result ≡ instant_of expiry }
 {
     match expiry {
-        Expiry::Never => 0,
-        Expiry::At(instant) => instant,
+        None => 0,
+        Some(instant) => instant,
     }
 }
 
 // Writes state, version and expiry of one slot's bytes.
-fn write_stamp(t: &mut [u8], version: u64, expiry: Expiry)
+fn write_stamp(t: &mut [u8], version: u64, expiry: Option<u64>)
     requires { length t.old ≡ slot_size }
     ensures { t.new ≡ stamped_bytes version expiry t.old }
 {
@@ -69,7 +69,14 @@ fn write_stamp(t: &mut [u8], version: u64, expiry: Expiry)
 }
 
 // Writes an entry over one slot's bytes.
-fn write_entry(t: &mut [u8], key: &[u8], field: &[u8], value: &[u8], version: u64, expiry: Expiry)
+fn write_entry(
+    t: &mut [u8],
+    key: &[u8],
+    field: &[u8],
+    value: &[u8],
+    version: u64,
+    expiry: Option<u64>,
+)
     requires { Writable t.old key.now field.now value.now }
     ensures { t.new ≡ encode_entry (entry key.now field.now value.now version expiry) }
 {
@@ -90,11 +97,11 @@ pub fn put(
     field: &[u8],
     value: &[u8],
     version: u64,
-    expiry: Expiry,
+    expiry: Option<u64>,
 )
     requires { Placeable store.old i (entry key.now field.now value.now version expiry) }
     ensures { let e = entry key.now field.now value.now version expiry in
-        Holds store.new (with_slot i (some e) (decode store.old)) }
+        Holds store.new (with_slot i (Some e) (decode store.old)) }
 {
     write_entry(
         &mut store[slot::place(i)],
@@ -107,10 +114,10 @@ pub fn put(
 }
 
 // Writes the version and the expiry of the entry in slot i anew.
-pub fn restamp(store: &mut [u8], i: usize, version: u64, expiry: Expiry)
+pub fn restamp(store: &mut [u8], i: usize, version: u64, expiry: Option<u64>)
     requires { (Held store.old i) × (version ≤ version_most) × (instant_of expiry ≤ time_limit) }
     ensures { let before = decode store.old in
-        Holds store.new (with_slot i (some (stamped version expiry (entry_at before.slots i))) before) }
+        Holds store.new (with_slot i (Some (stamped version expiry (entry_at before.slots i))) before) }
 {
     write_stamp(&mut store[slot::place(i)], version, expiry);
 }

@@ -4,11 +4,11 @@ ghost use Rattle.wire.specs.Lists.{keep};
 ghost use Rattle.wire.specs.Bytes.{from_le, part};
 ghost use Rattle.store.specs.Store.{decode, well_formed, holds};
 ghost use Rattle.store.specs.Time.{lowest_slot, empty_slot, dead_slot, room_slot, of_key, live_of_key, key_exists};
-ghost use Rattle.store.specs.Promises.{found_for, lowest_from, searched, searched_within, name_words, Skips};
+ghost use Rattle.store.specs.Promises.{lowest_from, searched, searched_within, name_words, Skips};
 
 use crate::layout::KEY_AT;
 use crate::read::slots;
-use crate::{Found, Searched, slot};
+use crate::{Searched, slot};
 
 // The lowest slot from a slot on whose field has a fingerprint, else one of the last: none before it has. Two slots are looked at in a turn.
 fn next_candidate(store: &[u8], fingerprint: u64, start: usize) -> usize
@@ -44,7 +44,7 @@ fn search_within(
     requires end_in_bounds { end ≤ length (decode store.now).slots }
     ensures { result ≡ searched_within from end key.now field.now (decode store.now).slots }
 {
-    let mut found = Found::Nothing;
+    let mut found = None;
     let mut compared = 0;
     'slots: for i in from..end {
         let t = slot::bytes(store, i);
@@ -60,7 +60,7 @@ fn search_within(
             }
         }
         compared += key.len() + field.len();
-        found = Found::At(i);
+        found = Some(i);
         break 'slots;
     }
     Searched { found, compared }
@@ -76,67 +76,67 @@ pub fn search(store: &[u8], key: &[u8], field: &[u8]) -> Searched
 }
 
 // The slot that holds a key and a field. Only slots with the field's fingerprint are looked at closely.
-pub fn named(store: &[u8], key: &[u8], field: &[u8]) -> Found
+pub fn named(store: &[u8], key: &[u8], field: &[u8]) -> Option<usize>
     requires { well_formed store.now ≡ true }
-    ensures { result ≡ found_for (lowest_slot (holds key.now field.now) (decode store.now).slots) }
+    ensures { result ≡ lowest_slot (holds key.now field.now) (decode store.now).slots }
 {
     let count = slots(store);
     let fingerprint = slot::fingerprint_of(field);
     let mut i = next_candidate(store, fingerprint, 0);
     while i < count {
         if slot::holds_with(slot::bytes(store, i), fingerprint, key, field) {
-            return Found::At(i);
+            return Some(i);
         }
         i = next_candidate(store, fingerprint, i + 1);
     }
-    Found::Nothing
+    None
 }
 
 // The same by a hint, which may be any number: where its slot holds them, nothing is searched.
-pub fn named_near(store: &[u8], key: &[u8], field: &[u8], hint: usize) -> Found
+pub fn named_near(store: &[u8], key: &[u8], field: &[u8], hint: usize) -> Option<usize>
     requires { well_formed store.now ≡ true }
-    ensures { result ≡ found_for (lowest_slot (holds key.now field.now) (decode store.now).slots) }
+    ensures { result ≡ lowest_slot (holds key.now field.now) (decode store.now).slots }
 {
     if slots(store) <= hint {
         return named(store, key, field);
     }
     let fingerprint = slot::fingerprint_of(field);
     if slot::holds_with(slot::bytes(store, hint), fingerprint, key, field) {
-        return Found::At(hint);
+        return Some(hint);
     }
     named(store, key, field)
 }
 
 // The lowest empty slot.
-pub fn empty(store: &[u8]) -> Found
+pub fn empty(store: &[u8]) -> Option<usize>
     requires { well_formed store.now ≡ true }
-    ensures { result ≡ found_for (lowest_slot empty_slot (decode store.now).slots) }
+    ensures { result ≡ lowest_slot empty_slot (decode store.now).slots }
 {
     let count = slots(store);
     let mut i = 0;
     while i < count {
         if slot::is_empty(slot::bytes(store, i)) {
-            return Found::At(i);
+            return Some(i);
         }
         i += 1;
     }
-    Found::Nothing
+    None
 }
 
 // The lowest slot that holds an entry dead at a time.
-pub fn dead(store: &[u8], time: u64) -> Found
+pub fn dead(store: &[u8], time: u64) -> Option<usize>
     requires { well_formed store.now ≡ true }
-    ensures { result ≡ found_for (lowest_slot (dead_slot time) (decode store.now).slots) }
+    ensures { result ≡ lowest_slot (dead_slot time) (decode store.now).slots }
 {
     let count = slots(store);
     let mut i = 0;
     while i < count {
         if slot::is_dead(slot::bytes(store, i), time) {
-            return Found::At(i);
+            return Some(i);
         }
         i += 1;
     }
-    Found::Nothing
+    None
 }
 
 // The number that the word of a key at a place spells, where the bytes past its end count as zero.
@@ -154,26 +154,26 @@ pub fn next_live_with(
     key: &[u8],
     time: u64,
     from: usize,
-) -> Found
+) -> Option<usize>
     requires store_value { well_formed store.now ≡ true }
     requires low_value { (low ≡ from_le (part 0 8 key.now)) × (high ≡ from_le (part 8 8 key.now)) }
-    ensures { result ≡ found_for (lowest_from from (live_of_key time key.now) (decode store.now).slots) }
+    ensures { result ≡ lowest_from from (live_of_key time key.now) (decode store.now).slots }
 {
     let count = slots(store);
     let mut i = from;
     while i < count {
         if slot::is_live_with(slot::bytes(store, i), low, high, key, time) {
-            return Found::At(i);
+            return Some(i);
         }
         i += 1;
     }
-    Found::Nothing
+    None
 }
 
 // The same by the key alone.
-pub fn next_live(store: &[u8], key: &[u8], time: u64, from: usize) -> Found
+pub fn next_live(store: &[u8], key: &[u8], time: u64, from: usize) -> Option<usize>
     requires { well_formed store.now ≡ true }
-    ensures { result ≡ found_for (lowest_from from (live_of_key time key.now) (decode store.now).slots) }
+    ensures { result ≡ lowest_from from (live_of_key time key.now) (decode store.now).slots }
 {
     let low = slot::word_padded(key, 0);
     let high = slot::word_padded(key, slot::WORD);
@@ -187,8 +187,8 @@ pub fn key_exists(store: &[u8], key: &[u8], time: u64) -> bool
 {
     let found = next_live(store, key, time, 0);
     match found {
-        Found::At(_) => true,
-        Found::Nothing => false,
+        Some(_) => true,
+        None => false,
     }
 }
 

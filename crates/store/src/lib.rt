@@ -10,23 +10,9 @@ mod padding;
 pub mod read;
 mod slot;
 
-// When an entry expires: never, or at an instant in ms.
-#[derive(Clone, Copy)]
-pub enum Expiry {
-    Never,
-    At(u64),
-}
-
-// A slot that was looked for, or that there is none.
-#[derive(Clone, Copy)]
-pub enum Found {
-    At(usize),
-    Nothing,
-}
-
 // What a search found, and how many bytes it compared.
 #[derive(Clone, Copy)]
 pub struct Searched {
-    pub found: Found,
+    pub found: Option<usize>,
     pub compared: usize,
 }

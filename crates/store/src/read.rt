@@ -1,13 +1,13 @@
 // What a well-formed store holds: its clock, and the parts of an entry.
 ghost use Rattle.std.specs.Prelude.{◌≡◌, true, length, get_or, ◌<◌};
-ghost use Rattle.std.proofs.Math.Option.{none};
+ghost use Rattle.std.specs.Prelude.{None};
 ghost use Rattle.store.specs.Store.{decode, well_formed, slot_count, entry_at};
 ghost use Rattle.store.specs.Time.{now_at, empty_slot, live_slot};
 ghost use Rattle.store.specs.Layout.{value_start};
 ghost use Rattle.store.specs.Promises.{Held};
 
 use crate::layout::{CLOCK_SIZE, HEADER_SIZE, SLOT_SIZE, VALUE_AT};
-use crate::{Expiry, slot};
+use crate::slot;
 use wire::bytes::read_le;
 
 // How many slots a store has.
@@ -40,7 +40,7 @@ pub fn now_at(store: &[u8], time: u64) -> u64
 // Whether slot i is empty.
 pub fn is_empty(store: &[u8], i: usize) -> bool
     requires { (well_formed store.now ≡ true) × (i < slot_count store.now) }
-    ensures { result ≡ empty_slot (get_or (decode store.now).slots i none) }
+    ensures { result ≡ empty_slot (get_or (decode store.now).slots i None) }
 {
     slot::is_empty(slot::bytes(store, i))
 }
@@ -48,7 +48,7 @@ pub fn is_empty(store: &[u8], i: usize) -> bool
 // Whether slot i holds an entry that is live at a time.
 pub fn is_live(store: &[u8], i: usize, time: u64) -> bool
     requires { (well_formed store.now ≡ true) × (i < slot_count store.now) }
-    ensures { result ≡ live_slot time (get_or (decode store.now).slots i none) }
+    ensures { result ≡ live_slot time (get_or (decode store.now).slots i None) }
 {
     slot::is_live(slot::bytes(store, i), time)
 }
@@ -60,7 +60,7 @@ pub fn version(store: &[u8], i: usize) -> u64
     slot::version(slot::bytes(store, i))
 }
 
-pub fn expiry(store: &[u8], i: usize) -> Expiry
+pub fn expiry(store: &[u8], i: usize) -> Option<u64>
     requires { Held store.now i }
     ensures { result ≡ (entry_at (decode store.now).slots i).expiry }
 {

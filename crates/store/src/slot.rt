@@ -7,7 +7,6 @@ ghost use Rattle.store.specs.Time.{empty_slot, live_slot, dead_slot, of_key, liv
 ghost use Rattle.store.specs.Search.{skipped, run_compared};
 ghost use Rattle.store.specs.Promises.{SlotBytes, HeldBytes, name_words, run_start, fingerprint_of};
 
-use crate::Expiry;
 use crate::layout::{
     EMPTY_STATE, EXPIRING_STATE, EXPIRY_AT, FIELD_AT, FIELD_LENGTH_AT, HEADER_SIZE, KEY_AT,
     KEY_LENGTH_AT, SLOT_SIZE, STATE_AT, VALUE_AT, VALUE_LENGTH_AT, VERSION_AT,
@@ -64,14 +63,14 @@ pub fn version(t: &[u8]) -> u64
     read_le(&t[VERSION_AT..EXPIRY_AT])
 }
 
-pub fn expiry(t: &[u8]) -> Expiry
+pub fn expiry(t: &[u8]) -> Option<u64>
     requires { length t.now ≡ slot_size }
     ensures { result ≡ decode_expiry t.now }
 {
     if t[STATE_AT] == EXPIRING_STATE {
-        return Expiry::At(read_le(&t[EXPIRY_AT..KEY_AT]));
+        return Some(read_le(&t[EXPIRY_AT..KEY_AT]));
     }
-    Expiry::Never
+    None
 }
 
 // Whether the slot holds an entry that is live at a time.
@@ -84,8 +83,8 @@ pub fn is_live(t: &[u8], time: u64) -> bool
     }
     let expires = expiry(t);
     match expires {
-        Expiry::Never => true,
-        Expiry::At(instant) => time < instant,
+        None => true,
+        Some(instant) => time < instant,
     }
 }
 

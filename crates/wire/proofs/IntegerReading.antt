@@ -1,8 +1,8 @@
 -- A number read digit by digit: what is left of its text, after those digits that spell n, says the same.
+use Rattle.std.specs.Prelude.{Option, None, Some, option_map}
 use mathlib.Core.Path.{◌≡◌, refl, ap, ◌∙◌}
 use mathlib.Core.Bool.{Bool, true, false, not, ◌&&◌, ◌||◌, and-true, and-false}
 use mathlib.Core.List.{List, [], ◌∷◌}
-use mathlib.Core.Option.{Option, none, some, map}
 use Prim.Native.Nat.{ℕ, zero, suc, ◌+◌, ◌-◌, ◌*◌, ◌≤◌, ◌<◌}
 use native.Mathlib.Numerals.{add-one}
 use native.Mathlib.Omega.{arith}
@@ -13,8 +13,6 @@ use lib.ListN.{length, drop, get_or}
 use lib.Seq.{drop-cons, drop-length}
 use Rattle.wire.specs.Lists.{all, is_empty, only_if, or_else}
 use Rattle.wire.specs.Integers.{is_digit, is_natural, is_negated, value_from, value, read_plain, within, read_integer, read_natural}
-use Rattle.wire.specs.declared.integers.Natural.TheVariants as naturals
-use Rattle.wire.specs.Promises.{natural_for}
 use Rattle.wire.proofs.Lists.{and_both}
 use Rattle.wire.proofs.IntegerDigits.{negated_value}
 
@@ -28,12 +26,12 @@ unfolding read_natural read_integer read_plain is_natural or_else only_if within
 natural_is most [] = refl
 natural_is most (c ∷ s) = go (eqb c 45) refl
   where
-    minus : (t : Bool) (v : ℕ) → (t ≡ true → 1 ≤ v) → map nat_abs (or_else (only_if t (neg_ℤ (pos v))) none (λ z. only_if (within (pos 0) (pos most) z) z)) ≡ none
+    minus : (t : Bool) (v : ℕ) → (t ≡ true → 1 ≤ v) → option_map nat_abs (or_else (only_if t (neg_ℤ (pos v))) None (λ z. only_if (within (pos 0) (pos most) z) z)) ≡ None
     minus false v h = refl
     minus true zero h = absurd (omega (arith, h refl))
     minus true (suc v) h = refl
 
-    plain : (t : Bool) (v : ℕ) (u : Bool) → leb v most ≡ u → map nat_abs (or_else (only_if t (pos v)) none (λ z. only_if (within (pos 0) (pos most) z) z)) ≡ only_if (t && leb v most) v
+    plain : (t : Bool) (v : ℕ) (u : Bool) → leb v most ≡ u → option_map nat_abs (or_else (only_if t (pos v)) None (λ z. only_if (within (pos 0) (pos most) z) z)) ≡ only_if (t && leb v most) v
     plain false v u e = refl
     plain true v true e = rw (le-leb 0 v (omega arith), e)
     plain true v false e = rw (le-leb 0 v (omega arith), e)
@@ -77,33 +75,33 @@ unfolding read_on all value_from
 read_digit most n c t h = rw h
 
 -- another byte is refused
-read_other : (most n c : ℕ) (t : List ℕ) → is_digit c ≡ false → read_on most n (c ∷ t) ≡ none
+read_other : (most n c : ℕ) (t : List ℕ) → is_digit c ≡ false → read_on most n (c ∷ t) ≡ None
 unfolding read_on all only_if
 read_other most n c t h = rw h
 
 -- a number above `most` stays above, whatever follows
-read_above : (most n c : ℕ) (t : List ℕ) → most < n * 10 + (c - 48) → read_on most n (c ∷ t) ≡ none
+read_above : (most n c : ℕ) (t : List ℕ) → most < n * 10 + (c - 48) → read_on most n (c ∷ t) ≡ None
 unfolding read_on value_from only_if
 read_above most n c t h =
     let above : most < value_from (n * 10 + (c - 48)) t = omega (arith, value_from_least (n * 10 + (c - 48)) t) in
     rw (lt-leb (value_from (n * 10 + (c - 48)) t) most above, and-false)
 
 -- with nothing left, the number is read
-read_end : (most n : ℕ) → n ≤ most → read_on most n [] ≡ some n
+read_end : (most n : ℕ) → n ≤ most → read_on most n [] ≡ Some n
 unfolding read_on all value_from only_if
 read_end most n h = rw (le-leb n most h)
 
 -- ---- what is refused before the first digit
 
 -- An empty text is refused.
-pub read_empty : (most : ℕ) (s : List ℕ) → length s ≡ 0 → naturals.Refused ≡ natural_for (read_natural most s)
-unfolding natural_for read_natural read_integer read_plain or_else
+pub read_empty : (most : ℕ) (s : List ℕ) → length s ≡ 0 → None ≡ (read_natural most s)
+unfolding read_natural read_integer read_plain or_else
 read_empty most [] e = refl
 read_empty most (c ∷ s) e = absurd (omega arith)
 
 -- A leading zero is refused.
-pub read_zero : (most : ℕ) (s : List ℕ) → get_or s 0 0 ≡ 48 → 1 < length s → naturals.Refused ≡ natural_for (read_natural most s)
-unfolding natural_for is_natural is_empty only_if
+pub read_zero : (most : ℕ) (s : List ℕ) → get_or s 0 0 ≡ 48 → 1 < length s → None ≡ (read_natural most s)
+unfolding is_natural is_empty only_if
 read_zero most [] e l = absurd (omega arith)
 read_zero most (c ∷ []) e l = absurd (omega arith)
 read_zero most (c ∷ b ∷ s) e l = rw (natural_is, eq-eqb c 48 e, and-false)
@@ -142,18 +140,15 @@ module _ {most : ℕ} {s : List ℕ} {n i : ℕ} (r : Reading most s n i) (l : i
       }
 
   -- Another byte is refused.
-  pub reading_other : is_digit (get_or s i 0) ≡ false → naturals.Refused ≡ natural_for (read_natural most s)
-  unfolding natural_for
+  pub reading_other : is_digit (get_or s i 0) ≡ false → None ≡ (read_natural most s)
   reading_other h = rw (reading_next, read_other most n (get_or s i 0) (drop (suc i) s) h)
 
   -- A number above `most` is refused, whatever follows.
-  pub reading_above : most < n * 10 + (get_or s i 0 - 48) → naturals.Refused ≡ natural_for (read_natural most s)
-  unfolding natural_for
+  pub reading_above : most < n * 10 + (get_or s i 0 - 48) → None ≡ (read_natural most s)
   reading_above h = rw (reading_next, read_above most n (get_or s i 0) (drop (suc i) s) h)
 
 -- After the last digit.
-pub reading_ends : {most : ℕ} {s : List ℕ} {n i : ℕ} → Reading most s n i → length s ≤ i → naturals.Value n ≡ natural_for (read_natural most s)
-unfolding natural_for
+pub reading_ends : {most : ℕ} {s : List ℕ} {n i : ℕ} → Reading most s n i → length s ≤ i → Some n ≡ (read_natural most s)
 reading_ends {most} {s} {n} {i} r l =
     let end : i ≡ length s = omega arith in
     rw (r.read, end, drop-length, read_end most n r.small)

@@ -1,9 +1,9 @@
 -- Integers as sign and magnitude: what is read, written, compared and added of them, in plain numbers.
+use Rattle.std.specs.Prelude.{Option, None, Some, option_map}
 use mathlib.Core.Path.{◌≡◌, refl, sym, ap, ◌∙◌}
 use mathlib.Core.Logic.{◌≢◌}
 use mathlib.Core.Bool.{Bool, true, false, cond, not, ◌&&◌, beq, true≢false, false≢true, and-false}
 use mathlib.Core.List.{List, [], ◌∷◌}
-use mathlib.Core.Option.{Option, none, some, map}
 use Prim.Native.Nat.{ℕ, zero, suc, ◌+◌, ◌-◌, ◌≤◌, ◌<◌}
 use native.Mathlib.Omega.{arith}
 use borrow.Author.Tests.{le-leb, lt-leb, leb-true, leb-false, ne_eqb, eq-eqb}
@@ -15,12 +15,8 @@ use lib.Seq.{take_all}
 use Rattle.wire.proofs.Lists.{impossible}
 use Rattle.wire.specs.Lists.{only_if, or_else}
 use Rattle.wire.specs.Integers.{is_natural, is_negated, value, read_plain, within, lowest64, highest64, read_integer, read_natural, natural_text, integer_text}
-use Rattle.wire.specs.declared.integers.Natural.{Natural}
-use Rattle.wire.specs.declared.integers.Natural.TheVariants as naturals
-use Rattle.wire.specs.declared.integers.Integer.{Integer}
-use Rattle.wire.specs.declared.integers.Integer.TheVariants as integers
 use Rattle.wire.specs.declared.integers.Signed.{Signed}
-use Rattle.wire.specs.Promises.{natural_for, integer_for, signed_for, integer_of}
+use Rattle.wire.specs.Promises.{signed_for, integer_of}
 use Rattle.wire.proofs.IntegerDigits.{text_negated, negated_natural, negated_value, text_value}
 use Rattle.wire.proofs.IntegerReading.{natural_is}
 
@@ -72,16 +68,14 @@ sign_said (negsuc n) = refl
 -- ---- what a number that was read says
 
 -- A number was read.
-pub read_value : (o : Option ℕ) {n : ℕ} → naturals.Value n ≡ natural_for o → o ≡ some n
-unfolding natural_for
-read_value none h = impossible cc
-read_value (some m) h = cc
+pub read_value : (o : Option ℕ) {n : ℕ} → Some n ≡ o → o ≡ Some n
+read_value None h = impossible cc
+read_value (Some m) h = cc
 
 -- A text was refused.
-pub read_refused : (o : Option ℕ) → naturals.Refused ≡ natural_for o → o ≡ none
-unfolding natural_for
-read_refused none h = refl
-read_refused (some m) h = impossible cc
+pub read_refused : (o : Option ℕ) → None ≡ o → o ≡ None
+read_refused None h = refl
+read_refused (Some m) h = impossible cc
 
 -- ---- an integer is a number, or one after a minus
 
@@ -100,30 +94,30 @@ minus : ℕ → Option ℤ
 minus n = only_if (not (eqb n 0)) (neg_ℤ (pos n))
 
 -- with a minus
-read_minus : (s : List ℕ) → read_integer lowest64 highest64 (45 ∷ s) ≡ or_else (read_natural 0x8000_0000_0000_0000 s) none minus
+read_minus : (s : List ℕ) → read_integer lowest64 highest64 (45 ∷ s) ≡ or_else (read_natural 0x8000_0000_0000_0000 s) None minus
 unfolding read_integer read_plain or_else only_if minus
 read_minus s = rw natural_is (go (is_negated s) refl (is_natural s) refl)
   where
     bounded : (v : ℕ) → 1 ≤ v → (t : Bool) → leb v 0x8000_0000_0000_0000 ≡ t
-        → only_if (within lowest64 highest64 (neg_ℤ (pos v))) (neg_ℤ (pos v)) ≡ or_else (only_if (leb v 0x8000_0000_0000_0000) v) none minus
+        → only_if (within lowest64 highest64 (neg_ℤ (pos v))) (neg_ℤ (pos v)) ≡ or_else (only_if (leb v 0x8000_0000_0000_0000) v) None minus
     bounded zero positive t e = absurd (omega arith)
     bounded (suc v) positive true e = rw (within_minus, e, ne_eqb (suc v) 0 (λ z. omega arith))
     bounded (suc v) positive false e = rw (within_minus, e)
 
     go : (t : Bool) → is_negated s ≡ t → (u : Bool) → is_natural s ≡ u
-        → read_integer lowest64 highest64 (45 ∷ s) ≡ or_else (only_if (is_natural s && leb (value s) 0x8000_0000_0000_0000) (value s)) none minus
+        → read_integer lowest64 highest64 (45 ∷ s) ≡ or_else (only_if (is_natural s && leb (value s) 0x8000_0000_0000_0000) (value s)) None minus
     go true h u l = rw (h, negated_natural s h) (bounded (value s) (negated_value s h).0 (leb (value s) 0x8000_0000_0000_0000) refl)
     go false h true l = rw (h, l, natural_zero s l h)
     go false h false l = rw (h, l)
 
 -- without one
-read_plain_lem : (s : List ℕ) → get_or s 0 0 ≢ 45 → read_integer lowest64 highest64 s ≡ map pos (read_natural 0x7fff_ffff_ffff_ffff s)
+read_plain_lem : (s : List ℕ) → get_or s 0 0 ≢ 45 → read_integer lowest64 highest64 s ≡ option_map pos (read_natural 0x7fff_ffff_ffff_ffff s)
 unfolding read_integer read_plain or_else only_if is_natural
 read_plain_lem [] other = rw natural_is
 read_plain_lem (c ∷ s) other = rw (natural_is, ne_eqb c 45 other) (go (is_natural (c ∷ s)) (value (c ∷ s)) (leb (value (c ∷ s)) 0x7fff_ffff_ffff_ffff) refl)
   where
     go : (t : Bool) (v : ℕ) (u : Bool) → leb v 0x7fff_ffff_ffff_ffff ≡ u
-        → or_else (only_if t (pos v)) none (λ z. only_if (within lowest64 highest64 z) z) ≡ map pos (only_if (t && leb v 0x7fff_ffff_ffff_ffff) v)
+        → or_else (only_if t (pos v)) None (λ z. only_if (within lowest64 highest64 z) z) ≡ option_map pos (only_if (t && leb v 0x7fff_ffff_ffff_ffff) v)
     go false v u e = refl
     go true v true e = rw (within_plain, e)
     go true v false e = rw (within_plain, e)
@@ -131,40 +125,39 @@ read_plain_lem (c ∷ s) other = rw (natural_is, ne_eqb c 45 other) (go (is_natu
 -- ---- read_integer
 
 -- An empty text is refused.
-pub integer_empty : (s : List ℕ) → length s ≡ 0 → integers.Refused ≡ integer_for (read_integer lowest64 highest64 s)
-unfolding integer_for read_integer read_plain or_else
+pub integer_empty : (s : List ℕ) → length s ≡ 0 → None ≡ option_map signed_for (read_integer lowest64 highest64 s)
+unfolding read_integer read_plain or_else
 integer_empty [] e = refl
 integer_empty (c ∷ s) e = absurd (omega arith)
 
-module _ (s : List ℕ) {r : Natural} (read : r ≡ natural_for (read_natural 0x7fff_ffff_ffff_ffff s)) (other : get_or s 0 0 ≢ 45) where
+module _ (s : List ℕ) {r : Option ℕ} (read : r ≡ (read_natural 0x7fff_ffff_ffff_ffff s)) (other : get_or s 0 0 ≢ 45) where
   -- With no minus, a number that was read is the integer.
-  pub plain_value : (n : ℕ) → r ≡ naturals.Value n → integers.Value (record { negative = false; magnitude = n }) ≡ integer_for (read_integer lowest64 highest64 s)
-  unfolding integer_for signed_for
+  pub plain_value : (n : ℕ) → r ≡ Some n → Some (record { negative = false; magnitude = n }) ≡ option_map signed_for (read_integer lowest64 highest64 s)
+  unfolding signed_for
   plain_value n e = rw (read_plain_lem s other, read_value (read_natural 0x7fff_ffff_ffff_ffff s) (sym e ∙ read))
 
-  pub plain_refused : r ≡ naturals.Refused → integers.Refused ≡ integer_for (read_integer lowest64 highest64 s)
-  unfolding integer_for
+  pub plain_refused : r ≡ None → None ≡ option_map signed_for (read_integer lowest64 highest64 s)
   plain_refused e = rw (read_plain_lem s other, read_refused (read_natural 0x7fff_ffff_ffff_ffff s) (sym e ∙ read))
 
 -- what follows the minus
-after_minus : (s : List ℕ) → 0 < length s → get_or s 0 0 ≡ 45 → read_integer lowest64 highest64 s ≡ or_else (read_natural 0x8000_0000_0000_0000 (take (length s - 1) (drop 1 s))) none minus
+after_minus : (s : List ℕ) → 0 < length s → get_or s 0 0 ≡ 45 → read_integer lowest64 highest64 s ≡ or_else (read_natural 0x8000_0000_0000_0000 (take (length s - 1) (drop 1 s))) None minus
 after_minus [] l dash = absurd (omega arith)
 after_minus (c ∷ s) l dash = rw (take_all (suc (length s) - 1) s (omega arith), dash) (read_minus s)
 
-module _ (s : List ℕ) {r : Natural} (read : r ≡ natural_for (read_natural 0x8000_0000_0000_0000 (take (length s - 1) (drop 1 s)))) (some_bytes : 0 < length s) (dash : get_or s 0 0 ≡ 45) where
+module _ (s : List ℕ) {r : Option ℕ} (read : r ≡ (read_natural 0x8000_0000_0000_0000 (take (length s - 1) (drop 1 s)))) (some_bytes : 0 < length s) (dash : get_or s 0 0 ≡ 45) where
   -- After a minus, a number that was read and is not 0 is the integer's magnitude.
-  pub minus_value : (n : ℕ) → r ≡ naturals.Value n → n ≢ 0 → integers.Value (record { negative = true; magnitude = n }) ≡ integer_for (read_integer lowest64 highest64 s)
-  unfolding integer_for signed_for or_else only_if minus
+  pub minus_value : (n : ℕ) → r ≡ Some n → n ≢ 0 → Some (record { negative = true; magnitude = n }) ≡ option_map signed_for (read_integer lowest64 highest64 s)
+  unfolding signed_for or_else only_if minus
   minus_value zero e other = absurd (other refl)
   minus_value (suc n) e other = rw (after_minus s some_bytes dash, read_value (read_natural 0x8000_0000_0000_0000 (take (length s - 1) (drop 1 s))) (sym e ∙ read), ne_eqb (suc n) 0 other)
 
   -- 0 has no minus.
-  pub minus_zero : (n : ℕ) → r ≡ naturals.Value n → n ≡ 0 → integers.Refused ≡ integer_for (read_integer lowest64 highest64 s)
-  unfolding integer_for or_else only_if minus
+  pub minus_zero : (n : ℕ) → r ≡ Some n → n ≡ 0 → None ≡ option_map signed_for (read_integer lowest64 highest64 s)
+  unfolding or_else only_if minus
   minus_zero n e none_left = rw (after_minus s some_bytes dash, read_value (read_natural 0x8000_0000_0000_0000 (take (length s - 1) (drop 1 s))) (sym e ∙ read), none_left)
 
-  pub minus_refused : r ≡ naturals.Refused → integers.Refused ≡ integer_for (read_integer lowest64 highest64 s)
-  unfolding integer_for or_else
+  pub minus_refused : r ≡ None → None ≡ option_map signed_for (read_integer lowest64 highest64 s)
+  unfolding or_else
   minus_refused e = rw (after_minus s some_bytes dash, read_refused (read_natural 0x8000_0000_0000_0000 (take (length s - 1) (drop 1 s))) (sym e ∙ read))
 
 -- ---- write_integer
@@ -194,34 +187,34 @@ abbrev signed : Bool → ℕ → ℤ
 signed t n = cond t (neg_ℤ (pos n)) (pos n)
 
 -- an integer of signed 64 bits, or a refusal
-abbrev answer : ℤ → Integer
-answer z = integer_for (only_if (within lowest64 highest64 z) z)
+abbrev answer : ℤ → Option Signed
+answer z = option_map signed_for (only_if (within lowest64 highest64 z) z)
 
 -- 0 has no sign.
-pub answer_zero : (t : Bool) (n : ℕ) → n ≡ 0 → integers.Value (record { negative = false; magnitude = 0 }) ≡ answer (signed t n)
-unfolding integer_for signed_for only_if within
+pub answer_zero : (t : Bool) (n : ℕ) → n ≡ 0 → Some (record { negative = false; magnitude = 0 }) ≡ answer (signed t n)
+unfolding signed_for only_if within
 answer_zero true n e = rw e
 answer_zero false n e = rw e
 
 -- A negative integer has a magnitude of at most 2^63.
-pub answer_minus : (n : ℕ) → n ≢ 0 → n ≤ 0x8000_0000_0000_0000 → integers.Value (record { negative = true; magnitude = n }) ≡ answer (signed true n)
-unfolding integer_for signed_for only_if
+pub answer_minus : (n : ℕ) → n ≢ 0 → n ≤ 0x8000_0000_0000_0000 → Some (record { negative = true; magnitude = n }) ≡ answer (signed true n)
+unfolding signed_for only_if
 answer_minus zero other l = absurd (other refl)
 answer_minus (suc n) other l = rw (within_minus, le-leb (suc n) 0x8000_0000_0000_0000 l)
 
 -- Any other is below 2^63.
-pub answer_plain : (n : ℕ) → n ≤ 0x7fff_ffff_ffff_ffff → integers.Value (record { negative = false; magnitude = n }) ≡ answer (signed false n)
-unfolding integer_for signed_for only_if
+pub answer_plain : (n : ℕ) → n ≤ 0x7fff_ffff_ffff_ffff → Some (record { negative = false; magnitude = n }) ≡ answer (signed false n)
+unfolding signed_for only_if
 answer_plain n l = rw (within_plain, le-leb n 0x7fff_ffff_ffff_ffff l)
 
 -- What lies outside is refused.
-pub answer_below : (n : ℕ) → 0x8000_0000_0000_0000 < n → integers.Refused ≡ answer (signed true n)
-unfolding integer_for only_if
+pub answer_below : (n : ℕ) → 0x8000_0000_0000_0000 < n → None ≡ answer (signed true n)
+unfolding only_if
 answer_below zero l = absurd (omega arith)
 answer_below (suc n) l = rw (within_minus, lt-leb (suc n) 0x8000_0000_0000_0000 l)
 
-pub answer_above : (n : ℕ) → 0x7fff_ffff_ffff_ffff < n → integers.Refused ≡ answer (signed false n)
-unfolding integer_for only_if
+pub answer_above : (n : ℕ) → 0x7fff_ffff_ffff_ffff < n → None ≡ answer (signed false n)
+unfolding only_if
 answer_above n l = rw (within_plain, lt-leb n 0x7fff_ffff_ffff_ffff l)
 
 -- ---- add
@@ -259,11 +252,11 @@ module _ (a b : Signed) where
   add_second other l = +ℤ_comm (integer_of a) (integer_of b) ∙ sum_other b.negative a.negative b.magnitude a.magnitude (λ e. other (sym e)) l
 
   -- A sum of one sign whose magnitude is above 2^63 is refused.
-  pub add_outside : a.negative ≡ b.negative → 0x8000_0000_0000_0000 < a.magnitude + b.magnitude → integers.Refused ≡ answer (integer_of a +ℤ integer_of b)
+  pub add_outside : a.negative ≡ b.negative → 0x8000_0000_0000_0000 < a.magnitude + b.magnitude → None ≡ answer (integer_of a +ℤ integer_of b)
   unfolding integer_of
   add_outside e l = go a.negative (a.magnitude + b.magnitude) l ∙ ap answer (sym (add_same e))
     where
-      go : (t : Bool) (n : ℕ) → 0x8000_0000_0000_0000 < n → integers.Refused ≡ answer (signed t n)
+      go : (t : Bool) (n : ℕ) → 0x8000_0000_0000_0000 < n → None ≡ answer (signed t n)
       go true n l = answer_below n l
       go false n l = answer_above n (omega arith)
 

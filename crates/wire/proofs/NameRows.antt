@@ -1,16 +1,15 @@
 -- Names: capitals, and the rows of a table.
+use Rattle.std.specs.Prelude.{Option, None, Some}
 use mathlib.Core.Path.{◌≡◌, refl, ◌∙◌}
 use mathlib.Core.Bool.{Bool, true, false, cond}
 use mathlib.Core.List.{List, map}
-use mathlib.Core.Option.{Option, none, some}
 use Prim.Native.Nat.{ℕ, suc, ◌+◌, ◌-◌, ◌*◌, ◌≤◌, ◌<◌}
 use native.Mathlib.Numerals.{add-one}
 use native.Mathlib.Omega.{arith}
 use borrow.Author.Tests.{le-leb, lt-leb}
 use lib.ListN.{length, get_or, take, drop, length-map, get_or-map}
 use Rattle.wire.specs.Bytes.{part, same, upper}
-use Rattle.wire.specs.declared.names.RowFound.TheVariants as rows
-use Rattle.wire.specs.Promises.{row_size, name_in, row_from, row_for}
+use Rattle.wire.specs.Promises.{row_size, name_in, row_from}
 use Rattle.wire.proofs.Lists.{impossible}
 
 -- ---- capitals
@@ -50,21 +49,21 @@ module _ (table w : List ℕ) (rows i : ℕ) where
   module _ (l : i < rows) (r : Bool)
       (test : r ≡ same (map upper w) (take (row_size * i + 1 + get_or table (row_size * i) 0 - (row_size * i + 1)) (drop (row_size * i + 1) table))) where
     -- the rows from row i on are that row and the later ones
-    row_on : row_from (rows - i) i table w ≡ cond r (some i) (row_from (rows - (i + 1)) (i + 1) table w)
+    row_on : row_from (rows - i) i table w ≡ cond r (Some i) (row_from (rows - (i + 1)) (i + 1) table w)
     unfolding row_from
     row_on =
         let e : rows - i ≡ suc (rows - (i + 1)) = omega arith in
         rw (test, name_part table i, e, add-one i)
 
     -- the word spells the row's name
-    pub row_hit : r ≡ true → row_from (rows - i) i table w ≡ some i
+    pub row_hit : r ≡ true → row_from (rows - i) i table w ≡ Some i
     row_hit h = row_on ∙ rw h
 
     -- it does not
     pub row_skip : r ≡ false → row_from (rows - i) i table w ≡ row_from (rows - (i + 1)) (i + 1) table w
     row_skip h = row_on ∙ rw h
 
-  pub row_end : rows ≤ i → row_from (rows - i) i table w ≡ none
+  pub row_end : rows ≤ i → row_from (rows - i) i table w ≡ None
   unfolding row_from
   row_end l =
       let e : rows - i ≡ 0 = omega arith in
@@ -72,12 +71,10 @@ module _ (table w : List ℕ) (rows i : ℕ) where
 
 -- ---- what a search found
 
-pub row_nothing : (o : Option ℕ) → row_for o ≡ rows.Nothing → o ≡ none
-unfolding row_for
-row_nothing none h = refl
-row_nothing (some k) h = impossible cc
+pub row_nothing : (o : Option ℕ) → o ≡ None → o ≡ None
+row_nothing None h = refl
+row_nothing (Some k) h = impossible cc
 
-pub row_at : (o : Option ℕ) (k : ℕ) → row_for o ≡ rows.At k → o ≡ some k
-unfolding row_for
-row_at none k h = impossible cc
-row_at (some j) k h = cc
+pub row_at : (o : Option ℕ) (k : ℕ) → o ≡ Some k → o ≡ Some k
+row_at None k h = impossible cc
+row_at (Some j) k h = cc

@@ -1,8 +1,9 @@
 -- The words of a command: parts of it, 1 to 64 of them; the reader takes the arrays that are written so and no others.
+use Rattle.std.specs.Prelude.{Some}
 use mathlib.Core.Path.{◌≡◌, refl, sym, ap, ap₂, subst, ◌∙◌}
 use mathlib.Core.Bool.{Bool, true, false, false≢true, cond, ◌&&◌}
 use mathlib.Core.List.{List, [], ◌∷◌, ◌++◌, map, flatten, append_assoc}
-use mathlib.Core.Option.{some, none-ne-some, map-eq-some_iff}
+use Rattle.std.proofs.lemmas.Option.{none-some}
 use Prim.Native.Nat.{ℕ, zero, suc, ◌+◌, ◌≤◌}
 use native.Mathlib.Omega.{arith}
 use borrow.Author.Tests.{leb-true, eqb-true, le-leb, ne_eqb, eq-eqb}
@@ -17,7 +18,7 @@ use Rattle.wire.specs.Words.{words_most, Word, Read, crlf, before_cr, from_cr, r
 use Rattle.wire.specs.Replies.{bulk, header, array, resp_of}
 use Rattle.wire.proofs.Lists.{and_left, and_right}
 use Rattle.wire.proofs.ByteLaws.{bytes_take, bytes_drop, same_true}
-use Rattle.wire.proofs.Options.{cond_some, only_if_some, or_else_some}
+use Rattle.wire.proofs.Options.{option_map_some, cond_some, only_if_some, or_else_some}
 use Rattle.wire.proofs.IntegerDigits.{digit_least, text_digits}
 use Rattle.wire.proofs.IntegerLaws.{read_natural_text, text_read_natural, read_natural_most}
 
@@ -53,16 +54,16 @@ abbrev pub counted : ℕ → ℕ → List ℕ → List ℕ
 counted mark n rest = mark ∷ (natural_text n ++ (crlf ++ rest))
 
 -- a count that is read is one that is written so, and what is left is what follows it
-pub count_is : (mark most : ℕ) (s : List ℕ) (r : Read ℕ) → read_count mark most s ≡ some r → (r.found ≤ most) × (s ≡ counted mark r.found r.rest)
+pub count_is : (mark most : ℕ) (s : List ℕ) (r : Read ℕ) → read_count mark most s ≡ Some r → (r.found ≤ most) × (s ≡ counted mark r.found r.rest)
 unfolding read_count
-count_is mark most [] r h = absurd (none-ne-some r h)
+count_is mark most [] r h = absurd (none-some r h)
 count_is mark most (b ∷ s) r h =
     let (test, m) = cond_some (eqb b mark && same (take 2 (from_cr s)) crlf) h in
-    let (n, p, q) = (map-eq-some_iff _ (read_natural most (before_cr s))).0 m in
+    let (n, p, q) = option_map_some _ (read_natural most (before_cr s)) m in
     subst (λ (r : Read ℕ). (r.found ≤ most) × (b ∷ s ≡ counted mark r.found r.rest)) q
     (made (and_left (eqb b mark) (same (take 2 (from_cr s)) crlf) test) (and_right (eqb b mark) (same (take 2 (from_cr s)) crlf) test) n p)
   where
-    made : eqb b mark ≡ true → same (take 2 (from_cr s)) crlf ≡ true → (n : ℕ) → read_natural most (before_cr s) ≡ some n
+    made : eqb b mark ≡ true → same (take 2 (from_cr s)) crlf ≡ true → (n : ℕ) → read_natural most (before_cr s) ≡ Some n
         → (n ≤ most) × (b ∷ s ≡ counted mark n (drop 2 (from_cr s)))
     made first ends n e =
         let number : before_cr s ≡ natural_text n = sym (text_read_natural most (before_cr s) n e) in
@@ -70,7 +71,7 @@ count_is mark most (b ∷ s) r h =
         (read_natural_most most (before_cr s) n e, ap₂ ◌∷◌ (eqb-true b mark first) (rw (number, same_true (take 2 (from_cr s)) crlf ends) at cut))
 
 -- a count that is written is read
-count_written : (mark most n : ℕ) (rest : List ℕ) → n ≤ most → read_count mark most (counted mark n rest) ≡ some (record { found = n; rest = rest })
+count_written : (mark most n : ℕ) (rest : List ℕ) → n ≤ most → read_count mark most (counted mark n rest) ≡ Some (record { found = n; rest = rest })
 unfolding read_count same
 count_written mark most n rest l =
     rw (eq-eqb mark mark refl, digits_before (natural_text n) (10 ∷ rest) (text_digits n), digits_from (natural_text n) (10 ∷ rest) (text_digits n), read_natural_text most n l)
@@ -83,7 +84,7 @@ unfolding bulk text
 bulk_is w rest = simp append_assoc
 
 -- a word that is read is one that is written so
-pub word_is : (s : List ℕ) (r : Read Word) → read_word s ≡ some r → s ≡ bulk r.found ++ r.rest
+pub word_is : (s : List ℕ) (r : Read Word) → read_word s ≡ Some r → s ≡ bulk r.found ++ r.rest
 unfolding read_word part
 word_is s r h =
     let (n, p, q) = or_else_some (read_count 36 (length s) s) h in
@@ -103,7 +104,7 @@ word_is s r h =
         rw (bulk_is, size, ← drop-drop 2 k t) (ap (counted 36 k) (sym (rw e at whole)))
 
 -- a word that is written is read
-word_written : (w rest : List ℕ) → read_word (bulk w ++ rest) ≡ some (record { found = w; rest = rest })
+word_written : (w rest : List ℕ) → read_word (bulk w ++ rest) ≡ Some (record { found = w; rest = rest })
 unfolding read_word or_else only_if part same
 word_written w rest =
     let room : length w ≤ length (counted 36 (length w) (w ++ (crlf ++ rest))) = simp length-append (omega arith) in
@@ -118,7 +119,7 @@ unfolding resp_of array header text
 resp_is ws = rw length-map (ap (λ (t : List ℕ). 42 ∷ t) (append_assoc (natural_text (length ws)) crlf (flatten (map bulk ws))))
 
 -- n words that are read are those that are written so, with nothing after them
-words_are : (n : ℕ) (s : List ℕ) (ws : List Word) → read_words n s ≡ some ws → (length ws ≡ n) × (s ≡ flatten (map bulk ws))
+words_are : (n : ℕ) (s : List ℕ) (ws : List Word) → read_words n s ≡ Some ws → (length ws ≡ n) × (s ≡ flatten (map bulk ws))
 unfolding read_words flatten is_empty
 words_are zero s ws h =
     let (empty, e) = only_if_some (is_empty s) h in
@@ -129,24 +130,24 @@ words_are zero s ws h =
     none_left (b ∷ s) h = absurd (false≢true h)
 words_are (suc n) s ws h =
     let (w, p, q) = or_else_some (read_word s) h in
-    let (us, m, e) = (map-eq-some_iff _ (read_words n w.rest)).0 q in
+    let (us, m, e) = option_map_some _ (read_words n w.rest) q in
     let more : (length us ≡ n) × (w.rest ≡ flatten (map bulk us)) = words_are n w.rest us m in
     subst (λ (ws : List Word). (length ws ≡ suc n) × (s ≡ flatten (map bulk ws))) e
     (ap suc more.0, word_is s w p ∙ ap (λ (t : List ℕ). bulk w.found ++ t) more.1)
 
 -- words that are written are read
-words_written : (ws : List Word) → read_words (length ws) (flatten (map bulk ws)) ≡ some ws
+words_written : (ws : List Word) → read_words (length ws) (flatten (map bulk ws)) ≡ Some ws
 unfolding read_words flatten only_if is_empty or_else
 words_written [] = refl
 words_written (w ∷ ws) = rw (word_written w (flatten (map bulk ws)), words_written ws)
 
 -- A command of 1 to 64 words as they are written has those words.
-pub words_resp_of : (ws : List Word) → 1 ≤ length ws → length ws ≤ words_most → words_of (resp_of ws) ≡ some ws
+pub words_resp_of : (ws : List Word) → 1 ≤ length ws → length ws ≤ words_most → words_of (resp_of ws) ≡ Some ws
 unfolding words_of or_else
 words_resp_of ws least most = rw (resp_is ws, count_written 42 words_most (length ws) (flatten (map bulk ws)) most, le-leb 1 (length ws) least) (words_written ws)
 
 -- what is known of a command that is read
-words_read : (s : List ℕ) (ws : List Word) → words_of s ≡ some ws → (1 ≤ length ws) × (length ws ≤ words_most) × (s ≡ resp_of ws)
+words_read : (s : List ℕ) (ws : List Word) → words_of s ≡ Some ws → (1 ≤ length ws) × (length ws ≤ words_most) × (s ≡ resp_of ws)
 unfolding words_of
 words_read s ws h =
     let (n, p, q) = or_else_some (read_count 42 words_most s) h in
@@ -160,11 +161,11 @@ words_read s ws h =
     known n t least most e size all = (omega arith, omega arith, rw (resp_is, size, ← all) e)
 
 -- A command that has words is as they are written.
-pub resp_of_words : (s : List ℕ) (ws : List Word) → words_of s ≡ some ws → s ≡ resp_of ws
+pub resp_of_words : (s : List ℕ) (ws : List Word) → words_of s ≡ Some ws → s ≡ resp_of ws
 resp_of_words s ws h = (words_read s ws h).2
 
 -- A command has 1 to 64 words.
-pub words_count : (s : List ℕ) (ws : List Word) → words_of s ≡ some ws → (1 ≤ length ws) × (length ws ≤ words_most)
+pub words_count : (s : List ℕ) (ws : List Word) → words_of s ≡ Some ws → (1 ≤ length ws) × (length ws ≤ words_most)
 words_count s ws h = ((words_read s ws h).0, (words_read s ws h).1)
 
 -- ---- bytes
@@ -182,7 +183,7 @@ unfolding bulk
 word_bytes w h = bytes_after (text "$" ++ natural_text (length w) ++ crlf) w (bytes_before (text "$" ++ natural_text (length w) ++ crlf ++ w) crlf h)
 
 -- The words of a command of bytes are bytes.
-pub words_bytes : (s : List ℕ) (ws : List Word) → Bytes s → words_of s ≡ some ws → (i : ℕ) → Bytes (get_or ws i [])
+pub words_bytes : (s : List ℕ) (ws : List Word) → Bytes s → words_of s ≡ Some ws → (i : ℕ) → Bytes (get_or ws i [])
 unfolding resp_of array flatten
 words_bytes s ws b h = each ws (bytes_after (header (length (map bulk ws))) (flatten (map bulk ws)) (rw (resp_of_words s ws h) at b))
   where

@@ -1,8 +1,8 @@
 -- Places in a command: what its readers find at a place, and where they go on.
+use Rattle.std.specs.Prelude.{Option, None, Some, option_map}
 use mathlib.Core.Path.{◌≡◌, refl, sym, ap, ap₂, ◌∙◌}
 use mathlib.Core.Bool.{Bool, true, false, false≢true, cond, ◌&&◌}
 use mathlib.Core.List.{List, [], ◌∷◌, ◌++◌, append_assoc, append-nil, map-append}
-use mathlib.Core.Option.{Option, none, some, map}
 use Prim.Native.Nat.{ℕ, zero, suc, ◌+◌, ◌-◌, ◌≤◌, ◌<◌}
 use native.Mathlib.Numerals.{add-one}
 use native.Mathlib.Nat.{not-suc-le-zero, sub-zero}
@@ -12,19 +12,31 @@ use borrow.Author.Tests.{le-leb, ltb-true, ltb-false, ne_eqb, eq-eqb}
 use lib.Dec.{leb, ltb, eqb}
 use lib.ListN.{length, get_or, take, drop, set, length-append, length-take, length-drop, length-map, drop_of_length-le, get_or-map, get_or-eq_default}
 use lib.Seq.{drop-cons, drop-drop, drop-length, take_at, take-append_seam, drop-append_seam, get_or-set_same, get_or-set_other, get_or-take, take-suc-set, length-take-le, append_snoc}
+use Rattle.std.proofs.lemmas.Option.{same_Some}
 use Rattle.wire.proofs.Lists.{impossible}
-use Rattle.wire.specs.declared.integers.Natural.TheVariants as naturals
-use Rattle.wire.specs.declared.words.Next.{Next}
-use Rattle.wire.specs.declared.words.Next.TheVariants as nexts
-use Rattle.wire.specs.declared.words.Counted.TheVariants as counts
-use Rattle.wire.specs.declared.words.Placed.TheVariants as placed
+use Rattle.wire.specs.declared.words.Counted.{Counted}
+use Rattle.wire.specs.declared.words.Placed.{Placed}
 use Rattle.wire.specs.Lists.{only_if, or_else, is_empty}
 use Rattle.wire.specs.Bytes.{part, same, text}
 use Rattle.wire.specs.Integers.{natural_text, read_natural}
 use Rattle.wire.specs.Words.{Word, Read, crlf, before_cr, from_cr, read_count, read_word, read_words, words_of, words_most, word_at}
 use Rattle.wire.specs.Replies.{bulk, header}
-use Rattle.wire.specs.Promises.{natural_for, counted_for, placed_for, word_in, words_in, place_end, places_from, places_of, Inside, Places, next_of}
+use Rattle.wire.specs.Promises.{counted_for, placed_for, word_in, words_in, place_end, places_from, places_of, Inside, Places, next_of}
 use Rattle.wire.proofs.WordLaws.{split_CR, count_is, word_is}
+
+-- what a reader of a count and a reader of a word answer
+abbrev counted : ℕ → ℕ → Option Counted
+counted count next = Some (record { count = count; next = next })
+
+abbrev placed : ℕ → ℕ → ℕ → Option Placed
+placed start size next = Some (record { start = start; size = size; next = next })
+
+counted_same : (n k m l : ℕ) → counted n k ≡ counted m l → (n ≡ m) × (k ≡ l)
+counted_same n k m l h = let e = same_Some {A = Counted} _ _ h in (ap (λ (x : Counted). x.count) e, ap (λ (x : Counted). x.next) e)
+
+placed_same : (a n k b m l : ℕ) → placed a n k ≡ placed b m l → (a ≡ b) × (n ≡ m) × (k ≡ l)
+placed_same a n k b m l h =
+    let e = same_Some {A = Placed} _ _ h in (ap (λ (x : Placed). x.start) e, ap (λ (x : Placed). x.size) e, ap (λ (x : Placed). x.next) e)
 
 -- ---- lines
 
@@ -125,7 +137,7 @@ suffix_inside s p t at e = omega (arith, length-drop at s, ap length e, length-a
 
 module _ (s : List ℕ) (at mark most : ℕ) where
   -- nothing is left
-  pub counted_past : length s ≤ at → counts.Damaged ≡ counted_for (length s) (read_count mark most (drop at s))
+  pub counted_past : length s ≤ at → None ≡ counted_for (length s) (read_count mark most (drop at s))
   unfolding read_count counted_for
   counted_past l = rw (drop_of_length-le s {i = at} l)
 
@@ -133,91 +145,92 @@ module _ (s : List ℕ) (at mark most : ℕ) where
     -- the count by its places
     count_at : read_count mark most (drop at s)
         ≡ cond (eqb (get_or s at 0) mark && same (part (line_end s (at + 1)) 2 s) crlf)
-        (map (λ n. record { found = n; rest = drop (line_end s (at + 1) + 2) s })
+        (option_map (λ n. record { found = n; rest = drop (line_end s (at + 1) + 2) s })
         (read_natural most (take (line_end s (at + 1) - (at + 1)) (drop (at + 1) s))))
-        none
+        None
     unfolding read_count part
     count_at =
         rw (line_bytes s (at + 1), ← drop-drop 2 (line_end s (at + 1)) s, line_rest s (at + 1), drop-cons s at 0 l, add-one at)
 
     -- another byte than the mark stands there
-    pub counted_mark : (get_or s at 0 ≡ mark → ⊥) → counts.Damaged ≡ counted_for (length s) (read_count mark most (drop at s))
+    pub counted_mark : (get_or s at 0 ≡ mark → ⊥) → None ≡ counted_for (length s) (read_count mark most (drop at s))
     unfolding counted_for
     counted_mark h = rw (count_at, ne_eqb (get_or s at 0) mark h)
 
     module _ (first : get_or s at 0 ≡ mark) (end : ℕ) (e : end ≡ line_end s (at + 1)) where
       -- its line does not end
-      pub counted_line : same (part end 2 s) crlf ≡ false → counts.Damaged ≡ counted_for (length s) (read_count mark most (drop at s))
+      pub counted_line : same (part end 2 s) crlf ≡ false → None ≡ counted_for (length s) (read_count mark most (drop at s))
       unfolding counted_for
       counted_line h = rw (count_at, eq-eqb (get_or s at 0) mark first, ← e, h)
 
       -- the count is what its digits are read as
       counted_is : same (part end 2 s) crlf ≡ true → read_count mark most (drop at s)
-          ≡ map (λ n. record { found = n; rest = drop (end + 2) s }) (read_natural most (take (end - (at + 1)) (drop (at + 1) s)))
+          ≡ option_map (λ n. record { found = n; rest = drop (end + 2) s }) (read_natural most (take (end - (at + 1)) (drop (at + 1) s)))
       counted_is h = count_at ∙ rw (eq-eqb (get_or s at 0) mark first, ← e, h)
 
       -- its digits are no count, or they are
       pub counted_refused : same (part end 2 s) crlf ≡ true
-          → naturals.Refused ≡ natural_for (read_natural most (take (end - (at + 1)) (drop (at + 1) s)))
-          → counts.Damaged ≡ counted_for (length s) (read_count mark most (drop at s))
-      unfolding counted_for natural_for
+          → None ≡ (read_natural most (take (end - (at + 1)) (drop (at + 1) s)))
+          → None ≡ counted_for (length s) (read_count mark most (drop at s))
+      unfolding counted_for
       counted_refused h r = rw (counted_is h) (go (read_natural most (take (end - (at + 1)) (drop (at + 1) s))) r)
         where
-          go : (o : Option ℕ) → naturals.Refused ≡ natural_for o
-              → counts.Damaged ≡ counted_for (length s) (map (λ n. record { found = n; rest = drop (end + 2) s }) o)
-          go none r = refl
-          go (some n) r = impossible cc
+          go : (o : Option ℕ) → None ≡ o
+              → None ≡ counted_for (length s) (option_map (λ n. record { found = n; rest = drop (end + 2) s }) o)
+          go None r = refl
+          go (Some n) r = impossible cc
 
       pub counted_value : (n : ℕ) → same (part end 2 s) crlf ≡ true
-          → naturals.Value n ≡ natural_for (read_natural most (take (end - (at + 1)) (drop (at + 1) s)))
-          → counts.Count n (end + 2) ≡ counted_for (length s) (read_count mark most (drop at s))
-      unfolding counted_for natural_for
+          → Some n ≡ (read_natural most (take (end - (at + 1)) (drop (at + 1) s)))
+          → counted n (end + 2) ≡ counted_for (length s) (read_count mark most (drop at s))
+      unfolding counted_for
       counted_value n h r = rw (counted_is h) (go (read_natural most (take (end - (at + 1)) (drop (at + 1) s))) r)
         where
-          go : (o : Option ℕ) → naturals.Value n ≡ natural_for o
-              → counts.Count n (end + 2) ≡ counted_for (length s) (map (λ n. record { found = n; rest = drop (end + 2) s }) o)
-          go none r = impossible cc
-          go (some m) r =
+          go : (o : Option ℕ) → Some n ≡ o
+              → counted n (end + 2) ≡ counted_for (length s) (option_map (λ n. record { found = n; rest = drop (end + 2) s }) o)
+          go None r = impossible cc
+          go (Some m) r =
               let place : end + 2 ≡ length s - length (drop (end + 2) s) = omega (arith, length-drop (end + 2) s, ends_room s end h) in
               let same_count : n ≡ m = cc in
-              ap₂ counts.Count same_count place
+              ap₂ counted same_count place
 
 module _ (s : List ℕ) (at mark most : ℕ) where
   -- what a count that was answered says: what was read, and that what is left begins at the place
-  pub count_some : (n k : ℕ) → at ≤ length s → counts.Count n k ≡ counted_for (length s) (read_count mark most (drop at s))
-      → (read_count mark most (drop at s) ≡ some (record { found = n; rest = drop k s })) × (k ≤ length s) × (n ≤ most)
+  pub count_some : (n k : ℕ) → at ≤ length s → counted n k ≡ counted_for (length s) (read_count mark most (drop at s))
+      → (read_count mark most (drop at s) ≡ Some (record { found = n; rest = drop k s })) × (k ≤ length s) × (n ≤ most)
   unfolding counted_for
   count_some n k l h = go (read_count mark most (drop at s)) refl h
     where
-      go : (o : Option (Read ℕ)) → read_count mark most (drop at s) ≡ o → counts.Count n k ≡ counted_for (length s) o
-          → (read_count mark most (drop at s) ≡ some (record { found = n; rest = drop k s })) × (k ≤ length s) × (n ≤ most)
-      go none e h = impossible cc
-      go (some c) e h =
-          let f : c.found ≡ n = cc in
-          let p : length s - length c.rest ≡ k = cc in
+      go : (o : Option (Read ℕ)) → read_count mark most (drop at s) ≡ o → counted n k ≡ counted_for (length s) o
+          → (read_count mark most (drop at s) ≡ Some (record { found = n; rest = drop k s })) × (k ≤ length s) × (n ≤ most)
+      go None e h = impossible cc
+      go (Some c) e h =
+          let same = counted_same _ _ _ _ h in
+          let f : c.found ≡ n = sym same.0 in
+          let p : length s - length c.rest ≡ k = sym same.1 in
           let known = count_is mark most (drop at s) c e in
           let rest : drop k s ≡ c.rest = rw p at (suffix s (mark ∷ (natural_text c.found ++ crlf)) c.rest at l (rw append_assoc known.1)) in
-          (e ∙ ap some (λ i. record { found = f i; rest = sym rest i }), omega arith, rw f at known.0)
+          (e ∙ ap Some (λ i. record { found = f i; rest = sym rest i }), omega arith, rw f at known.0)
 
   -- and where none was answered
-  pub count_none : counts.Damaged ≡ counted_for (length s) (read_count mark most (drop at s)) → read_count mark most (drop at s) ≡ none
+  pub count_none : None ≡ counted_for (length s) (read_count mark most (drop at s)) → read_count mark most (drop at s) ≡ None
   unfolding counted_for
   count_none h = go (read_count mark most (drop at s)) h
     where
-      go : (o : Option (Read ℕ)) → counts.Damaged ≡ counted_for (length s) o → o ≡ none
-      go none h = refl
-      go (some c) h = impossible cc
+      go : (o : Option (Read ℕ)) → None ≡ counted_for (length s) o → o ≡ None
+      go None h = refl
+      go (Some c) h = impossible cc
 
 -- ---- a word at a place
 
 module _ (s : List ℕ) (at : ℕ) where
   -- its count is damaged
-  pub placed_damaged : counts.Damaged ≡ counted_for (length s) (read_count 36 (length s - at) (drop at s))
-      → placed.Damaged ≡ placed_for (length s) (read_word (drop at s))
+  pub placed_damaged : None ≡ counted_for (length s) (read_count 36 (length s - at) (drop at s))
+      → None ≡ placed_for (length s) (read_word (drop at s))
   unfolding read_word or_else placed_for
   placed_damaged h = rw (length-drop at s, count_none s at 36 (length s - at) h)
 
-  module _ (l : at ≤ length s) (size start : ℕ) (count : counts.Count size start ≡ counted_for (length s) (read_count 36 (length s - at) (drop at s))) where
+  module _ (l : at ≤ length s) (size start : ℕ) (count : counted size start ≡ counted_for (length s) (read_count 36 (length s - at) (drop at s))) where
     -- the word by its places
     word_at_lem : read_word (drop at s)
         ≡ only_if (same (part (start + size) 2 s) crlf) (record { found = part start size s; rest = drop (start + size + 2) s })
@@ -229,16 +242,16 @@ module _ (s : List ℕ) (at : ℕ) where
     start_inside = (count_some s at 36 (length s - at) size start l count).1
 
     -- CR LF does not stand behind it, or it is longer than what is left
-    pub placed_end : same (part (start + size) 2 s) crlf ≡ false → placed.Damaged ≡ placed_for (length s) (read_word (drop at s))
+    pub placed_end : same (part (start + size) 2 s) crlf ≡ false → None ≡ placed_for (length s) (read_word (drop at s))
     unfolding placed_for only_if
     placed_end h = rw (word_at_lem, h)
 
-    pub placed_short : length s - start < size → placed.Damaged ≡ placed_for (length s) (read_word (drop at s))
+    pub placed_short : length s - start < size → None ≡ placed_for (length s) (read_word (drop at s))
     placed_short h = placed_end (ends_short s (start + size) (omega arith))
 
     -- CR LF does
     pub placed_word : same (part (start + size) 2 s) crlf ≡ true
-        → placed.Word start size (start + size + 2) ≡ placed_for (length s) (read_word (drop at s))
+        → placed start size (start + size + 2) ≡ placed_for (length s) (read_word (drop at s))
     unfolding placed_for only_if part
     placed_word h =
         let room : start + size + 2 ≤ length s = ends_room s (start + size) h in
@@ -246,21 +259,22 @@ module _ (s : List ℕ) (at : ℕ) where
         let rest : length (drop (start + size + 2) s) ≡ length s - (start + size + 2) = length-drop (start + size + 2) s in
         let first : start ≡ length s - (size + 2 + (length s - (start + size + 2))) = omega arith in
         let next : start + size + 2 ≡ length s - (length s - (start + size + 2)) = omega arith in
-        rw (word_at_lem, h, fits, rest) (ap₂ (λ (a b : ℕ). placed.Word a size b) first next)
+        rw (word_at_lem, h, fits, rest) (ap₂ (λ (a b : ℕ). placed a size b) first next)
 
   -- what a word that was answered says: the word of the place, that it lies in the command, and that what is left begins at the next place
-  pub word_some : (start size next : ℕ) → at ≤ length s → placed.Word start size next ≡ placed_for (length s) (read_word (drop at s))
-      → (read_word (drop at s) ≡ some (record { found = part start size s; rest = drop next s })) × (start + size ≤ length s) × (next ≤ length s)
+  pub word_some : (start size next : ℕ) → at ≤ length s → placed start size next ≡ placed_for (length s) (read_word (drop at s))
+      → (read_word (drop at s) ≡ Some (record { found = part start size s; rest = drop next s })) × (start + size ≤ length s) × (next ≤ length s)
   unfolding placed_for part bulk
   word_some start size next l h = go (read_word (drop at s)) refl h
     where
-      go : (o : Option (Read Word)) → read_word (drop at s) ≡ o → placed.Word start size next ≡ placed_for (length s) o
-          → (read_word (drop at s) ≡ some (record { found = take size (drop start s); rest = drop next s })) × (start + size ≤ length s) × (next ≤ length s)
-      go none e h = impossible cc
-      go (some w) e h =
-          let p : length s - (length w.found + 2 + length w.rest) ≡ start = cc in
-          let q : length w.found ≡ size = cc in
-          let r : length s - length w.rest ≡ next = cc in
+      go : (o : Option (Read Word)) → read_word (drop at s) ≡ o → placed start size next ≡ placed_for (length s) o
+          → (read_word (drop at s) ≡ Some (record { found = take size (drop start s); rest = drop next s })) × (start + size ≤ length s) × (next ≤ length s)
+      go None e h = impossible cc
+      go (Some w) e h =
+          let same = placed_same _ _ _ _ _ _ h in
+          let p : length s - (length w.found + 2 + length w.rest) ≡ start = sym same.0 in
+          let q : length w.found ≡ size = sym same.1 in
+          let r : length s - length w.rest ≡ next = sym same.2 in
           let is : drop at s ≡ bulk w.found ++ w.rest = word_is (drop at s) w e in
           let rest : drop next s ≡ w.rest = rw r at (suffix s (bulk w.found) w.rest at l is) in
           let head = text "$" ++ natural_text (length w.found) ++ crlf in
@@ -269,19 +283,20 @@ module _ (s : List ℕ) (at : ℕ) where
           let size_is : length tail ≡ length w.found + 2 + length w.rest = simp length-append (omega arith) in
           let begin : length s - length tail ≡ start = rw size_is p in
           let found : take size (drop start s) ≡ w.found = rw (rw begin at (suffix s head tail at l cut)) (take_at w.found (crlf ++ w.rest) size q) in
-          (e ∙ ap some (λ i. record { found = sym found i; rest = sym rest i }), omega (arith, suffix_inside s head tail at cut), omega arith)
+          (e ∙ ap Some (λ i. record { found = sym found i; rest = sym rest i }), omega (arith, suffix_inside s head tail at cut), omega arith)
 
   -- where it and the next stand, by the word
-  word_stands : (start size next : ℕ) → at ≤ length s → placed.Word start size next ≡ placed_for (length s) (read_word (drop at s))
+  word_stands : (start size next : ℕ) → at ≤ length s → placed start size next ≡ placed_for (length s) (read_word (drop at s))
       → (ws : List Word) → places_from at (part start size s ∷ ws) ≡ (start ∷ size ∷ []) ∷ places_from next ws
   unfolding places_from placed_for bulk
   word_stands start size next l h ws =
       let w = part start size s in
       let head = text "$" ++ natural_text (length w) ++ crlf in
       let (e, inside, within) = word_some start size next l h in
-      let said : placed.Word start size next ≡ placed.Word (length s - (length w + 2 + length (drop next s))) (length w) (length s - length (drop next s)) = rw e at h in
-      let p : start ≡ length s - (length w + 2 + length (drop next s)) = cc in
-      let q : length w ≡ size = cc in
+      let said : placed start size next ≡ placed (length s - (length w + 2 + length (drop next s))) (length w) (length s - length (drop next s)) = rw e at h in
+      let same = placed_same _ _ _ _ _ _ said in
+      let p : start ≡ length s - (length w + 2 + length (drop next s)) = same.0 in
+      let q : length w ≡ size = sym same.1 in
       let all : length s - at ≡ length (bulk w) + length (drop next s) = sym (length-drop at s) ∙ ap length (word_is (drop at s) _ e) ∙ length-append (bulk w) (drop next s) in
       let one : length (bulk w) ≡ length head + length w + 2 = length-append (head ++ w) crlf ∙ ap (λ (n : ℕ). n + 2) (length-append head w) in
       let rest : length (drop next s) ≡ length s - next = length-drop next s in
@@ -290,13 +305,13 @@ module _ (s : List ℕ) (at : ℕ) where
       rw (here, on, q)
 
   -- and where none was answered
-  pub word_none : placed.Damaged ≡ placed_for (length s) (read_word (drop at s)) → read_word (drop at s) ≡ none
+  pub word_none : None ≡ placed_for (length s) (read_word (drop at s)) → read_word (drop at s) ≡ None
   unfolding placed_for
   word_none h = go (read_word (drop at s)) h
     where
-      go : (o : Option (Read Word)) → placed.Damaged ≡ placed_for (length s) o → o ≡ none
-      go none h = refl
-      go (some w) h = impossible cc
+      go : (o : Option (Read Word)) → None ≡ placed_for (length s) o → o ≡ None
+      go None h = refl
+      go (Some w) h = impossible cc
 
 -- ---- the words of a command
 
@@ -313,8 +328,8 @@ words_more s i a b places l = rw (take-suc-set places i (a ∷ b ∷ []) l) (map
 
 -- what is known of a command between two words: what was found and what is left are its words, and so are their places; those found lie in it
 pub record Progress (s : List ℕ) (places : List (List ℕ)) (count first at i : ℕ) : Type 0 where
-  pub left : map (λ ws. words_in s (take i places) ++ ws) (read_words (count - i) (drop at s)) ≡ read_words count (drop first s)
-  pub stand : map (λ ws. take i places ++ places_from at ws) (read_words (count - i) (drop at s)) ≡ map (places_from first) (read_words count (drop first s))
+  pub left : option_map (λ ws. words_in s (take i places) ++ ws) (read_words (count - i) (drop at s)) ≡ read_words count (drop first s)
+  pub stand : option_map (λ ws. take i places ++ places_from at ws) (read_words (count - i) (drop at s)) ≡ option_map (places_from first) (read_words count (drop first s))
   pub inside : (j : ℕ) → j < i → place_end (get_or places j []) ≤ length s
   pub within : at ≤ length s
   pub passed : i ≤ count
@@ -322,7 +337,7 @@ pub record Progress (s : List ℕ) (places : List (List ℕ)) (count first at i 
 
 -- before the first word
 pub progress_begins : {s : List ℕ} {places : List (List ℕ)} {count first : ℕ}
-    → counts.Count count first ≡ counted_for (length s) (read_count 42 words_most (drop 0 s)) → Progress s places count first first 0
+    → counted count first ≡ counted_for (length s) (read_count 42 words_most (drop 0 s)) → Progress s places count first first 0
 unfolding words_in
 progress_begins {s} {places} {count} {first} head =
     let known = count_some s 0 42 words_most count first (omega arith) head in
@@ -335,33 +350,33 @@ progress_begins {s} {places} {count} {first} head =
       most = known.2;
     }
   where
-    same_words : (o : Option (List Word)) → map (λ ws. [] ++ ws) o ≡ o
-    same_words none = refl
-    same_words (some ws) = refl
+    same_words : (o : Option (List Word)) → option_map (λ ws. [] ++ ws) o ≡ o
+    same_words None = refl
+    same_words (Some ws) = refl
 
 -- what is found before a word, and f of the words after it, is g of them with the word
 map_snoc : {A : Type 0} (f g : List Word → List A) (xs : List A) (x : A) (w : Word) → ((ws : List Word) → g (w ∷ ws) ≡ x ∷ f ws) → (o : Option (List Word))
-    → map (λ ws. xs ++ (x ∷ []) ++ f ws) o ≡ map (λ ws. xs ++ g ws) (map (λ ws. w ∷ ws) o)
-map_snoc f g xs x w h none = refl
-map_snoc f g xs x w h (some ws) = ap some (append_snoc xs x (f ws) ∙ rw (h ws))
+    → option_map (λ ws. xs ++ (x ∷ []) ++ f ws) o ≡ option_map (λ ws. xs ++ g ws) (option_map (λ ws. w ∷ ws) o)
+map_snoc f g xs x w h None = refl
+map_snoc f g xs x w h (Some ws) = ap Some (append_snoc xs x (f ws) ∙ rw (h ws))
 
 module _ {s : List ℕ} {places : List (List ℕ)} {count first at i : ℕ} (now : Progress s places count first at i) where
   -- a word is left
   left_is : i < count → read_words (count - i) (drop at s)
-      ≡ or_else (read_word (drop at s)) none (λ w. map (λ ws. w.found ∷ ws) (read_words (count - (i + 1)) w.rest))
+      ≡ or_else (read_word (drop at s)) None (λ w. option_map (λ ws. w.found ∷ ws) (read_words (count - (i + 1)) w.rest))
   unfolding read_words
   left_is l = let e : count - i ≡ suc (count - (i + 1)) = omega arith in rw e
 
   -- a word was found
   pub progress_goes_on : {start size next : ℕ} → i < count → i < length places
-      → placed.Word start size next ≡ placed_for (length s) (read_word (drop at s))
+      → placed start size next ≡ placed_for (length s) (read_word (drop at s))
       → Progress s (set places i (start ∷ size ∷ [])) count first next (i + 1)
   unfolding or_else
   progress_goes_on {start} {size} {next} l p h =
       let word = word_some s at start size next now.within h in
       let rest = read_words (count - suc i) (drop next s) in
       let found = take i places in
-      let more : read_words (count - i) (drop at s) ≡ map (λ ws. part start size s ∷ ws) rest = left_is l ∙ rw (word.0, add-one i) in
+      let more : read_words (count - i) (drop at s) ≡ option_map (λ ws. part start size s ∷ ws) rest = left_is l ∙ rw (word.0, add-one i) in
       record {
         left =
             rw (add-one i, words_more s i start size places p)
@@ -379,12 +394,12 @@ module _ {s : List ℕ} {places : List (List ℕ)} {count first at i : ℕ} (now
       }
 
   -- a word is damaged
-  pub progress_damaged : i < count → placed.Damaged ≡ placed_for (length s) (read_word (drop at s)) → read_words count (drop first s) ≡ none
+  pub progress_damaged : i < count → None ≡ placed_for (length s) (read_word (drop at s)) → read_words count (drop first s) ≡ None
   unfolding or_else
   progress_damaged l h = sym (rw (left_is l, word_none s at h) at now.left)
 
   -- something stands after the last word
-  pub progress_after : count ≤ i → (at ≡ length s → ⊥) → read_words count (drop first s) ≡ none
+  pub progress_after : count ≤ i → (at ≡ length s → ⊥) → read_words count (drop first s) ≡ None
   unfolding read_words only_if is_empty
   progress_after l h =
       let e : count - i ≡ 0 = omega arith in
@@ -392,7 +407,7 @@ module _ {s : List ℕ} {places : List (List ℕ)} {count first at i : ℕ} (now
       sym (rw (e, drop-cons s at 0 m) at now.left)
 
   -- nothing does
-  pub progress_ends : count ≤ i → at ≡ length s → read_words count (drop first s) ≡ some (words_in s (take count places))
+  pub progress_ends : count ≤ i → at ≡ length s → read_words count (drop first s) ≡ Some (words_in s (take count places))
   unfolding read_words only_if is_empty
   progress_ends l h =
       let e : count - i ≡ 0 = omega arith in
@@ -405,7 +420,7 @@ module _ {s : List ℕ} {places : List (List ℕ)} {count first at i : ℕ} (now
   progress_stands l h =
       let e : count - i ≡ 0 = omega arith in
       let n : i ≡ count = omega (arith, now.passed) in
-      let found : some (take count places) ≡ some (places_from first (words_in s (take count places))) =
+      let found : Some (take count places) ≡ Some (places_from first (words_in s (take count places))) =
       rw (progress_ends l h, e, h, drop-length s, n, append-nil) at now.stand in
       cc
 
@@ -416,37 +431,37 @@ none_inside : (s : List ℕ) (places : List (List ℕ)) → Inside s (take 0 pla
 none_inside s places = record { most = omega arith; inside = λ i l. absurd (not-suc-le-zero l) }
 
 -- a command whose count is damaged
-pub places_headless : {s : List ℕ} {places : List (List ℕ)} → counts.Damaged ≡ counted_for (length s) (read_count 42 words_most (drop 0 s)) → Places s places 0
+pub places_headless : {s : List ℕ} {places : List (List ℕ)} → None ≡ counted_for (length s) (read_count 42 words_most (drop 0 s)) → Places s places 0
 unfolding words_of or_else
 places_headless {s} {places} h =
     let none_read = count_none s 0 42 words_most h in
     record { stands = rw none_read; words = rw none_read; room = omega arith; within = none_inside s places }
 
 -- the words behind the count
-words_at : (s : List ℕ) (count first : ℕ) → counts.Count count first ≡ counted_for (length s) (read_count 42 words_most (drop 0 s))
-    → words_of s ≡ cond (leb 1 count) (read_words count (drop first s)) none
+words_at : (s : List ℕ) (count first : ℕ) → counted count first ≡ counted_for (length s) (read_count 42 words_most (drop 0 s))
+    → words_of s ≡ cond (leb 1 count) (read_words count (drop first s)) None
 unfolding words_of or_else
 words_at s count first head = rw (count_some s 0 42 words_most count first (omega arith) head).0
 
 -- they begin behind the header
-first_is : (s : List ℕ) (count first : ℕ) → counts.Count count first ≡ counted_for (length s) (read_count 42 words_most (drop 0 s)) → first ≡ length (header count)
+first_is : (s : List ℕ) (count first : ℕ) → counted count first ≡ counted_for (length s) (read_count 42 words_most (drop 0 s)) → first ≡ length (header count)
 unfolding header text
 first_is s count first head =
     let (e, inside, most) = count_some s 0 42 words_most count first (omega arith) head in
     let all = simp (length-append, length-drop) at (ap length (count_is 42 words_most s _ e).1) in
     simp length-append (omega arith)
 
-module _ {s : List ℕ} {places : List (List ℕ)} {count first : ℕ} (head : counts.Count count first ≡ counted_for (length s) (read_count 42 words_most (drop 0 s))) where
+module _ {s : List ℕ} {places : List (List ℕ)} {count first : ℕ} (head : counted count first ≡ counted_for (length s) (read_count 42 words_most (drop 0 s))) where
   -- a command whose words are damaged
-  pub places_none : read_words count (drop first s) ≡ none → Places s places 0
+  pub places_none : read_words count (drop first s) ≡ None → Places s places 0
   unfolding or_else
   places_none h = record { stands = rw none_read; words = none_read; room = omega arith; within = none_inside s places }
     where
-      either : (t : Bool) → cond {A = Option (List Word)} t none none ≡ none
+      either : (t : Bool) → cond {A = Option (List Word)} t None None ≡ None
       either true = refl
       either false = refl
 
-      none_read : words_of s ≡ none
+      none_read : words_of s ≡ None
       none_read = words_at s count first head ∙ rw h (either (leb 1 count))
 
   -- a command that was read whole
@@ -456,7 +471,7 @@ module _ {s : List ℕ} {places : List (List ℕ)} {count first : ℕ} (head : c
       let fits : count ≤ length places = omega (arith, now.most) in
       let size : length (take count places) ≡ count = length-take-le count places fits in
       let ws = words_in s (take count places) in
-      let read : words_of s ≡ cond (leb 1 count) (some ws) none = words_at s count first head ∙ rw (progress_ends now l e) in
+      let read : words_of s ≡ cond (leb 1 count) (Some ws) None = words_at s count first head ∙ rw (progress_ends now l e) in
       let first-place : first ≡ length (header (length ws)) = first_is s count first head ∙ rw (length_words s (take count places), size) in
       record {
         stands = rw read (standing count ws (rw first-place at (progress_stands now l e)));
@@ -468,11 +483,11 @@ module _ {s : List ℕ} {places : List (List ℕ)} {count first : ℕ} (head : c
         };
       }
     where
-      standing : (n : ℕ) (ws : List Word) → take n places ≡ places_of ws → take n places ≡ or_else (cond (leb 1 n) (some ws) none) [] places_of
+      standing : (n : ℕ) (ws : List Word) → take n places ≡ places_of ws → take n places ≡ or_else (cond (leb 1 n) (Some ws) None) [] places_of
       standing zero ws h = refl
       standing (suc n) ws h = rw (le-leb 1 (suc n) (omega arith)) h
 
-      least : (n : ℕ) (ws : List Word) → cond (leb 1 n) (some ws) none ≡ cond (eqb n 0) none (some ws)
+      least : (n : ℕ) (ws : List Word) → cond (leb 1 n) (Some ws) None ≡ cond (eqb n 0) None (Some ws)
       least zero ws = refl
       least (suc n) ws = rw (le-leb 1 (suc n) (omega arith), ne_eqb (suc n) 0 (omega arith))
 
@@ -496,23 +511,23 @@ unfolding word_in part
 word_past s places i l = rw (word_of_place s places i, get_or-eq_default places [] l)
 
 -- there is no word n, or it is there
-pub next_end : (count n : ℕ) {r : Next} → r ≡ next_of count n → r ≡ nexts.End → count ≤ n
+pub next_end : (count n : ℕ) {r : Option ℕ} → r ≡ next_of count n → r ≡ None → count ≤ n
 unfolding next_of
 next_end count n {r} e q = go (ltb n count) refl e
   where
-    go : (t : Bool) → ltb n count ≡ t → r ≡ cond t (nexts.Word n) nexts.End → count ≤ n
+    go : (t : Bool) → ltb n count ≡ t → r ≡ cond t (Some n) None → count ≤ n
     go true p d = impossible cc
     go false p d = ltb-false n count p
 
-pub next_at : (count n k : ℕ) {r : Next} → r ≡ next_of count n → r ≡ nexts.Word k → (k ≡ n) × (n < count)
+pub next_at : (count n k : ℕ) {r : Option ℕ} → r ≡ next_of count n → r ≡ Some k → (k ≡ n) × (n < count)
 unfolding next_of
 next_at count n k {r} e q = go (ltb n count) refl e
   where
-    go : (t : Bool) → ltb n count ≡ t → r ≡ cond t (nexts.Word n) nexts.End → (k ≡ n) × (n < count)
+    go : (t : Bool) → ltb n count ≡ t → r ≡ cond t (Some n) None → (k ≡ n) × (n < count)
     go true p d = (cc, ltb-true n count p)
     go false p d = impossible cc
 
 -- a command with something after its last word
 pub places_past : {s : List ℕ} {places : List (List ℕ)} {count first at i : ℕ} → Progress s places count first at i
-    → counts.Count count first ≡ counted_for (length s) (read_count 42 words_most (drop 0 s)) → count ≤ i → (at ≡ length s → ⊥) → Places s places 0
+    → counted count first ≡ counted_for (length s) (read_count 42 words_most (drop 0 s)) → count ≤ i → (at ≡ length s → ⊥) → Places s places 0
 places_past now head l e = places_none head (progress_after now l e)

@@ -1,6 +1,6 @@
 -- Lists of checks, in the order in which they are made: the first that applies gives its number. Nothing here is the paper's; each list stands with its sentences.
+use Rattle.std.specs.Prelude.{Option, None, Some}
 use Rattle.std.specs.Prelude.{Bool, cond, List, [], ◌∷◌, ℕ}
-use Rattle.std.proofs.Math.Option.{Option, none, some}
 
 -- a check: the number of the refusal, and whether it applies
 pub record Check : Type 0 where
@@ -13,5 +13,5 @@ n when t = record { number = n; applies = t }
 
 -- the number of the first that applies: of checks in ascending order the lowest
 unfoldable pub first_applying : List Check → Option ℕ
-first_applying [] = none
-first_applying (c ∷ cs) = cond c.applies (some c.number) (first_applying cs)
+first_applying [] = None
+first_applying (c ∷ cs) = cond c.applies (Some c.number) (first_applying cs)

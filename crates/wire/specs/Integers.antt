@@ -1,7 +1,7 @@
 -- Plain integers and their text: "A plain integer is 0, or an optional minus and digits not starting with 0". One reading over its
 -- bounds serves counts, times, versions and signed 64 bits.
+use Rattle.std.specs.Prelude.{Option, None, option_map}
 use Rattle.std.specs.Prelude.{Bool, false, cond, not, ◌&&◌, ◌||◌, List, [], ◌∷◌, ◌++◌, ℕ, zero, suc, ◌+◌, ◌-◌, ◌*◌, ◌/◌, ◌%◌, leb, ltb, eqb, ℤ, pos, negsuc, neg_ℤ, nat_abs}
-use Rattle.std.proofs.Math.Option.{Option, none, map}
 use Rattle.std.specs.Int.Signed.{le_z}
 use Rattle.wire.specs.Lists.{all, is_empty, only_if, or_else}
 
@@ -27,7 +27,7 @@ is_negated [] = false
 is_negated (c ∷ s) = all is_digit (c ∷ s) && not (eqb c 48)
 
 unfoldable pub read_plain : List ℕ → Option ℤ
-read_plain [] = none
+read_plain [] = None
 read_plain (c ∷ s) =
     cond (eqb c 45)
     (only_if (is_negated s) (neg_ℤ (pos (value s))))
@@ -38,11 +38,11 @@ within lo hi z = le_z lo z && le_z z hi
 
 -- a plain integer from lo to hi; every other text is refused, whatever its length
 unfoldable pub read_integer : ℤ → ℤ → List ℕ → Option ℤ
-read_integer lo hi s = or_else (read_plain s) none (λ z. only_if (within lo hi z) z)
+read_integer lo hi s = or_else (read_plain s) None (λ z. only_if (within lo hi z) z)
 
 -- a plain integer from 0 to hi
 unfoldable pub read_natural : ℕ → List ℕ → Option ℕ
-read_natural hi s = map nat_abs (read_integer (pos 0) (pos hi) s)
+read_natural hi s = option_map nat_abs (read_integer (pos 0) (pos hi) s)
 
 -- "signed 64 bits"
 abbrev pub lowest64 : ℤ

@@ -1,6 +1,6 @@
 -- Tests over lists, and answers that may be missing. Nothing here is the paper's; the other definitions are written with it.
+use Rattle.std.specs.Prelude.{Option, None, Some}
 use Rattle.std.specs.Prelude.{Bool, true, false, cond, ◌&&◌, ◌||◌, List, [], ◌∷◌}
-use Rattle.std.proofs.Math.Option.{Option, none, some}
 
 -- every test of a list passes
 unfoldable pub every : List Bool → Bool
@@ -27,17 +27,14 @@ module _ {ℓ} {A : Type ℓ} where
   is_empty [] = true
   is_empty (x ∷ xs) = false
 
+module _ {A : Type 0} where
   -- a value that is given only where a test passes
   unfoldable pub only_if : Bool → A → Option A
-  only_if true a = some a
-  only_if false a = none
+  only_if true a = Some a
+  only_if false a = None
 
-  unfoldable pub is_some : Option A → Bool
-  is_some none = false
-  is_some (some a) = true
-
-module _ {ℓ κ} {A : Type ℓ} {B : Type κ} where
+module _ {κ} {A : Type 0} {B : Type κ} where
   -- what is done with a value that may be missing, and where it is missing
   unfoldable pub or_else : Option A → B → (A → B) → B
-  or_else none b f = b
-  or_else (some a) b f = f a
+  or_else None b f = b
+  or_else (Some a) b f = f a

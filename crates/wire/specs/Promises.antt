@@ -1,19 +1,9 @@
 -- What the functions of wire answer, in the terms of the other definitions.
+use Rattle.std.specs.Prelude.{Option, None, Some}
 use Rattle.std.specs.Prelude.{◌≡◌, true, false, cond, List, [], ◌∷◌, ◌++◌, map, ℕ, zero, suc, ◌+◌, ◌-◌, ◌*◌, ◌/◌, ◌≤◌, ◌<◌, ltb, eqb, ℤ, pos, negsuc, neg_ℤ, length, take, drop, get_or}
-use Rattle.std.proofs.Math.Option.{Option, none, some}
-use Rattle.wire.specs.declared.integers.Natural.{Natural}
-use Rattle.wire.specs.declared.integers.Natural.TheVariants as naturals
-use Rattle.wire.specs.declared.integers.Integer.{Integer}
-use Rattle.wire.specs.declared.integers.Integer.TheVariants as integers
 use Rattle.wire.specs.declared.integers.Signed.{Signed}
-use Rattle.wire.specs.declared.names.RowFound.{RowFound}
-use Rattle.wire.specs.declared.names.RowFound.TheVariants as rows
-use Rattle.wire.specs.declared.words.Next.{Next}
-use Rattle.wire.specs.declared.words.Next.TheVariants as nexts
 use Rattle.wire.specs.declared.words.Counted.{Counted}
-use Rattle.wire.specs.declared.words.Counted.TheVariants as counts
 use Rattle.wire.specs.declared.words.Placed.{Placed}
-use Rattle.wire.specs.declared.words.Placed.TheVariants as placed
 use Rattle.wire.specs.Lists.{or_else}
 use Rattle.wire.specs.Bytes.{part, same, text, upper}
 use Rattle.wire.specs.Integers.{natural_text}
@@ -22,19 +12,10 @@ use Rattle.wire.specs.Replies.{bulk, header, laid_over}
 
 -- ---- integers
 
--- a number that may be missing, as the code answers it
-unfoldable pub natural_for : Option ℕ → Natural
-natural_for none = naturals.Refused
-natural_for (some n) = naturals.Value n
-
 -- sign and magnitude; 0 has no sign
 unfoldable pub signed_for : ℤ → Signed
 signed_for (pos n) = record { negative = false; magnitude = n }
 signed_for (negsuc n) = record { negative = true; magnitude = suc n }
-
-unfoldable pub integer_for : Option ℤ → Integer
-integer_for none = integers.Refused
-integer_for (some z) = integers.Value (signed_for z)
 
 -- the integer that a sign and a magnitude say
 unfoldable pub integer_of : Signed → ℤ
@@ -43,15 +24,15 @@ integer_of s = cond s.negative (neg_ℤ (pos s.magnitude)) (pos s.magnitude)
 -- ---- words
 
 -- A reader at a place of a command of `size` bytes answers with places: what it left unread begins at `size` less its length.
-unfoldable pub counted_for : ℕ → Option (Read ℕ) → Counted
-counted_for size none = counts.Damaged
-counted_for size (some c) = counts.Count c.found (size - length c.rest)
+unfoldable pub counted_for : ℕ → Option (Read ℕ) → Option Counted
+counted_for size None = None
+counted_for size (Some c) = Some (record { count = c.found; next = size - length c.rest })
 
 -- CR LF stands between a word and what is left
-unfoldable pub placed_for : ℕ → Option (Read Word) → Placed
-placed_for size none = placed.Damaged
-placed_for size (some w) =
-    placed.Word (size - (length w.found + 2 + length w.rest)) (length w.found) (size - length w.rest)
+unfoldable pub placed_for : ℕ → Option (Read Word) → Option Placed
+placed_for size None = None
+placed_for size (Some w) =
+    Some (record { start = size - (length w.found + 2 + length w.rest); size = length w.found; next = size - length w.rest })
 
 -- the word of a place: its start and its size
 unfoldable pub word_in : List ℕ → List ℕ → Word
@@ -84,13 +65,13 @@ places_of ws = places_from (length (header (length ws))) ws
 -- where it is 0, are left free. `stands` and `room` say all of it; the other two are what callers lean on.
 pub record Places (s : List ℕ) (places : List (List ℕ)) (count : ℕ) : Type 0 where
   pub stands : take count places ≡ or_else (words_of s) [] places_of
-  pub words : words_of s ≡ cond (eqb count 0) none (some (words_in s (take count places)))
+  pub words : words_of s ≡ cond (eqb count 0) None (Some (words_in s (take count places)))
   pub room : count ≤ length places
   pub within : Inside s (take count places)
 
 -- the next word of count, or the end
-unfoldable pub next_of : ℕ → ℕ → Next
-next_of count i = cond (ltb i count) (nexts.Word i) nexts.End
+unfoldable pub next_of : ℕ → ℕ → Option ℕ
+next_of count i = cond (ltb i count) (Some i) None
 
 -- ---- names
 
@@ -103,17 +84,13 @@ name_in table i = part (row_size * i + 1) (get_or table (row_size * i) 0) table
 
 -- the lowest of n rows, from row i on, whose name a word spells
 unfoldable pub row_from : ℕ → ℕ → List ℕ → Word → Option ℕ
-row_from zero i table w = none
+row_from zero i table w = None
 row_from (suc n) i table w =
     let later : Option ℕ = row_from n (suc i) table w in
-    cond (same (map upper w) (name_in table i)) (some i) later
+    cond (same (map upper w) (name_in table i)) (Some i) later
 
 unfoldable pub row_named : List ℕ → Word → Option ℕ
 row_named table w = row_from (length table / row_size) 0 table w
-
-unfoldable pub row_for : Option ℕ → RowFound
-row_for none = rows.Nothing
-row_for (some i) = rows.At i
 
 -- a table is whole rows, and no name is longer than its place
 pub record Table (table : List ℕ) : Type 0 where

@@ -1,7 +1,7 @@
 -- The RESP2 array: "one RESP2 array of 1 to 64 bulk strings, filling the L bytes exactly: `*n\r\n`, then `$len\r\n`, the bytes, `\r\n` for
 -- each word. Counts are digits with no leading zero but 0 itself. No null strings."
+use Rattle.std.specs.Prelude.{Option, None, option_map}
 use Rattle.std.specs.Prelude.{cond, ◌&&◌, List, [], ◌∷◌, ℕ, zero, suc, ◌+◌, leb, eqb, length, take, drop, get_or}
-use Rattle.std.proofs.Math.Option.{Option, none, map}
 use Rattle.wire.specs.Lists.{is_empty, only_if, or_else}
 use Rattle.wire.specs.Bytes.{part, same}
 use Rattle.wire.specs.Integers.{read_natural}
@@ -40,16 +40,16 @@ from_cr (b ∷ s) =
 
 -- a mark, a count of at most `most`, CR LF
 unfoldable pub read_count : ℕ → ℕ → List ℕ → Option (Read ℕ)
-read_count mark most [] = none
+read_count mark most [] = None
 read_count mark most (b ∷ s) =
     cond (eqb b mark && same (take 2 (from_cr s)) crlf)
-    (map (λ n. record { found = n; rest = drop 2 (from_cr s) }) (read_natural most (before_cr s)))
-    none
+    (option_map (λ n. record { found = n; rest = drop 2 (from_cr s) }) (read_natural most (before_cr s)))
+    None
 
 -- one word: `$len\r\n`, the bytes, `\r\n`
 unfoldable pub read_word : List ℕ → Option (Read Word)
 read_word s =
-    or_else (read_count 36 (length s) s) none λ n.
+    or_else (read_count 36 (length s) s) None λ n.
     only_if (same (part n.found 2 n.rest) crlf)
     (record { found = take n.found n.rest; rest = drop (n.found + 2) n.rest })
 
@@ -57,11 +57,11 @@ read_word s =
 unfoldable pub read_words : ℕ → List ℕ → Option (List Word)
 read_words zero s = only_if (is_empty s) []
 read_words (suc n) s =
-    or_else (read_word s) none λ w.
-    map (λ ws. w.found ∷ ws) (read_words n w.rest)
+    or_else (read_word s) None λ w.
+    option_map (λ ws. w.found ∷ ws) (read_words n w.rest)
 
 -- the words of a command, or none where the command is damaged
 unfoldable pub words_of : List ℕ → Option (List Word)
 words_of s =
-    or_else (read_count 42 words_most s) none λ n.
-    cond (leb 1 n.found) (read_words n.found n.rest) none
+    or_else (read_count 42 words_most s) None λ n.
+    cond (leb 1 n.found) (read_words n.found n.rest) None

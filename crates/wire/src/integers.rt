@@ -1,19 +1,12 @@
 // Integer text: read and written once for all uses, and signed sums.
-ghost use Rattle.std.specs.Prelude.{◌≡◌, ◌≤◌, length, ◌+ℤ◌};
+ghost use Rattle.std.specs.Prelude.{◌≡◌, ◌≤◌, length, ◌+ℤ◌, option_map};
 ghost use Rattle.std.specs.Int.Signed.{le_z};
 ghost use Rattle.wire.specs.Lists.{only_if};
 ghost use Rattle.wire.specs.Integers.{read_natural, read_integer, lowest64, highest64, within, natural_text, integer_text};
-ghost use Rattle.wire.specs.Promises.{natural_for, integer_for, integer_of, Laid};
+ghost use Rattle.wire.specs.Promises.{signed_for, integer_of, Laid};
 
 // The largest magnitude of a negative number of signed 64 bits.
 const LOWEST: u64 = 9223372036854775808;
-
-// A natural number that was read, or a refusal.
-#[derive(Clone, Copy)]
-pub enum Natural {
-    Value(u64),
-    Refused,
-}
 
 // An integer as sign and magnitude; 0 has no sign.
 #[derive(Clone, Copy)]
@@ -22,71 +15,64 @@ pub struct Signed {
     pub magnitude: u64,
 }
 
-// An integer of signed 64 bits, or a refusal.
-#[derive(Clone, Copy)]
-pub enum Integer {
-    Value(Signed),
-    Refused,
-}
-
 // A plain integer from 0 to `most`; any other text is refused, whatever its length.
-pub fn read_natural(s: &[u8], most: u64) -> Natural
-    ensures { result ≡ natural_for (read_natural most s.now) }
+pub fn read_natural(s: &[u8], most: u64) -> Option<u64>
+    ensures { result ≡ read_natural most s.now }
 {
     if s.len() == 0 {
-        return Natural::Refused;
+        return None;
     }
     if s[0] == 48 && 1 < s.len() {
-        return Natural::Refused;
+        return None;
     }
     let mut n: u64 = 0;
     let mut i = 0;
     while i < s.len() {
         let c = s[i];
         if c < 48 || 57 < c {
-            return Natural::Refused;
+            return None;
         }
         let d = (c - 48) as u64;
         if most < d || (most - d) / 10 < n {
-            return Natural::Refused;
+            return None;
         }
         n = n * 10 + d;
         i += 1;
     }
-    Natural::Value(n)
+    Some(n)
 }
 
 // A plain integer of signed 64 bits.
 #[tactic(auto, using(crate::proofs::IntegerSigns::minus_zero, crate::proofs::IntegerSigns::minus_value))]
-pub fn read_integer(s: &[u8]) -> Integer
-    ensures { result ≡ integer_for (read_integer lowest64 highest64 s.now) }
+pub fn read_integer(s: &[u8]) -> Option<Signed>
+    ensures { result ≡ option_map signed_for (read_integer lowest64 highest64 s.now) }
 {
     if s.len() == 0 {
-        return Integer::Refused;
+        return None;
     }
     if s[0] != 45 {
         let read = read_natural(s, LOWEST - 1);
         return match read {
-            Natural::Value(n) => Integer::Value(Signed {
+            Some(n) => Some(Signed {
                 negative: false,
                 magnitude: n,
             }),
-            Natural::Refused => Integer::Refused,
+            None => None,
         };
     }
     let read = read_natural(&s[1..], LOWEST);
     match read {
-        Natural::Value(n) => {
+        Some(n) => {
             if n == 0 {
-                Integer::Refused
+                None
             } else {
-                Integer::Value(Signed {
+                Some(Signed {
                     negative: true,
                     magnitude: n,
                 })
             }
         }
-        Natural::Refused => Integer::Refused,
+        None => None,
     }
 }
 
@@ -134,12 +120,12 @@ pub fn write_integer(z: Signed, out: &mut [u8]) -> usize
 }
 
 // The sum of two integers, refused where it lies outside signed 64 bits.
-pub fn add(a: Signed, b: Signed) -> Integer
-    ensures { result ≡ integer_for (only_if (within lowest64 highest64 (integer_of a +ℤ integer_of b)) (integer_of a +ℤ integer_of b)) }
+pub fn add(a: Signed, b: Signed) -> Option<Signed>
+    ensures { result ≡ option_map signed_for (only_if (within lowest64 highest64 (integer_of a +ℤ integer_of b)) (integer_of a +ℤ integer_of b)) }
 {
     if a.negative == b.negative {
         if LOWEST < a.magnitude || LOWEST - a.magnitude < b.magnitude {
-            return Integer::Refused;
+            return None;
         }
         return bounded(a.negative, a.magnitude + b.magnitude);
     }
@@ -150,29 +136,29 @@ pub fn add(a: Signed, b: Signed) -> Integer
 }
 
 // The integer of a sign and a magnitude, refused where it lies outside signed 64 bits.
-fn bounded(negative: bool, magnitude: u64) -> Integer
+fn bounded(negative: bool, magnitude: u64) -> Option<Signed>
     ensures { let z = integer_of (record { negative = negative; magnitude = magnitude }) in
-        result ≡ integer_for (only_if (within lowest64 highest64 z) z) }
+        result ≡ option_map signed_for (only_if (within lowest64 highest64 z) z) }
 {
     if magnitude == 0 {
-        return Integer::Value(Signed {
+        return Some(Signed {
             negative: false,
             magnitude: 0,
         });
     }
     if negative {
         if LOWEST < magnitude {
-            return Integer::Refused;
+            return None;
         }
-        return Integer::Value(Signed {
+        return Some(Signed {
             negative: true,
             magnitude,
         });
     }
     if LOWEST - 1 < magnitude {
-        return Integer::Refused;
+        return None;
     }
-    Integer::Value(Signed {
+    Some(Signed {
         negative: false,
         magnitude,
     })

@@ -1,17 +1,10 @@
 // Names in a table, compared without regard to case. A row of the table is the name's length and the name in capitals in 15 bytes.
 ghost use Rattle.std.specs.Prelude.{◌≡◌, map};
 ghost use Rattle.wire.specs.Bytes.{same, upper};
-ghost use Rattle.wire.specs.Promises.{Table, row_named, row_for};
+ghost use Rattle.wire.specs.Promises.{Table, row_named};
 
 // The bytes of a row.
 pub const ROW_SIZE: usize = 16;
-
-// The row of a name, or that there is none.
-#[derive(Clone, Copy)]
-pub enum RowFound {
-    At(usize),
-    Nothing,
-}
 
 // A letter as its capital.
 fn capital(b: u8) -> u8
@@ -41,9 +34,9 @@ pub fn spells(word: &[u8], name: &[u8]) -> bool
 }
 
 // The lowest row whose name a word spells.
-pub fn find(table: &[u8], word: &[u8]) -> RowFound
+pub fn find(table: &[u8], word: &[u8]) -> Option<usize>
     requires { Table table.now }
-    ensures { result ≡ row_for (row_named table.now word.now) }
+    ensures { result ≡ row_named table.now word.now }
 {
     let rows = table.len() / ROW_SIZE;
     let mut i = 0;
@@ -52,9 +45,9 @@ pub fn find(table: &[u8], word: &[u8]) -> RowFound
         let start = at + 1;
         let end = start + table[at] as usize;
         if spells(word, &table[start..end]) {
-            return RowFound::At(i);
+            return Some(i);
         }
         i += 1;
     }
-    RowFound::Nothing
+    None
 }

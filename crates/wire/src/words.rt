@@ -4,34 +4,31 @@ ghost use Rattle.wire.specs.Bytes.{part, same};
 ghost use Rattle.wire.specs.Words.{words_most, word_at, crlf, before_cr, read_count, read_word};
 ghost use Rattle.wire.specs.Promises.{words_in, Inside, Places, next_of, counted_for, placed_for};
 
+use crate::integers::read_natural;
+
 // The most words of a command.
 pub const WORDS_MOST: usize = 64;
 
-// The next word of a command, by its number, or the end of its words.
-#[derive(Clone, Copy)]
-pub enum Next {
-    Word(usize),
-    End,
-}
-
-pub fn next_word(count: usize, i: usize) -> Next
+// The next word of a command, by its number, if there is one.
+pub fn next_word(count: usize, i: usize) -> Option<usize>
     ensures { result ≡ next_of count i }
 {
-    if i < count { Next::Word(i) } else { Next::End }
+    if i < count { Some(i) } else { None }
 }
 
-// What reading a count found: the count and the place after it.
+// A count that was read, and the place after it.
 #[derive(Clone, Copy)]
-enum Counted {
-    Count(usize, usize),
-    Damaged,
+struct Counted {
+    count: usize,
+    next: usize,
 }
 
-// What reading a word found: where it starts, its size and the place after it.
+// A word that was read: where it starts, its size and the place after it.
 #[derive(Clone, Copy)]
-enum Placed {
-    Word(usize, usize, usize),
-    Damaged,
+struct Placed {
+    start: usize,
+    size: usize,
+    next: usize,
 }
 
 // The place of the first CR from a place on, or the end.
@@ -63,45 +60,49 @@ fn ends_line(s: &[u8], at: usize) -> bool
 }
 
 // A mark, a count of at most `most`, CR LF, from a place on.
-fn read_count(s: &[u8], at: usize, mark: u8, most: u64) -> Counted
+fn read_count(s: &[u8], at: usize, mark: u8, most: u64) -> Option<Counted>
     ensures { result ≡ counted_for (length s.now) (read_count mark most (drop at s.now)) }
 {
     if s.len() <= at {
-        return Counted::Damaged;
+        return None;
     }
     if s[at] != mark {
-        return Counted::Damaged;
+        return None;
     }
     let from = at + 1;
     let end = line_end(s, from);
     if !ends_line(s, end) {
-        return Counted::Damaged;
+        return None;
     }
-    let read = crate::integers::read_natural(&s[from..end], most);
-    match read {
-        crate::integers::Natural::Value(n) => Counted::Count(n as usize, end + 2),
-        crate::integers::Natural::Refused => Counted::Damaged,
-    }
+    let n = read_natural(&s[from..end], most)?;
+    Some(Counted {
+        count: n as usize,
+        next: end + 2,
+    })
 }
 
 // One word from a place on: `$len\r\n`, the bytes, `\r\n`.
-fn read_word(s: &[u8], at: usize) -> Placed
+fn read_word(s: &[u8], at: usize) -> Option<Placed>
     requires { at ≤ length s.now }
     ensures { result ≡ placed_for (length s.now) (read_word (drop at s.now)) }
 {
     let left = s.len() - at;
-    let count = read_count(s, at, 36, left as u64);
-    let Counted::Count(size, start) = count else {
-        return Placed::Damaged;
-    };
+    let Counted {
+        count: size,
+        next: start,
+    } = read_count(s, at, 36, left as u64)?;
     if s.len() - start < size {
-        return Placed::Damaged;
+        return None;
     }
     let end = start + size;
     if !ends_line(s, end) {
-        return Placed::Damaged;
+        return None;
     }
-    Placed::Word(start, size, end + 2)
+    Some(Placed {
+        start,
+        size,
+        next: end + 2,
+    })
 }
 
 // Where the words of a command stand: their number, and for each in order its place, a start and a size; or 0 where the command is damaged.
@@ -110,25 +111,23 @@ pub fn split(s: &[u8], places: &mut [[usize; 2]]) -> usize
     requires { words_most ≤ length places.old }
     ensures { Places s.now places.new result }
 {
-    let head = read_count(s, 0, 42, WORDS_MOST as u64);
-    let Counted::Count(count, first) = head else {
+    let Some(head) = read_count(s, 0, 42, WORDS_MOST as u64) else {
         return 0;
     };
-    let mut at = first;
+    let mut at = head.next;
     let mut i = 0;
-    while i < count {
-        let word = read_word(s, at);
-        let Placed::Word(start, size, next) = word else {
+    while i < head.count {
+        let Some(word) = read_word(s, at) else {
             return 0;
         };
-        places[i] = [start, size];
-        at = next;
+        places[i] = [word.start, word.size];
+        at = word.next;
         i += 1;
     }
     if at != s.len() {
         return 0;
     }
-    count
+    head.count
 }
 
 // Word i of a command by its place, or no bytes where the command has fewer words.

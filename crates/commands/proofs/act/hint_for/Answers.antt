@@ -8,4 +8,4 @@ returns-in_default c = rw c.in_default.is refl
 
 pub returns : goal.returns
 unfolding hint_for
-returns c = rw c.in-At.is refl
+returns c = rw c.in-Some.is refl

@@ -8,16 +8,16 @@ returns-in_default c =
 
 pub is_live-requires : goal.is_live-requires
 is_live-requires c =
-    found_slot c.args.bytes.now c.requires c.args.key.now c.args.field.now c.in-At.i (sym c.in-At.is ∙ c.named-found.ensures)
+    found_slot c.args.bytes.now c.requires c.args.key.now c.args.field.now c.in-Some.i (sym c.in-Some.is ∙ c.named-found.ensures)
 
 pub returns-then-is_live : goal.returns-then-is_live
 returns-then-is_live c =
-    let named = c.named-found.ensures in (sweeps_live c.args.bytes.now c.requires c.args.key.now c.args.field.now c.in-At.i (sym c.in-At.is ∙ named) c.args.time (sym c.is_live.ensures ∙ c.if-is_live.true), sym c.in-At.is ∙ named)
+    let named = c.named-found.ensures in (sweeps_live c.args.bytes.now c.requires c.args.key.now c.args.field.now c.in-Some.i (sym c.in-Some.is ∙ named) c.args.time (sym c.is_live.ensures ∙ c.if-is_live.true), sym c.in-Some.is ∙ named)
 
 pub remove-requires : goal.remove-requires
 remove-requires c =
-    found_slot c.args.bytes.now c.requires c.args.key.now c.args.field.now c.in-At.i (sym c.in-At.is ∙ c.named-found.ensures)
+    found_slot c.args.bytes.now c.requires c.args.key.now c.args.field.now c.in-Some.i (sym c.in-Some.is ∙ c.named-found.ensures)
 
 pub returns : goal.returns
 returns c =
-    let named = c.named-found.ensures in let remove = c.remove.ensures in (sweeps_dead c.args.bytes.now c.requires c.args.key.now c.args.field.now c.in-At.i (sym c.in-At.is ∙ named) c.args.time (sym c.is_live.ensures ∙ c.if-is_live.false) remove, looked_gone c.args.bytes.now c.requires c.args.key.now c.args.field.now c.in-At.i (sym c.in-At.is ∙ named) remove)
+    let named = c.named-found.ensures in let remove = c.remove.ensures in (sweeps_dead c.args.bytes.now c.requires c.args.key.now c.args.field.now c.in-Some.i (sym c.in-Some.is ∙ named) c.args.time (sym c.is_live.ensures ∙ c.if-is_live.false) remove, looked_gone c.args.bytes.now c.requires c.args.key.now c.args.field.now c.in-Some.i (sym c.in-Some.is ∙ named) remove)

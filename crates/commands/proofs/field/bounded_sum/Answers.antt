@@ -6,12 +6,12 @@ pub returns-in_default : goal.returns-in_default
 returns-in_default c = sum_outside (integer_of c.args.start) c.args.sum c.add-total.ensures c.in_default.is
 
 pub returns-then-not-at_most : goal.returns-then-not-at_most
-returns-then-not-at_most c = sum_below (integer_of c.args.start) c.args.sum c.add-total.ensures c.in-Value.is c.at_most.ensures c.if-not-at_most.true-raw
+returns-then-not-at_most c = sum_below (integer_of c.args.start) c.args.sum c.add-total.ensures c.in-Some.is c.at_most.ensures c.if-not-at_most.true-raw
 
 pub returns-then-not-at_most-2 : goal.returns-then-not-at_most-2
 returns-then-not-at_most-2 c =
-    sum_above (integer_of c.args.start) c.args.sum c.add-total.ensures c.in-Value.is c.at_most.ensures c.if-not-at_most.false-raw c.at_most-2.ensures c.if-not-at_most-2.true-raw
+    sum_above (integer_of c.args.start) c.args.sum c.add-total.ensures c.in-Some.is c.at_most.ensures c.if-not-at_most.false-raw c.at_most-2.ensures c.if-not-at_most-2.true-raw
 
 pub returns : goal.returns
 returns c =
-    sum_inside (integer_of c.args.start) c.args.sum c.add-total.ensures c.in-Value.is c.at_most.ensures c.if-not-at_most.false-raw c.at_most-2.ensures c.if-not-at_most-2.false-raw
+    sum_inside (integer_of c.args.start) c.args.sum c.add-total.ensures c.in-Some.is c.at_most.ensures c.if-not-at_most.false-raw c.at_most-2.ensures c.if-not-at_most-2.false-raw

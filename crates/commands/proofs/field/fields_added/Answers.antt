@@ -2,10 +2,10 @@ use Rattle.commands.specs.Promises.{fields_added}
 use mathlib.Core.Path.{refl}
 use Rattle.commands.proofs.field.fields_added.Goals as goal
 
-pub returns-in-At : goal.returns-in-At
+pub returns-in-Some : goal.returns-in-Some
 unfolding fields_added
-returns-in-At c = rw c.in-At.is refl
+returns-in-Some c = rw c.in-Some.is refl
 
-pub returns-in-Nothing : goal.returns-in-Nothing
+pub returns-in-None : goal.returns-in-None
 unfolding fields_added
-returns-in-Nothing c = rw c.in-Nothing.is refl
+returns-in-None c = rw c.in-None.is refl

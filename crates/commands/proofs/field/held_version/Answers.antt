@@ -6,12 +6,12 @@ use Rattle.commands.specs.Promises.{held_version}
 use Rattle.commands.proofs.field.held_version.Goals as goal
 
 pub version-requires : goal.version-requires
-version-requires c = c.requires _ c.in-At.is
+version-requires c = c.requires _ c.in-Some.is
 
-pub returns-in-At : goal.returns-in-At
+pub returns-in-Some : goal.returns-in-Some
 unfolding held_version or_else
-returns-in-At c = entry_found (decode c.args.bytes.now).slots held_version c.in-At.is c.version.ensures
+returns-in-Some c = entry_found (decode c.args.bytes.now).slots held_version c.in-Some.is c.version.ensures
 
-pub returns-in-Nothing : goal.returns-in-Nothing
+pub returns-in-None : goal.returns-in-None
 unfolding held_version or_else
-returns-in-Nothing c = entry_none (decode c.args.bytes.now).slots held_version {x = 0} c.in-Nothing.is refl
+returns-in-None c = entry_none (decode c.args.bytes.now).slots held_version {x = 0} c.in-None.is refl

@@ -17,12 +17,12 @@ returns-in_default c =
 
 pub returns-in_default-total : goal.returns-in_default-total
 returns-in_default-total c =
-    increment_overflow c.args.sight.time c.args.sum c.args.stamping c.args.key.now c.args.field.now c.args.bytes.now c.requires.0.well c.args.sight.found c.is_stale_at.ensures c.if-is_stale_at.false c.stored-before.ensures c.in-Value.is c.bounded_sum-total.ensures c.in_default-total.is
+    increment_overflow c.args.sight.time c.args.sum c.args.stamping c.args.key.now c.args.field.now c.args.bytes.now c.requires.0.well c.args.sight.found c.is_stale_at.ensures c.if-is_stale_at.false c.stored-before.ensures c.in-Some.is c.bounded_sum-total.ensures c.in_default-total.is
 
 pub write_sum-requires : goal.write_sum-requires
 write_sum-requires c =
-    (c.requires.0, c.requires.1, increment_within c.args.sight.time c.args.sum c.args.stamping c.args.key.now c.args.field.now c.args.bytes.now c.requires.0.well c.args.sight.found c.is_stale_at.ensures c.if-is_stale_at.false c.stored-before.ensures c.in-Value.is c.bounded_sum-total.ensures c.in-Value-total.is)
+    (c.requires.0, c.requires.1, increment_within c.args.sight.time c.args.sum c.args.stamping c.args.key.now c.args.field.now c.args.bytes.now c.requires.0.well c.args.sight.found c.is_stale_at.ensures c.if-is_stale_at.false c.stored-before.ensures c.in-Some.is c.bounded_sum-total.ensures c.in-Some-total.is)
 
 pub returns : goal.returns
 returns c =
-    increment_done c.args.sight.time c.args.sum c.args.stamping c.args.key.now c.args.field.now c.args.bytes.now c.requires.0.well c.args.sight.found c.is_stale_at.ensures c.if-is_stale_at.false c.stored-before.ensures c.in-Value.is c.bounded_sum-total.ensures c.in-Value-total.is c.write_sum.ensures
+    increment_done c.args.sight.time c.args.sum c.args.stamping c.args.key.now c.args.field.now c.args.bytes.now c.requires.0.well c.args.sight.found c.is_stale_at.ensures c.if-is_stale_at.false c.stored-before.ensures c.in-Some.is c.bounded_sum-total.ensures c.in-Some-total.is c.write_sum.ensures

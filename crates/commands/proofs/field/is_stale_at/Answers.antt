@@ -5,13 +5,13 @@ use Rattle.commands.proofs.VersionPlans.{stale_is, missing_fresh}
 use Rattle.commands.proofs.field.is_stale_at.Goals as goal
 
 pub version-requires : goal.version-requires
-version-requires c = c.requires _ c.in-At.is
+version-requires c = c.requires _ c.in-Some.is
 
-pub returns-in-At : goal.returns-in-At
-returns-in-At c =
-    entry_found (decode c.args.bytes.now).slots (is_stale c.args.versioning) c.in-At.is
+pub returns-in-Some : goal.returns-in-Some
+returns-in-Some c =
+    entry_found (decode c.args.bytes.now).slots (is_stale c.args.versioning) c.in-Some.is
     (stale_is _ c.args.versioning c.version.ensures c.is_stale.ensures)
 
-pub returns-in-Nothing : goal.returns-in-Nothing
-returns-in-Nothing c =
-    entry_none (decode c.args.bytes.now).slots (is_stale c.args.versioning) c.in-Nothing.is (missing_fresh c.args.versioning)
+pub returns-in-None : goal.returns-in-None
+returns-in-None c =
+    entry_none (decode c.args.bytes.now).slots (is_stale c.args.versioning) c.in-None.is (missing_fresh c.args.versioning)

@@ -5,10 +5,10 @@ pub returns-in_default : goal.returns-in_default
 returns-in_default c = renumber_missing c.requires c.args.version c.in_default.is
 
 pub expiry-requires : goal.expiry-requires
-expiry-requires c = c.requires.held _ c.in-At.is
+expiry-requires c = c.requires.held _ c.in-Some.is
 
 pub stamp-requires : goal.stamp-requires
-stamp-requires c = (c.requires.held _ c.in-At.is, held_expiry_most (c.requires.held _ c.in-At.is) c.expiry.ensures)
+stamp-requires c = (c.requires.held _ c.in-Some.is, held_expiry_most (c.requires.held _ c.in-Some.is) c.expiry.ensures)
 
 pub returns : goal.returns
-returns c = renumber_done c.requires c.in-At.is c.args.version c.expiry.ensures c.stamp.ensures
+returns c = renumber_done c.requires c.in-Some.is c.args.version c.expiry.ensures c.stamp.ensures

@@ -20,8 +20,8 @@ held_expiry-until-requires c = sought_held c.requires.0
 
 pub put-requires : goal.put-requires
 put-requires c =
-    write_may c.args.sight.time c.args.stamping c.args.value.now c.requires.0 c.held_version-held.ensures c.next_version-version.ensures c.if-version-gt-VERSION_MOST.false c.slot_for-slot.ensures c.in-At.is c.held_expiry-until.ensures c.next_expiry-expiry.ensures c.requires.1 (bytes_intro c.args.key.now (λ j. (c.type_inv.key j).fits)) (bytes_intro c.args.field.now (λ j. (c.type_inv.field j).fits)) (bytes_intro c.args.value.now (λ j. (c.type_inv.value j).fits))
+    write_may c.args.sight.time c.args.stamping c.args.value.now c.requires.0 c.held_version-held.ensures c.next_version-version.ensures c.if-version-gt-VERSION_MOST.false c.slot_for-slot.ensures c.in-Some.is c.held_expiry-until.ensures c.next_expiry-expiry.ensures c.requires.1 (bytes_intro c.args.key.now (λ j. (c.type_inv.key j).fits)) (bytes_intro c.args.field.now (λ j. (c.type_inv.field j).fits)) (bytes_intro c.args.value.now (λ j. (c.type_inv.value j).fits))
 
 pub returns : goal.returns
 returns c =
-    write_done c.args.sight.time c.args.stamping c.args.value.now c.requires.0 c.held_version-held.ensures c.next_version-version.ensures c.if-version-gt-VERSION_MOST.false c.slot_for-slot.ensures c.in-At.is c.held_expiry-until.ensures c.next_expiry-expiry.ensures c.put.ensures
+    write_done c.args.sight.time c.args.stamping c.args.value.now c.requires.0 c.held_version-held.ensures c.next_version-version.ensures c.if-version-gt-VERSION_MOST.false c.slot_for-slot.ensures c.in-Some.is c.held_expiry-until.ensures c.next_expiry-expiry.ensures c.put.ensures

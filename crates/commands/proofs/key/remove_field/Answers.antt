@@ -7,7 +7,7 @@ pub returns-in_default : goal.returns-in_default
 returns-in_default c = removes_nothing _ _ _ c.requires c.named_near-found.ensures c.in_default.is
 
 pub remove-requires : goal.remove-requires
-remove-requires c = found_slot _ c.requires _ _ _ (sym c.in-At.is ∙ c.named_near-found.ensures)
+remove-requires c = found_slot _ c.requires _ _ _ (sym c.in-Some.is ∙ c.named_near-found.ensures)
 
 pub returns : goal.returns
-returns c = removes_one _ _ _ c.requires c.named_near-found.ensures c.in-At.is c.remove.ensures
+returns c = removes_one _ _ _ c.requires c.named_near-found.ensures c.in-Some.is c.remove.ensures

@@ -13,8 +13,8 @@ returns-in_default c =
     lifetime_refused _ c.args.said c.args.operand c.args.time c.if-said-ge-NOT_GIVEN.false c.if-said-eq-KEPT.false (natural_refused time_limit c.word.ensures c.read_natural-read.ensures c.in_default.is)
 
 pub instant-requires : goal.instant-requires
-instant-requires c = ((natural_value time_limit c.word.ensures c.read_natural-read.ensures c.in-Value.n c.in-Value.is).1, c.requires.1)
+instant-requires c = ((natural_value time_limit c.word.ensures c.read_natural-read.ensures c.in-Some.n c.in-Some.is).1, c.requires.1)
 
 pub returns : goal.returns
 returns c =
-    lifetime_until _ c.args.said c.args.operand c.args.time c.if-said-ge-NOT_GIVEN.false c.if-said-eq-KEPT.false c.in-Value.n (natural_value time_limit c.word.ensures c.read_natural-read.ensures c.in-Value.n c.in-Value.is).0 c.instant.ensures
+    lifetime_until _ c.args.said c.args.operand c.args.time c.if-said-ge-NOT_GIVEN.false c.if-said-eq-KEPT.false c.in-Some.n (natural_value time_limit c.word.ensures c.read_natural-read.ensures c.in-Some.n c.in-Some.is).0 c.instant.ensures

@@ -10,12 +10,12 @@ returns-in_default c = versioning_refused _ c.args.said c.args.operand c.if-said
 
 pub returns-in-0 : goal.returns-in-0
 returns-in-0 c =
-    versioning_match _ c.args.said c.args.operand c.if-said-ge-NOT_GIVEN.false c.in-Value.n (natural_value version_most c.word.ensures c.read_natural-read.ensures c.in-Value.n c.in-Value.is).0 c.in-0.is
+    versioning_match _ c.args.said c.args.operand c.if-said-ge-NOT_GIVEN.false c.in-Some.n (natural_value version_most c.word.ensures c.read_natural-read.ensures c.in-Some.n c.in-Some.is).0 c.in-0.is
 
 pub returns-in-1 : goal.returns-in-1
 returns-in-1 c =
-    versioning_exactly _ c.args.said c.args.operand c.if-said-ge-NOT_GIVEN.false c.in-Value.n (natural_value version_most c.word.ensures c.read_natural-read.ensures c.in-Value.n c.in-Value.is).0 c.in-1.is
+    versioning_exactly _ c.args.said c.args.operand c.if-said-ge-NOT_GIVEN.false c.in-Some.n (natural_value version_most c.word.ensures c.read_natural-read.ensures c.in-Some.n c.in-Some.is).0 c.in-1.is
 
 pub returns-in_default-said : goal.returns-in_default-said
 returns-in_default-said c =
-    versioning_above _ c.args.said c.args.operand c.if-said-ge-NOT_GIVEN.false c.in-Value.n (natural_value version_most c.word.ensures c.read_natural-read.ensures c.in-Value.n c.in-Value.is).0 c.in_default-said.in_default-said-own.rest.0.1 c.in_default-said.in_default-said-own.rest.1
+    versioning_above _ c.args.said c.args.operand c.if-said-ge-NOT_GIVEN.false c.in-Some.n (natural_value version_most c.word.ensures c.read_natural-read.ensures c.in-Some.n c.in-Some.is).0 c.in_default-said.in_default-said-own.rest.0.1 c.in_default-said.in_default-said-own.rest.1

@@ -9,8 +9,8 @@ returns-in_default c = rw c.in_default.is refl
 
 pub returns-then-again-eq0 : goal.returns-then-again-eq0
 unfolding new_field
-returns-then-again-eq0 c = rw (c.in-Nothing.is, eq-eqb _ _ c.if-again-eq0.true) refl
+returns-then-again-eq0 c = rw (c.in-None.is, eq-eqb _ _ c.if-again-eq0.true) refl
 
 pub returns : goal.returns
 unfolding new_field
-returns c = rw (c.in-Nothing.is, ne_eqb _ _ c.if-again-eq0.false) refl
+returns c = rw (c.in-None.is, ne_eqb _ _ c.if-again-eq0.false) refl

@@ -17,16 +17,16 @@ returns-in_default-versioned c =
 
 pub returns-then-is_zero : goal.returns-then-is_zero
 returns-then-is_zero c =
-    expire_zero c.args.time c.args.unit (ready (expire_takes c.args.unit) c.scan-given.ensures c.if-given-ne0.false) c.versioning-versioned.ensures (natural_value time_limit c.word.ensures c.read_natural-read.ensures c.in-Value.n c.in-Value.is).0 c.in-Value-versioned.is c.is_zero.ensures c.if-is_zero.true
+    expire_zero c.args.time c.args.unit (ready (expire_takes c.args.unit) c.scan-given.ensures c.if-given-ne0.false) c.versioning-versioned.ensures (natural_value time_limit c.word.ensures c.read_natural-read.ensures c.in-Some.n c.in-Some.is).0 c.in-Value.is c.is_zero.ensures c.if-is_zero.true
 
 pub instant-instant-requires : goal.instant-instant-requires
 instant-instant-requires c =
-    ((natural_value time_limit c.word.ensures c.read_natural-read.ensures c.in-Value.n c.in-Value.is).1, c.requires.1)
+    ((natural_value time_limit c.word.ensures c.read_natural-read.ensures c.in-Some.n c.in-Some.is).1, c.requires.1)
 
 pub returns-then-instant-gt-TIME_LIMIT : goal.returns-then-instant-gt-TIME_LIMIT
 returns-then-instant-gt-TIME_LIMIT c =
-    expire_beyond c.args.time c.args.unit (ready (expire_takes c.args.unit) c.scan-given.ensures c.if-given-ne0.false) c.versioning-versioned.ensures (natural_value time_limit c.word.ensures c.read_natural-read.ensures c.in-Value.n c.in-Value.is).0 c.in-Value-versioned.is c.is_zero.ensures c.if-is_zero.false c.instant-instant.ensures c.if-instant-gt-TIME_LIMIT.true
+    expire_beyond c.args.time c.args.unit (ready (expire_takes c.args.unit) c.scan-given.ensures c.if-given-ne0.false) c.versioning-versioned.ensures (natural_value time_limit c.word.ensures c.read_natural-read.ensures c.in-Some.n c.in-Some.is).0 c.in-Value.is c.is_zero.ensures c.if-is_zero.false c.instant-instant.ensures c.if-instant-gt-TIME_LIMIT.true
 
 pub returns : goal.returns
 returns c =
-    expire_done c.args.time c.args.unit (ready (expire_takes c.args.unit) c.scan-given.ensures c.if-given-ne0.false) c.versioning-versioned.ensures (natural_value time_limit c.word.ensures c.read_natural-read.ensures c.in-Value.n c.in-Value.is).0 c.in-Value-versioned.is c.is_zero.ensures c.if-is_zero.false c.instant-instant.ensures c.if-instant-gt-TIME_LIMIT.false
+    expire_done c.args.time c.args.unit (ready (expire_takes c.args.unit) c.scan-given.ensures c.if-given-ne0.false) c.versioning-versioned.ensures (natural_value time_limit c.word.ensures c.read_natural-read.ensures c.in-Some.n c.in-Some.is).0 c.in-Value.is c.is_zero.ensures c.if-is_zero.false c.instant-instant.ensures c.if-instant-gt-TIME_LIMIT.false

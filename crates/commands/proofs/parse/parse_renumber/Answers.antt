@@ -7,4 +7,4 @@ pub returns-in_default : goal.returns-in_default
 returns-in_default c = λ time. renumber_unread time _ (natural_refused version_most c.word.ensures c.read_natural-read.ensures c.in_default.is)
 
 pub returns : goal.returns
-returns c = λ time. renumber_done time _ c.in-Value.n (natural_value version_most c.word.ensures c.read_natural-read.ensures c.in-Value.n c.in-Value.is).0
+returns c = λ time. renumber_done time _ c.in-Some.n (natural_value version_most c.word.ensures c.read_natural-read.ensures c.in-Some.n c.in-Some.is).0

@@ -8,14 +8,14 @@ returns-in_default c =
 
 pub is_live-requires : goal.is_live-requires
 is_live-requires c =
-    found_inside c.args.store.now c.args.key.now c.args.field.now c.args.instant c.requires c.in-At.i (sym c.in-At.is ∙ c.named_near-found.ensures)
+    found_inside c.args.store.now c.args.key.now c.args.field.now c.args.instant c.requires c.in-Some.i (sym c.in-Some.is ∙ c.named_near-found.ensures)
 
 pub returns-then-is_live : goal.returns-then-is_live
 returns-then-is_live c =
-    named_live c.args.store.now c.args.key.now c.args.field.now c.args.instant c.requires c.in-At.i (sym c.in-At.is ∙ c.named_near-found.ensures)
+    named_live c.args.store.now c.args.key.now c.args.field.now c.args.instant c.requires c.in-Some.i (sym c.in-Some.is ∙ c.named_near-found.ensures)
     (sym c.is_live.ensures ∙ c.if-is_live.true)
 
 pub returns : goal.returns
 returns c =
-    named_dead_lem c.args.store.now c.args.key.now c.args.field.now c.args.instant c.requires c.in-At.i (sym c.in-At.is ∙ c.named_near-found.ensures)
+    named_dead_lem c.args.store.now c.args.key.now c.args.field.now c.args.instant c.requires c.in-Some.i (sym c.in-Some.is ∙ c.named_near-found.ensures)
     (sym c.is_live.ensures ∙ c.if-is_live.false)

@@ -1,19 +1,19 @@
 use Rattle.compare.specs.Listing.{same_expiry}
 use Rattle.compare.proofs.live.same_expiry.Goals as goal
 
-pub returns-in-Never-b : goal.returns-in-Never-b
+pub returns-in-None-b : goal.returns-in-None-b
 unfolding same_expiry
-returns-in-Never-b c = rw (c.in-Never.is, c.in-Never-b.is)
+returns-in-None-b c = rw (c.in-None.is, c.in-None-b.is)
 
-pub returns-in-At-b : goal.returns-in-At-b
+pub returns-in-Some-b : goal.returns-in-Some-b
 unfolding same_expiry
-returns-in-At-b c = rw (c.in-Never.is, c.in-At-b.is)
+returns-in-Some-b c = rw (c.in-None.is, c.in-Some-b.is)
 
-pub returns-in-Never-b-2 : goal.returns-in-Never-b-2
+pub returns-in-None-b-2 : goal.returns-in-None-b-2
 unfolding same_expiry
-returns-in-Never-b-2 c = rw (c.in-At.is, c.in-Never-b-2.is)
+returns-in-None-b-2 c = rw (c.in-Some.is, c.in-None-b-2.is)
 
-pub returns-in-At-b-2 : goal.returns-in-At-b-2
+pub returns-in-Some-b-2 : goal.returns-in-Some-b-2
 unfolding same_expiry
-returns-in-At-b-2 c =
-    rw (c.in-At.is, c.in-At-b-2.is)
+returns-in-Some-b-2 c =
+    rw (c.in-Some.is, c.in-Some-b-2.is)

@@ -1,10 +1,10 @@
 use Rattle.store.specs.Store.{state_of}
 use Rattle.store.proofs.change.state_of.Goals as goal
 
-pub returns-in-Never : goal.returns-in-Never
+pub returns-in-None : goal.returns-in-None
 unfolding state_of
-returns-in-Never c = rw c.in-Never.is
+returns-in-None c = rw c.in-None.is
 
-pub returns-in-At : goal.returns-in-At
+pub returns-in-Some : goal.returns-in-Some
 unfolding state_of
-returns-in-At c = rw c.in-At.is
+returns-in-Some c = rw c.in-Some.is

@@ -1,6 +1,6 @@
+use Rattle.std.specs.Prelude.{None}
 use mathlib.Core.Path.{◌≡◌}
 use Prim.Native.Nat.{◌-◌}
-use Rattle.store.specs.declared.Found.TheVariants as founds
 use Rattle.store.proofs.Comparing.{Searching, InSlot}
 use Rattle.store.proofs.find.search_within.Given as goal
 
@@ -11,7 +11,7 @@ abbrev pub decreases-loop-w : goal.decreases-loop-w
 decreases-loop-w l = 6 - l.w
 
 abbrev pub invariant-slots : goal.invariant-slots
-invariant-slots l = Searching l.key l.field l.store l.end l.from l.i l.compared × (l.found ≡ founds.Nothing)
+invariant-slots l = Searching l.key l.field l.store l.end l.from l.i l.compared × (l.found ≡ None)
 
 abbrev pub decreases-slots : goal.decreases-slots
 decreases-slots l = l.end - l.i

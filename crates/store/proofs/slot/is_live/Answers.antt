@@ -7,10 +7,10 @@ pub returns-then-t-eq-EMPTY_STATE : goal.returns-then-t-eq-EMPTY_STATE
 unfolding live_slot or_else
 returns-then-t-eq-EMPTY_STATE c = rw (state_empty c.args.t.now c.if-t-eq-EMPTY_STATE.true)
 
-pub returns-in-Never : goal.returns-in-Never
+pub returns-in-None : goal.returns-in-None
 unfolding before
-returns-in-Never c = rw (live_held c.args.t.now c.args.time c.if-t-eq-EMPTY_STATE.false, ← c.expiry-expires.ensures) (rw c.in-Never.is)
+returns-in-None c = rw (live_held c.args.t.now c.args.time c.if-t-eq-EMPTY_STATE.false, ← c.expiry-expires.ensures) (rw c.in-None.is)
 
-pub returns-in-At : goal.returns-in-At
+pub returns-in-Some : goal.returns-in-Some
 unfolding before
-returns-in-At c = rw (live_held c.args.t.now c.args.time c.if-t-eq-EMPTY_STATE.false, ← c.expiry-expires.ensures) (rw c.in-At.is)
+returns-in-Some c = rw (live_held c.args.t.now c.args.time c.if-t-eq-EMPTY_STATE.false, ← c.expiry-expires.ensures) (rw c.in-Some.is)

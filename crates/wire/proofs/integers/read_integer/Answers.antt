@@ -6,11 +6,11 @@ use Rattle.wire.proofs.integers.read_integer.Goals as goal
 pub returns-then-s-eq0 : goal.returns-then-s-eq0
 returns-then-s-eq0 c = integer_empty c.args.s.now c.if-s-eq0.true
 
-pub returns-in-Value : goal.returns-in-Value
-returns-in-Value c = plain_value c.args.s.now c.read_natural-read.ensures c.if-s-ne45.true c.in-Value.n c.in-Value.is
+pub returns-in-Some : goal.returns-in-Some
+returns-in-Some c = plain_value c.args.s.now c.read_natural-read.ensures c.if-s-ne45.true c.in-Some.n c.in-Some.is
 
-pub returns-in-Refused : goal.returns-in-Refused
-returns-in-Refused c = plain_refused c.args.s.now c.read_natural-read.ensures c.if-s-ne45.true c.in-Refused.is
+pub returns-in-None : goal.returns-in-None
+returns-in-None c = plain_refused c.args.s.now c.read_natural-read.ensures c.if-s-ne45.true c.in-None.is
 
-pub returns-in-Refused-read : goal.returns-in-Refused-read
-returns-in-Refused-read c = minus_refused c.args.s.now c.read_natural-read-2.ensures (omega arith) c.if-s-ne45.false c.in-Refused-read.is
+pub returns-in-None-read : goal.returns-in-None-read
+returns-in-None-read c = minus_refused c.args.s.now c.read_natural-read-2.ensures (omega arith) c.if-s-ne45.false c.in-None-read.is

@@ -1,9 +1,9 @@
-use mathlib.Core.Path.{sym, ap, ◌∙◌}
+use mathlib.Core.Path.{sym, ◌∙◌}
 use Prim.Native.Nat.{◌/◌}
 use native.Mathlib.Nat.{sub-zero}
 use native.Mathlib.Omega.{arith}
 use lib.ListN.{length}
-use Rattle.wire.specs.Promises.{row_size, row_for, row_named}
+use Rattle.wire.specs.Promises.{row_size, row_named}
 use Rattle.wire.proofs.NameRows.{row_hit, row_skip, row_end}
 use Rattle.wire.proofs.names.find.Goals as goal
 
@@ -21,12 +21,10 @@ pub slice_bounds-spells-end : goal.slice_bounds-spells-end
 slice_bounds-spells-end c = omega (arith, c.requires.short c.loop-i.i)
 
 pub returns-then-spells : goal.returns-then-spells
-unfolding row_for
-returns-then-spells c = ap row_for (sym (row_hit _ _ _ _ c.loop-i-test.true _ c.spells.ensures c.if-spells.true) ∙ c.loop-i.invariant.1)
+returns-then-spells c = (sym (row_hit _ _ _ _ c.loop-i-test.true _ c.spells.ensures c.if-spells.true) ∙ c.loop-i.invariant.1)
 
 pub loop-i-preserved : goal.loop-i-preserved
 loop-i-preserved c = (omega arith, sym (row_skip _ _ _ _ c.loop-i-test.true _ c.spells.ensures c.if-spells.false) ∙ c.loop-i.invariant.1)
 
 pub returns : goal.returns
-unfolding row_for
-returns c = ap row_for (sym (row_end _ _ _ _ c.loop-i-test.false) ∙ c.loop-i.invariant.1)
+returns c = (sym (row_end _ _ _ _ c.loop-i-test.false) ∙ c.loop-i.invariant.1)

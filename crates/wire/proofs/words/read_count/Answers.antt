@@ -24,8 +24,8 @@ slice_bounds-read_natural-end c = omega (arith, ends_room _ _ (sym c.ends_line.e
 pub overflow_add-result : goal.overflow_add-result
 overflow_add-result c = omega (arith, ends_room _ _ (sym c.ends_line.ensures ∙ not-false _ c.if-not-ends_line.false-raw))
 
-pub returns-in-Value : goal.returns-in-Value
-returns-in-Value c = counted_value _ _ _ _ c.if-s-at.false c.if-s-at-2.false _ c.line_end-end.ensures _ (sym c.ends_line.ensures ∙ not-false _ c.if-not-ends_line.false-raw) (sym c.in-Value.is ∙ c.read_natural-read.ensures)
+pub returns : goal.returns
+returns c = counted_value _ _ _ _ c.if-s-at.false c.if-s-at-2.false _ c.line_end-end.ensures _ (sym c.ends_line.ensures ∙ not-false _ c.if-not-ends_line.false-raw) (sym c.in_ok-n.was ∙ c.read_natural.ensures)
 
-pub returns-in-Refused : goal.returns-in-Refused
-returns-in-Refused c = counted_refused _ _ _ _ c.if-s-at.false c.if-s-at-2.false _ c.line_end-end.ensures (sym c.ends_line.ensures ∙ not-false _ c.if-not-ends_line.false-raw) (sym c.in-Refused.is ∙ c.read_natural-read.ensures)
+pub returns-in_err-n : goal.returns-in_err-n
+returns-in_err-n c = c.from_residual.ensures ∙ counted_refused _ _ _ _ c.if-s-at.false c.if-s-at-2.false _ c.line_end-end.ensures (sym c.ends_line.ensures ∙ not-false _ c.if-not-ends_line.false-raw) (sym c.in_err-n.was ∙ c.read_natural.ensures)

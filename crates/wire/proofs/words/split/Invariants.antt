@@ -9,8 +9,8 @@ use Rattle.wire.proofs.words.split.Given as goal
 -- has no words. The measure is how many are left.
 abbrev pub invariant-loop-i : goal.invariant-loop-i
 invariant-loop-i l =
-    Progress l.s l.places l.count l.first l.at l.i × (length l.places ≡ length l.initial.places)
-    × (l.count ≤ l.i → (l.at ≡ length l.s → ⊥) → Places l.s l.places 0)
+    Progress l.s l.places l.head.count l.head.next l.at l.i × (length l.places ≡ length l.initial.places)
+    × (l.head.count ≤ l.i → (l.at ≡ length l.s → ⊥) → Places l.s l.places 0)
 
 abbrev pub decreases-loop-i : goal.decreases-loop-i
-decreases-loop-i l = l.count - l.i
+decreases-loop-i l = l.head.count - l.i
