@@ -10,7 +10,7 @@ use crate::layout::{
     CLOCK_SIZE, EXPIRING_STATE, EXPIRY_AT, FIELD_AT, FIELD_LENGTH_AT, HELD_STATE, KEY_AT,
     KEY_LENGTH_AT, SLOT_SIZE, STATE_AT, VALUE_AT, VALUE_LENGTH_AT, VERSION_AT,
 };
-use crate::{Expiry, slot};
+use crate::slot;
 use wire::bytes::{clear, copy, write_le};
 
 // Sets the clock.
