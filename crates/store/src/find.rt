@@ -1,14 +1,13 @@
 // Searches and counts over the slots of a well-formed store, in ascending order.
 ghost use Rattle.std.specs.Prelude.{◌≡◌, true, ◌≤◌, length};
 ghost use Rattle.wire.specs.Lists.{keep};
-ghost use Rattle.wire.specs.Bytes.{from_le, part};
 ghost use Rattle.store.specs.Store.{decode, well_formed, holds};
 ghost use Rattle.store.specs.Time.{lowest_slot, empty_slot, dead_slot, room_slot, of_key, live_of_key, key_exists};
 ghost use Rattle.store.specs.Promises.{lowest_from, searched, searched_within, name_words, Skips};
 
 use crate::layout::KEY_AT;
 use crate::read::slots;
-use crate::{Searched, slot};
+use crate::{Searched, SoughtKey, slot};
 
 // The lowest slot from a slot on whose field has a fingerprint, else one of the last: none before it has. Two slots are looked at in a turn.
 fn next_candidate(store: &[u8], fingerprint: u64, start: usize) -> usize
@@ -139,30 +138,15 @@ pub fn dead(store: &[u8], time: u64) -> Option<usize>
     None
 }
 
-// The number that the word of a key at a place spells, where the bytes past its end count as zero.
-pub fn key_word(key: &[u8], at: usize) -> u64
-    ensures { result ≡ from_le (part at 8 key.now) }
-{
-    slot::word_padded(key, at)
-}
-
-// The lowest slot from a slot on that holds an entry of a key live at a time, by the key's two words.
-pub fn next_live_with(
-    store: &[u8],
-    low: u64,
-    high: u64,
-    key: &[u8],
-    time: u64,
-    from: usize,
-) -> Option<usize>
-    requires store_value { well_formed store.now ≡ true }
-    requires low_value { (low ≡ from_le (part 0 8 key.now)) × (high ≡ from_le (part 8 8 key.now)) }
+// The lowest slot from a slot on that holds an entry of a key live at a time, where the key is looked for more than once.
+pub fn next_live_with(store: &[u8], key: &SoughtKey, time: u64, from: usize) -> Option<usize>
+    requires { well_formed store.now ≡ true }
     ensures { result ≡ lowest_from from (live_of_key time key.now) (decode store.now).slots }
 {
     let count = slots(store);
     let mut i = from;
     while i < count {
-        if slot::is_live_with(slot::bytes(store, i), low, high, key, time) {
+        if key.is_live(slot::bytes(store, i), time) {
             return Some(i);
         }
         i += 1;
@@ -175,9 +159,7 @@ pub fn next_live(store: &[u8], key: &[u8], time: u64, from: usize) -> Option<usi
     requires { well_formed store.now ≡ true }
     ensures { result ≡ lowest_from from (live_of_key time key.now) (decode store.now).slots }
 {
-    let low = slot::word_padded(key, 0);
-    let high = slot::word_padded(key, slot::WORD);
-    next_live_with(store, low, high, key, time, from)
+    next_live_with(store, &SoughtKey::new(key), time, from)
 }
 
 // Whether a key has a live entry.
@@ -215,12 +197,11 @@ pub fn count_held(store: &[u8], key: &[u8]) -> usize
     ensures { result ≡ length (keep (of_key key.now) (decode store.now).slots) }
 {
     let count = slots(store);
-    let low = slot::word_padded(key, 0);
-    let high = slot::word_padded(key, slot::WORD);
+    let sought = SoughtKey::new(key);
     let mut n = 0;
     let mut i = 0;
     while i < count {
-        if slot::of_key_with(slot::bytes(store, i), low, high, key) {
+        if sought.is_held(slot::bytes(store, i)) {
             n += 1;
         }
         i += 1;
@@ -234,12 +215,11 @@ pub fn count_live(store: &[u8], key: &[u8], time: u64) -> usize
     ensures { result ≡ length (keep (live_of_key time key.now) (decode store.now).slots) }
 {
     let count = slots(store);
-    let low = slot::word_padded(key, 0);
-    let high = slot::word_padded(key, slot::WORD);
+    let sought = SoughtKey::new(key);
     let mut n = 0;
     let mut i = 0;
     while i < count {
-        if slot::is_live_with(slot::bytes(store, i), low, high, key, time) {
+        if sought.is_live(slot::bytes(store, i), time) {
             n += 1;
         }
         i += 1;

@@ -1,6 +1,6 @@
 // One slot's 128 bytes: what they mean.
-ghost use Rattle.std.specs.Prelude.{◌≡◌, true, false, ◌+◌, ◌*◌, ◌^◌, ◌<◌, ◌≤◌, length, slice_index};
-ghost use Rattle.wire.specs.Bytes.{from_le, to_le, part};
+ghost use Rattle.std.specs.Prelude.{◌≡◌, true, false, List, ℕ, ◌+◌, ◌*◌, ◌^◌, ◌<◌, ◌≤◌, length, slice_index};
+ghost use Rattle.wire.specs.Bytes.{Bytes, from_le, to_le, part};
 ghost use Rattle.store.specs.Layout.{header_size, slot_size, field_at, field_most};
 ghost use Rattle.store.specs.Store.{decode_slot, decode_entry, decode_expiry, holds};
 ghost use Rattle.store.specs.Time.{empty_slot, live_slot, dead_slot, of_key, live_of_key};
@@ -11,6 +11,7 @@ use crate::layout::{
     EMPTY_STATE, EXPIRING_STATE, EXPIRY_AT, FIELD_AT, FIELD_LENGTH_AT, HEADER_SIZE, KEY_AT,
     KEY_LENGTH_AT, SLOT_SIZE, STATE_AT, VALUE_AT, VALUE_LENGTH_AT, VERSION_AT,
 };
+use std::marker::Model;
 use std::ops::Range;
 use wire::bytes::{equal, read_le};
 
@@ -141,35 +142,61 @@ pub fn of_key(t: &[u8], k: &[u8]) -> bool
     equal(key(t), k)
 }
 
-// The same by the key's two words and its length.
-pub fn of_key_with(t: &[u8], low: u64, high: u64, k: &[u8]) -> bool
-    requires slot_bytes { SlotBytes t.now }
-    requires low_value { (low ≡ from_le (part 0 8 k.now)) × (high ≡ from_le (part 8 8 k.now)) }
-    ensures { result ≡ of_key k.now (decode_slot t.now) }
-{
-    if t[STATE_AT] == EMPTY_STATE {
-        return false;
-    }
-    if t[KEY_LENGTH_AT] as usize != k.len() {
-        return false;
-    }
-    let key = &t[KEY_AT..FIELD_AT];
-    if word(key, 0) != low {
-        return false;
-    }
-    word(key, WORD) == high
+// A key that is looked for in many slots: its bytes, and the two words that they spell in their place.
+#[derive(Drop)]
+pub struct SoughtKey<'a> {
+    bytes: &'a [u8],
+    low: u64,
+    high: u64,
 }
 
-// Whether the slot holds an entry of a key that is live at a time, by the key's two words and its length.
-pub fn is_live_with(t: &[u8], low: u64, high: u64, k: &[u8], time: u64) -> bool
-    requires slot_bytes { SlotBytes t.now }
-    requires low_value { (low ≡ from_le (part 0 8 k.now)) × (high ≡ from_le (part 8 8 k.now)) }
-    ensures { result ≡ live_of_key time k.now (decode_slot t.now) }
-{
-    if is_live(t, time) {
-        return of_key_with(t, low, high, k);
+impl<'a> Model for SoughtKey<'a> {
+    ghost Value = { List ℕ };
+
+    ghost view = { λ k. k.bytes.now };
+
+    ghost invariant = { λ k. Bytes k.bytes.now × (k.low ≡ from_le (part 0 8 k.bytes.now)) × (k.high ≡ from_le (part 8 8 k.bytes.now)) };
+}
+
+impl<'a> SoughtKey<'a> {
+    pub fn new(key: &'a [u8]) -> SoughtKey<'a>
+        ensures { result ≡ key.now }
+    {
+        SoughtKey {
+            bytes: key,
+            low: word_padded(key, 0),
+            high: word_padded(key, WORD),
+        }
     }
-    false
+
+    // Whether a slot holds an entry of the key: by its length, and then by words.
+    pub fn is_held(&self, t: &[u8]) -> bool
+        requires { SlotBytes t.now }
+        ensures { result ≡ of_key self.now (decode_slot t.now) }
+    {
+        if t[STATE_AT] == EMPTY_STATE {
+            return false;
+        }
+        if t[KEY_LENGTH_AT] as usize != self.bytes.len() {
+            return false;
+        }
+        let key = &t[KEY_AT..FIELD_AT];
+        if word(key, 0) != self.low {
+            return false;
+        }
+        word(key, WORD) == self.high
+    }
+
+    // Whether a slot holds an entry of the key that is live at a time.
+    pub fn is_live(&self, t: &[u8], time: u64) -> bool
+        requires { SlotBytes t.now }
+        ensures { result ≡ live_of_key time self.now (decode_slot t.now) }
+    {
+        if is_live(t, time) {
+            return self.is_held(t);
+        }
+        false
+    }
 }
 
 // Whether the slot holds the entry of a key and a field. The field is compared first: it is what differs.
