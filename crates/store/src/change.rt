@@ -52,10 +52,7 @@ fn state_of(expiry: Option<u64>) -> u8
 fn instant_of(expiry: Option<u64>) -> u64
     ensures { result ≡ instant_of expiry }
 {
-    match expiry {
-        None => 0,
-        Some(instant) => instant,
-    }
+    expiry.unwrap_or(0)
 }
 
 // Writes state, version and expiry of one slot's bytes.

@@ -1,5 +1,5 @@
-use mathlib.Core.Path.{◌≡◌, sym, ◌∙◌}
-use Prim.Native.Nat.{◌+◌, ◌-◌, ◌*◌, max}
+use mathlib.Core.Path.{◌≡◌, sym}
+use Prim.Native.Nat.{◌+◌, ◌*◌, max}
 use native.Mathlib.Omega.{arith}
 use Rattle.wire.proofs.ByteLaws.{bytes_intro}
 use Rattle.store.proofs.SlotChecks.{beyond_whole, beyond_end, beyond_word, beyond_more}

@@ -1,4 +1,3 @@
-use native.Mathlib.Omega.{arith}
 use lib.ListN.{get_or}
 use Rattle.store.proofs.SlotParts.{part_of}
 use Rattle.store.proofs.slot.used.Goals as goal

@@ -1,5 +1,4 @@
 use mathlib.Core.Path.{sym}
-use native.Mathlib.Omega.{arith}
 use Rattle.wire.specs.Lists.{or_else}
 use Rattle.wire.specs.Bytes.{part}
 use Rattle.store.specs.Time.{of_key}
