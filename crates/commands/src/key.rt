@@ -16,7 +16,7 @@ use crate::act::{hint_for, look};
 use crate::answer::put_answer;
 use crate::pairs::set_many;
 use crate::{Asking, KeyDeed, Listing, Question};
-use store::{change, find, read};
+use store::{SoughtKey, change, find, read};
 use wire::replies::{put_bulk, put_header, put_number};
 use wire::words::{WORDS_MOST, word};
 
@@ -195,12 +195,11 @@ fn put_listed(bytes: &[u8], listing: Listing, key: &[u8], time: u64, out: &mut [
         Laid shown out.old out.new result }
 {
     let count = read::slots(bytes);
-    let low = find::key_word(key, 0);
-    let high = find::key_word(key, 8);
+    let sought = SoughtKey::new(key);
     let mut at = 0;
     let mut from = 0;
     while from < count {
-        let found = find::next_live_with(bytes, low, high, key, time, from);
+        let found = find::next_live_with(bytes, &sought, time, from);
         let Some(i) = found else {
             return at;
         };

@@ -52,11 +52,11 @@ module _ {x y a b n : ℕ} (s : Words x y a b n) where
       let r = rw (eq-eqb (a % 256) (b % 256) d) at (rw e at s.rest) in
       record { most = omega arith; rest = omega (arith, r) }
 
-  pub words_end : 8 ≤ n → n ≡ run_compared (to_le 8 x) (to_le 8 y)
+  pub words_end : 8 ≤ n → 8 ≡ run_compared (to_le 8 x) (to_le 8 y)
   unfolding run_compared to_le
   words_end l =
       let e : 8 - n ≡ 0 = omega arith in
-      omega (arith, rw e at s.rest)
+      omega (arith, s.most, rw e at s.rest)
 
 pub word_most : {r : ℕ} (x y : ℕ) → r ≡ run_compared (to_le 8 x) (to_le 8 y) → r ≤ 8
 word_most x y e = omega (arith, e, compared_most (to_le 8 x) (to_le 8 y), length_to_le 8 y)

@@ -75,20 +75,6 @@ any_lowest p (s ∷ ss) = rw (any_lowest p ss) (go (p s) (lowest_slot p ss))
     go false None = refl
     go false (Some i) = refl
 
-found_some : (o : Option ℕ) (i : ℕ) → Some i ≡ o → is_some o ≡ true
-found_some None i h = cc
-found_some (Some j) i h = refl
-
-found_none : (o : Option ℕ) → None ≡ o → is_some o ≡ false
-found_none None h = refl
-found_none (Some j) h = cc
-
-pub found_any : (p : Slot → Bool) (ss : List Slot) (i : ℕ) → Some i ≡ (lowest_from 0 p ss) → any p ss ≡ true
-found_any p ss i h = rw (any_lowest p ss, ← lowest_begin p ss) (found_some (lowest_from 0 p ss) i h)
-
-pub nothing_any : (p : Slot → Bool) (ss : List Slot) → None ≡ (lowest_from 0 p ss) → any p ss ≡ false
-nothing_any p ss h = rw (any_lowest p ss, ← lowest_begin p ss) (found_none (lowest_from 0 p ss) h)
-
 -- ---- a slot that was found holds an entry, where the test fails of an empty one
 
 not_empty : (p : Slot → Bool) (s : Slot) → p None ≡ false → p s ≡ true → empty_slot s ≡ false
@@ -154,6 +140,9 @@ module _ {b : List ℕ} {n i : ℕ} (w : Walk b n) (l : i < n) where
 pub record Seek (p : Slot → Bool) (b : List ℕ) (n i : ℕ) (o : Option ℕ) : Type 0 where
   pub walk : Walk b n
   pub rest : lowest_from i p (decode b).slots ≡ o
+
+pub seek_from : (p : Slot → Bool) {b : List ℕ} {n i : ℕ} → Walk b n → Seek p b n i (lowest_from i p (decode b).slots)
+seek_from p w = record { walk = w; rest = refl }
 
 pub seek_begins : (p : Slot → Bool) (b : List ℕ) {n : ℕ} → well_formed b ≡ true → n ≡ length (decode b).slots → Seek p b n 0 (lowest_slot p (decode b).slots)
 seek_begins p b h e = record { walk = record { well = h; slots = e }; rest = lowest_begin p (decode b).slots }

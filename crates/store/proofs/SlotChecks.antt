@@ -103,10 +103,6 @@ drop_take (suc m) zero s = let e : zero - suc m ≡ 0 = omega arith in rw e
 drop_take (suc m) (suc n) [] = sym (take-nil (suc n - suc m))
 drop_take (suc m) (suc n) (x ∷ s) = let e : suc n - suc m ≡ n - m = omega arith in rw e (drop_take m n s)
 
--- a number is 0 exactly if the bytes that spell it are zero
-pub spells_none : (x : ℕ) (s : List ℕ) → x ≡ from_le s → eqb x 0 ≡ all_zero s
-spells_none x s e = rw e (from_le_none s)
-
 -- a word's bytes beyond those used are zero exactly if the number without its lowest bytes is
 pub word_beyond : (at used : ℕ) (t : List ℕ) → Bytes t → (x : ℕ) → x ≡ from_le (part at 8 t) → eqb (x / 2 ^ (8 * used)) 0 ≡ zero_beyond at 8 used t
 unfolding zero_beyond
@@ -143,36 +139,33 @@ module _ (at m n used : ℕ) (t : List ℕ) where
       let e : m + (used - m) ≡ used = omega arith in
       rw (← rest_part, drop-drop (used - m) m (part at (m + n) t), e)
 
-  -- the bits of both
-  pub beyond_bits : used ≤ m → (x y : ℕ) → eqb x 0 ≡ zero_beyond at m used t → eqb y 0 ≡ all_zero (part (at + m) n t) → eqb (bit_or x y) 0 ≡ zero_beyond at (m + n) used t
-  beyond_bits h x y p q = or_zero x y ∙ rw (p, q) (sym (beyond_first h))
+-- where the bytes used end in the last word of a place, what is beyond is what is left of it
+pub beyond_end : (at size used : ℕ) (t : List ℕ) → Bytes t → size - 8 ≤ used → 8 ≤ size → (x : ℕ) → x ≡ from_le (part (at + (size - 8)) 8 t)
+    → eqb (x / 2 ^ (8 * (used - (size - 8)))) 0 ≡ zero_beyond at size used t
+beyond_end at size used t b h l x e =
+    let s : size - 8 + 8 ≡ size = omega arith in
+    word_beyond (at + (size - 8)) (used - (size - 8)) t b x e ∙ sym (rw s at (beyond_last at (size - 8) 8 used t h))
 
--- of 16 bytes at most 8 are used: the word after those and the last one, which may overlap, are what is beyond
-module _ (at used : ℕ) (t : List ℕ) (h : used ≤ 8) where
-  short_low : zero_beyond at 8 used t ≡ all_zero (part (at + used) (8 - used) t)
-  unfolding zero_beyond
-  short_low = let e : used + (8 - used) ≡ 8 = omega arith in ap all_zero (rw e at (rest_part at used (8 - used) used t))
+-- the word after the bytes used
+pub beyond_word : (at used : ℕ) (t : List ℕ) (x : ℕ) → x ≡ from_le (part (at + used) 8 t) → eqb x 0 ≡ zero_beyond at (used + 8) used t
+unfolding zero_beyond
+beyond_word at used t x e = rw (e, rest_part at used 8 used t) (from_le_none (part (at + used) 8 t))
 
-  short_word : all_zero (part (at + used) 8 t) ≡ all_zero (part (at + used) (8 - used) t) && all_zero (part (at + 8) used t)
-  short_word =
-      let e : 8 - used + used ≡ 8 = omega arith in
-      let k : at + used + (8 - used) ≡ at + 8 = omega arith in
-      let d : drop (8 - used) (part (at + used) 8 t) ≡ part (at + 8) used t = rw k at (rw e at (rest_part (at + used) (8 - used) used used t)) in
-      zero_split (8 - used) (part (at + used) 8 t) ∙ rw (take_part (at + used) (8 - used) 8 t (omega arith), d)
+overlap : (a b c : Bool) → (a && b) && (b && c) ≡ a && (b && c)
+overlap true true c = refl
+overlap true false c = refl
+overlap false b c = refl
 
-  short_last : all_zero (part (at + 8) 8 t) ≡ all_zero (part (at + 8) used t) && all_zero (drop used (part (at + 8) 8 t))
-  short_last = zero_split used (part (at + 8) 8 t) ∙ rw (take_part (at + 8) used 8 t h)
-
-  overlap : (a b c : Bool) → (a && b) && (b && c) ≡ a && (b && c)
-  overlap true true c = refl
-  overlap true false c = refl
-  overlap false b c = refl
-
-  pub beyond_short : (x y : ℕ) → x ≡ from_le (part (at + used) 8 t) → y ≡ from_le (part (at + 8) 8 t) → eqb (bit_or x y) 0 ≡ zero_beyond at 16 used t
-  beyond_short x y p q =
-      or_zero x y
-      ∙ rw (p, q, from_le_none (part (at + used) 8 t), from_le_none (part (at + 8) 8 t), beyond_first at 8 8 used t h, short_low, short_word, short_last)
-      (overlap (all_zero (part (at + used) (8 - used) t)) (all_zero (part (at + 8) used t)) (all_zero (drop used (part (at + 8) 8 t))))
+-- what is beyond up to m, and the k bytes from c on, which may overlap it
+pub beyond_more : (at used c k m : ℕ) (t : List ℕ) → used ≤ c → c ≤ m → m ≤ c + k → (x y : ℕ) → eqb x 0 ≡ zero_beyond at m used t → y ≡ from_le (part (at + c) k t)
+    → eqb (bit_or x y) 0 ≡ zero_beyond at (c + k) used t
+beyond_more at used c k m t h i l x y p q =
+    let e : c + (m - c) ≡ m = omega arith in
+    let first : zero_beyond at m used t ≡ zero_beyond at c used t && all_zero (part (at + c) (m - c) t) = rw e at (beyond_first at c (m - c) used t h) in
+    let last : all_zero (part (at + c) k t) ≡ all_zero (part (at + c) (m - c) t) && all_zero (drop (m - c) (part (at + c) k t)) = rw (take_part (at + c) (m - c) k t (omega arith)) at (zero_split (m - c) (part (at + c) k t)) in
+    or_zero x y
+    ∙ rw (p, q, from_le_none (part (at + c) k t), beyond_first at c k used t h, first, last)
+    (overlap (zero_beyond at c used t) (all_zero (part (at + c) (m - c) t)) (all_zero (drop (m - c) (part (at + c) k t))))
 
 -- the bits beyond the lengths of a slot's three places
 pub places_bits : (t : List ℕ) (k f v : ℕ) → eqb k 0 ≡ zero_beyond key_at key_most (get_or t key_length_at 0) t

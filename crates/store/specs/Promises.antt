@@ -2,6 +2,7 @@
 use Rattle.std.specs.Prelude.{Option, None, option_map}
 use Rattle.std.specs.Prelude.{◌≡◌, Bool, true, false, cond, ◌&&◌, List, [], ◌∷◌, map, ◌++◌, ℕ, ◌+◌, ◌-◌, ◌*◌, ◌/◌, ◌%◌, ◌^◌, ◌≤◌, ◌<◌, ltb, eqb, length, take, drop, get_or, set}
 use Rattle.std.specs.Int.Bits.{bit_and, bit_or, bit_xor}
+use denote.Ref.{Bor}
 use Rattle.wire.specs.Lists.{every, all, any}
 use Rattle.wire.specs.Bytes.{Bytes, from_le, part, to_le}
 use Rattle.store.specs.declared.Searched.{Searched}
@@ -140,6 +141,14 @@ pub record Holds (b : List ℕ) (s : Store) : Type 0 where
   pub well : well_formed b ≡ true
 
 -- ---- searches
+
+-- a test may be called at the bytes of any slot
+abbrev pub TakesSlots : (Bor (List ℕ) → Type 0) → Type 0
+TakesSlots pre = (t : Bor (List ℕ)) → SlotBytes t.now → pre t
+
+-- and answers what p says of what the slot holds
+abbrev pub TellsSlots : (Bor (List ℕ) → Bool → Type 0) → (Slot → Bool) → Type 0
+TellsSlots post p = (t : Bor (List ℕ)) (r : Bool) → SlotBytes t.now → post t r → r ≡ p (decode_slot t.now)
 
 -- the lowest slot from slot i on of which p holds
 unfoldable pub lowest_from : ℕ → (Slot → Bool) → List Slot → Option ℕ

@@ -7,9 +7,10 @@ ghost use Rattle.store.specs.Store.{decode, well_formed, slot_count, encode_entr
 ghost use Rattle.store.specs.Promises.{Held, Holds, Placeable, Writable, with_slot, stamped, stamped_bytes};
 
 use crate::layout::{
-    CLOCK_SIZE, EXPIRING_STATE, EXPIRY_AT, FIELD_AT, FIELD_LENGTH_AT, HEADER_SIZE, HELD_STATE,
-    KEY_AT, KEY_LENGTH_AT, SLOT_SIZE, STATE_AT, VALUE_AT, VALUE_LENGTH_AT, VERSION_AT,
+    CLOCK_SIZE, EXPIRING_STATE, EXPIRY_AT, FIELD_AT, FIELD_LENGTH_AT, HELD_STATE, KEY_AT,
+    KEY_LENGTH_AT, SLOT_SIZE, STATE_AT, VALUE_AT, VALUE_LENGTH_AT, VERSION_AT,
 };
+use crate::slot;
 use wire::bytes::{clear, copy, write_le};
 
 // Sets the clock.
@@ -25,9 +26,7 @@ pub fn remove(store: &mut [u8], i: usize)
     requires { (well_formed store.old ≡ true) × (i < slot_count store.old) }
     ensures { Holds store.new (with_slot i None (decode store.old)) }
 {
-    let start = HEADER_SIZE + SLOT_SIZE * i;
-    let end = start + SLOT_SIZE;
-    clear(&mut store[start..end]);
+    clear(&mut store[slot::place(i)]);
 }
 
 // Writes bytes over a place, with zero after them. All of it is cleared, since the place has a fixed size.
@@ -53,10 +52,7 @@ fn state_of(expiry: Option<u64>) -> u8
 fn instant_of(expiry: Option<u64>) -> u64
     ensures { result ≡ instant_of expiry }
 {
-    match expiry {
-        None => 0,
-        Some(instant) => instant,
-    }
+    expiry.unwrap_or(0)
 }
 
 // Writes state, version and expiry of one slot's bytes.
@@ -104,9 +100,14 @@ pub fn put(
     ensures { let e = entry key.now field.now value.now version expiry in
         Holds store.new (with_slot i (Some e) (decode store.old)) }
 {
-    let start = HEADER_SIZE + SLOT_SIZE * i;
-    let end = start + SLOT_SIZE;
-    write_entry(&mut store[start..end], key, field, value, version, expiry);
+    write_entry(
+        &mut store[slot::place(i)],
+        key,
+        field,
+        value,
+        version,
+        expiry,
+    );
 }
 
 // Writes the version and the expiry of the entry in slot i anew.
@@ -115,7 +116,5 @@ pub fn restamp(store: &mut [u8], i: usize, version: u64, expiry: Option<u64>)
     ensures { let before = decode store.old in
         Holds store.new (with_slot i (Some (stamped version expiry (entry_at before.slots i))) before) }
 {
-    let start = HEADER_SIZE + SLOT_SIZE * i;
-    let end = start + SLOT_SIZE;
-    write_stamp(&mut store[start..end], version, expiry);
+    write_stamp(&mut store[slot::place(i)], version, expiry);
 }

@@ -11,7 +11,7 @@ use crate::layout::{
     HEADER_SIZE, KEY_AT, KEY_LENGTH_AT, KEY_MOST, SLOT_SIZE, SLOTS_MOST, STATE_AT, TIME_LIMIT,
     VALUE_AT, VALUE_LENGTH_AT, VALUE_MOST,
 };
-use crate::padding::{padding_of_16, padding_of_32, padding_of_64};
+use crate::padding::padding;
 use crate::slot;
 use wire::bytes::{all_zero, read_le};
 
@@ -50,16 +50,10 @@ fn lengths_well(t: &[u8]) -> bool
     requires { length t.now ≡ slot_size }
     ensures { result ≡ every (length_tests t.now) }
 {
-    if EXPIRING_STATE < t[STATE_AT] {
-        return false;
-    }
-    if KEY_MOST < t[KEY_LENGTH_AT] as usize {
-        return false;
-    }
-    if FIELD_MOST < t[FIELD_LENGTH_AT] as usize {
-        return false;
-    }
-    t[VALUE_LENGTH_AT] as usize <= VALUE_MOST
+    t[STATE_AT] <= EXPIRING_STATE
+        && t[KEY_LENGTH_AT] as usize <= KEY_MOST
+        && t[FIELD_LENGTH_AT] as usize <= FIELD_MOST
+        && t[VALUE_LENGTH_AT] as usize <= VALUE_MOST
 }
 
 // Whether a held slot's expiry is well formed. Where it has none the instant is zero, and zero is looked for first: few slots expire.
@@ -68,13 +62,7 @@ fn expiry_well(t: &[u8]) -> bool
     ensures { result ≡ every (expiry_tests t.now) }
 {
     let instant = read_le(&t[EXPIRY_AT..KEY_AT]);
-    if instant == 0 {
-        return true;
-    }
-    if t[STATE_AT] != EXPIRING_STATE {
-        return false;
-    }
-    instant <= TIME_LIMIT
+    instant == 0 || t[STATE_AT] == EXPIRING_STATE && instant <= TIME_LIMIT
 }
 
 // Whether a held slot's places are zero beyond their lengths.
@@ -86,9 +74,9 @@ fn places_well(t: &[u8]) -> bool
     let key_length = t[KEY_LENGTH_AT] as usize;
     let field_length = t[FIELD_LENGTH_AT] as usize;
     let value_length = t[VALUE_LENGTH_AT] as usize;
-    let key = padding_of_16(t, KEY_AT, key_length);
-    let field = padding_of_32(t, FIELD_AT, field_length);
-    let value = padding_of_64(t, VALUE_AT, value_length);
+    let key = padding(t, KEY_AT, KEY_MOST, key_length);
+    let field = padding(t, FIELD_AT, FIELD_MOST, field_length);
+    let value = padding(t, VALUE_AT, VALUE_MOST, value_length);
     (key | field | value) == 0
 }
 
@@ -113,9 +101,7 @@ fn slots_well(store: &[u8], count: usize, filter: &mut [u64]) -> bool
     requires filter_size { FilterSize filter.old }
     ensures { result ≡ slots_good count store.now }
 {
-    let mut i = count;
-    while 0 < i {
-        i -= 1;
+    for i in (0..count).rev() {
         if !slot_well(slot::bytes(store, i)) {
             return false;
         }
@@ -126,20 +112,13 @@ fn slots_well(store: &[u8], count: usize, filter: &mut [u64]) -> bool
     true
 }
 
-// The same with a filter for few slots, and for as many as there may be.
-fn few_well(store: &[u8], count: usize) -> bool
-    requires { header_size + slot_size * count ≤ length store.now }
+// The same with a filter of so many words.
+fn well_with<const WORDS: usize>(store: &[u8], count: usize) -> bool
+    requires words_in_bounds { (1 ≤ WORDS) × (WORDS ≤ 512) }
+    requires count_in_bounds { header_size + slot_size * count ≤ length store.now }
     ensures { result ≡ slots_good count store.now }
 {
-    let mut filter = [0u64; FEW_WORDS];
-    slots_well(store, count, &mut filter)
-}
-
-fn many_well(store: &[u8], count: usize) -> bool
-    requires { header_size + slot_size * count ≤ length store.now }
-    ensures { result ≡ slots_good count store.now }
-{
-    let mut filter = [0u64; MANY_WORDS];
+    let mut filter = [0u64; WORDS];
     slots_well(store, count, &mut filter)
 }
 
@@ -155,7 +134,7 @@ pub fn well_formed(store: &[u8]) -> bool
         return false;
     }
     if count <= FEW_WORDS {
-        return few_well(store, count);
+        return well_with::<FEW_WORDS>(store, count);
     }
-    many_well(store, count)
+    well_with::<MANY_WORDS>(store, count)
 }

@@ -20,9 +20,7 @@ fn named_from(store: &[u8], count: usize, from: usize, key: &[u8], field: &[u8])
     requires from_le_count { from ≤ count }
     ensures { result ≡ any (holds key.now field.now) (drop from (slots_of count store.now)) }
 {
-    let mut i = count;
-    while from < i {
-        i -= 1;
+    for i in (from..count).rev() {
         if slot::holds(slot::bytes(store, i), key, field) {
             return true;
         }

@@ -1,14 +1,13 @@
 // Searches and counts over the slots of a well-formed store, in ascending order.
-ghost use Rattle.std.specs.Prelude.{◌≡◌, true, ◌≤◌, length};
+ghost use Rattle.std.specs.Prelude.{◌≡◌, Bool, true, ◌≤◌, length};
 ghost use Rattle.wire.specs.Lists.{keep};
-ghost use Rattle.wire.specs.Bytes.{from_le, part};
-ghost use Rattle.store.specs.Store.{decode, well_formed, holds};
+ghost use Rattle.store.specs.Store.{Slot, decode, well_formed, holds};
 ghost use Rattle.store.specs.Time.{lowest_slot, empty_slot, dead_slot, room_slot, of_key, live_of_key, key_exists};
-ghost use Rattle.store.specs.Promises.{lowest_from, searched, searched_within, name_words, Skips};
+ghost use Rattle.store.specs.Promises.{lowest_from, searched, searched_within, name_words, Skips, TakesSlots, TellsSlots};
 
 use crate::layout::KEY_AT;
 use crate::read::slots;
-use crate::{Searched, slot};
+use crate::{Searched, SoughtKey, slot};
 
 // The lowest slot from a slot on whose field has a fingerprint, else one of the last: none before it has. Two slots are looked at in a turn.
 fn next_candidate(store: &[u8], fingerprint: u64, start: usize) -> usize
@@ -107,20 +106,41 @@ pub fn named_near(store: &[u8], key: &[u8], field: &[u8], hint: usize) -> Option
     named(store, key, field)
 }
 
+// The lowest slot from a slot on that passes a test of its bytes.
+fn lowest<F: Fn(&[u8]) -> bool>(store: &[u8], from: usize, test: F) -> Option<usize>
+    requires store_value { well_formed store.now ≡ true }
+    requires test_takes { TakesSlots (F.pre test) }
+    ensures { (p : Slot → Bool) → TellsSlots (F.post test) p → result ≡ lowest_from from p (decode store.now).slots }
+{
+    for i in from..slots(store) {
+        if test(slot::bytes(store, i)) {
+            return Some(i);
+        }
+    }
+    None
+}
+
+// How many slots pass a test of their bytes.
+fn count<F: Fn(&[u8]) -> bool>(store: &[u8], test: F) -> usize
+    requires store_value { well_formed store.now ≡ true }
+    requires test_takes { TakesSlots (F.pre test) }
+    ensures { (p : Slot → Bool) → TellsSlots (F.post test) p → result ≡ length (keep p (decode store.now).slots) }
+{
+    let mut n = 0;
+    for i in 0..slots(store) {
+        if test(slot::bytes(store, i)) {
+            n += 1;
+        }
+    }
+    n
+}
+
 // The lowest empty slot.
 pub fn empty(store: &[u8]) -> Option<usize>
     requires { well_formed store.now ≡ true }
     ensures { result ≡ lowest_slot empty_slot (decode store.now).slots }
 {
-    let count = slots(store);
-    let mut i = 0;
-    while i < count {
-        if slot::is_empty(slot::bytes(store, i)) {
-            return Some(i);
-        }
-        i += 1;
-    }
-    None
+    lowest(store, 0, |t| slot::is_empty(t))
 }
 
 // The lowest slot that holds an entry dead at a time.
@@ -128,46 +148,15 @@ pub fn dead(store: &[u8], time: u64) -> Option<usize>
     requires { well_formed store.now ≡ true }
     ensures { result ≡ lowest_slot (dead_slot time) (decode store.now).slots }
 {
-    let count = slots(store);
-    let mut i = 0;
-    while i < count {
-        if slot::is_dead(slot::bytes(store, i), time) {
-            return Some(i);
-        }
-        i += 1;
-    }
-    None
+    lowest(store, 0, |t| slot::is_dead(t, time))
 }
 
-// The number that the word of a key at a place spells, where the bytes past its end count as zero.
-pub fn key_word(key: &[u8], at: usize) -> u64
-    ensures { result ≡ from_le (part at 8 key.now) }
-{
-    slot::word_padded(key, at)
-}
-
-// The lowest slot from a slot on that holds an entry of a key live at a time, by the key's two words.
-pub fn next_live_with(
-    store: &[u8],
-    low: u64,
-    high: u64,
-    key: &[u8],
-    time: u64,
-    from: usize,
-) -> Option<usize>
-    requires store_value { well_formed store.now ≡ true }
-    requires low_value { (low ≡ from_le (part 0 8 key.now)) × (high ≡ from_le (part 8 8 key.now)) }
+// The lowest slot from a slot on that holds an entry of a key live at a time, where the key is looked for more than once.
+pub fn next_live_with(store: &[u8], key: &SoughtKey, time: u64, from: usize) -> Option<usize>
+    requires { well_formed store.now ≡ true }
     ensures { result ≡ lowest_from from (live_of_key time key.now) (decode store.now).slots }
 {
-    let count = slots(store);
-    let mut i = from;
-    while i < count {
-        if slot::is_live_with(slot::bytes(store, i), low, high, key, time) {
-            return Some(i);
-        }
-        i += 1;
-    }
-    None
+    lowest(store, from, |t| key.is_live(t, time))
 }
 
 // The same by the key alone.
@@ -175,9 +164,7 @@ pub fn next_live(store: &[u8], key: &[u8], time: u64, from: usize) -> Option<usi
     requires { well_formed store.now ≡ true }
     ensures { result ≡ lowest_from from (live_of_key time key.now) (decode store.now).slots }
 {
-    let low = slot::word_padded(key, 0);
-    let high = slot::word_padded(key, slot::WORD);
-    next_live_with(store, low, high, key, time, from)
+    next_live_with(store, &SoughtKey::new(key), time, from)
 }
 
 // Whether a key has a live entry.
@@ -185,11 +172,7 @@ pub fn key_exists(store: &[u8], key: &[u8], time: u64) -> bool
     requires { well_formed store.now ≡ true }
     ensures { result ≡ key_exists time key.now (decode store.now).slots }
 {
-    let found = next_live(store, key, time, 0);
-    match found {
-        Some(_) => true,
-        None => false,
-    }
+    next_live(store, key, time, 0).is_some()
 }
 
 // How many slots are empty or dead at a time.
@@ -197,16 +180,7 @@ pub fn room(store: &[u8], time: u64) -> usize
     requires { well_formed store.now ≡ true }
     ensures { result ≡ length (keep (room_slot time) (decode store.now).slots) }
 {
-    let count = slots(store);
-    let mut n = 0;
-    let mut i = 0;
-    while i < count {
-        if !slot::is_live(slot::bytes(store, i), time) {
-            n += 1;
-        }
-        i += 1;
-    }
-    n
+    count(store, |t| !slot::is_live(t, time))
 }
 
 // How many entries of a key are held, dead ones too.
@@ -214,18 +188,8 @@ pub fn count_held(store: &[u8], key: &[u8]) -> usize
     requires { well_formed store.now ≡ true }
     ensures { result ≡ length (keep (of_key key.now) (decode store.now).slots) }
 {
-    let count = slots(store);
-    let low = slot::word_padded(key, 0);
-    let high = slot::word_padded(key, slot::WORD);
-    let mut n = 0;
-    let mut i = 0;
-    while i < count {
-        if slot::of_key_with(slot::bytes(store, i), low, high, key) {
-            n += 1;
-        }
-        i += 1;
-    }
-    n
+    let sought = SoughtKey::new(key);
+    count(store, |t| sought.is_held(t))
 }
 
 // How many entries of a key are live at a time.
@@ -233,16 +197,6 @@ pub fn count_live(store: &[u8], key: &[u8], time: u64) -> usize
     requires { well_formed store.now ≡ true }
     ensures { result ≡ length (keep (live_of_key time key.now) (decode store.now).slots) }
 {
-    let count = slots(store);
-    let low = slot::word_padded(key, 0);
-    let high = slot::word_padded(key, slot::WORD);
-    let mut n = 0;
-    let mut i = 0;
-    while i < count {
-        if slot::is_live_with(slot::bytes(store, i), low, high, key, time) {
-            n += 1;
-        }
-        i += 1;
-    }
-    n
+    let sought = SoughtKey::new(key);
+    count(store, |t| sought.is_live(t, time))
 }

@@ -10,6 +10,8 @@ mod padding;
 pub mod read;
 mod slot;
 
+pub use slot::SoughtKey;
+
 // What a search found, and how many bytes it compared.
 #[derive(Clone, Copy)]
 pub struct Searched {

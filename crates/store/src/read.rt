@@ -30,11 +30,7 @@ pub fn now_at(store: &[u8], time: u64) -> u64
     requires { well_formed store.now ≡ true }
     ensures { result ≡ now_at time (decode store.now) }
 {
-    let latest = clock(store);
-    if latest < time {
-        return time;
-    }
-    latest
+    clock(store).max(time)
 }
 
 // Whether slot i is empty.

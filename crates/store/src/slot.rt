@@ -1,6 +1,6 @@
 // One slot's 128 bytes: what they mean.
-ghost use Rattle.std.specs.Prelude.{◌≡◌, true, false, ◌+◌, ◌*◌, ◌<◌, ◌≤◌, length};
-ghost use Rattle.wire.specs.Bytes.{from_le, to_le, part};
+ghost use Rattle.std.specs.Prelude.{◌≡◌, true, false, List, ℕ, ◌+◌, ◌*◌, ◌^◌, ◌<◌, ◌≤◌, length, slice_index};
+ghost use Rattle.wire.specs.Bytes.{Bytes, from_le, to_le, part};
 ghost use Rattle.store.specs.Layout.{header_size, slot_size, field_at, field_most};
 ghost use Rattle.store.specs.Store.{decode_slot, decode_entry, decode_expiry, holds};
 ghost use Rattle.store.specs.Time.{empty_slot, live_slot, dead_slot, of_key, live_of_key};
@@ -11,6 +11,8 @@ use crate::layout::{
     EMPTY_STATE, EXPIRING_STATE, EXPIRY_AT, FIELD_AT, FIELD_LENGTH_AT, HEADER_SIZE, KEY_AT,
     KEY_LENGTH_AT, SLOT_SIZE, STATE_AT, VALUE_AT, VALUE_LENGTH_AT, VERSION_AT,
 };
+use std::marker::Model;
+use std::ops::Range;
 use wire::bytes::{equal, read_le};
 
 // The bytes of a word.
@@ -21,14 +23,22 @@ const KEY_WORDS: usize = 2;
 
 pub const NAME_WORDS: usize = 6;
 
+// Where the bytes of slot i stand in a store's.
+pub fn place(i: usize) -> Range<usize>
+    requires { header_size + slot_size * i + slot_size < 2 ^ 64 }
+    ensures { let start = header_size + slot_size * i in
+        result ≡ record { start = start; end = start + slot_size } }
+{
+    let start = HEADER_SIZE + SLOT_SIZE * i;
+    start..start + SLOT_SIZE
+}
+
 // The bytes of slot i.
 pub fn bytes(store: &[u8], i: usize) -> &[u8]
     requires { header_size + slot_size * i + slot_size ≤ length store.now }
     ensures { result.now ≡ part (header_size + slot_size * i) slot_size store.now }
 {
-    let start = HEADER_SIZE + SLOT_SIZE * i;
-    let end = start + SLOT_SIZE;
-    &store[start..end]
+    &store[place(i)]
 }
 
 // The number that a word spells.
@@ -90,28 +100,35 @@ pub fn is_dead(t: &[u8], time: u64) -> bool
     !is_live(t, time)
 }
 
+// The bytes used of the place that begins at `at`, as many as the byte at `length_at` says.
+fn used(t: &[u8], at: usize, length_at: usize) -> &[u8]
+    requires length_inside { length_at < length t.now }
+    requires used_inside { at + slice_index t.now length_at ≤ length t.now }
+    ensures { result.now ≡ part at (slice_index t.now length_at) t.now }
+{
+    let end = at + t[length_at] as usize;
+    &t[at..end]
+}
+
 pub fn key(t: &[u8]) -> &[u8]
     requires { HeldBytes t.now }
     ensures { result.now ≡ (decode_entry t.now).key }
 {
-    let end = KEY_AT + t[KEY_LENGTH_AT] as usize;
-    &t[KEY_AT..end]
+    used(t, KEY_AT, KEY_LENGTH_AT)
 }
 
 pub fn field(t: &[u8]) -> &[u8]
     requires { HeldBytes t.now }
     ensures { result.now ≡ (decode_entry t.now).field }
 {
-    let end = FIELD_AT + t[FIELD_LENGTH_AT] as usize;
-    &t[FIELD_AT..end]
+    used(t, FIELD_AT, FIELD_LENGTH_AT)
 }
 
 pub fn value(t: &[u8]) -> &[u8]
     requires { HeldBytes t.now }
     ensures { result.now ≡ (decode_entry t.now).value }
 {
-    let end = VALUE_AT + t[VALUE_LENGTH_AT] as usize;
-    &t[VALUE_AT..end]
+    used(t, VALUE_AT, VALUE_LENGTH_AT)
 }
 
 // Whether the slot holds an entry of a key.
@@ -125,35 +142,61 @@ pub fn of_key(t: &[u8], k: &[u8]) -> bool
     equal(key(t), k)
 }
 
-// The same by the key's two words and its length.
-pub fn of_key_with(t: &[u8], low: u64, high: u64, k: &[u8]) -> bool
-    requires slot_bytes { SlotBytes t.now }
-    requires low_value { (low ≡ from_le (part 0 8 k.now)) × (high ≡ from_le (part 8 8 k.now)) }
-    ensures { result ≡ of_key k.now (decode_slot t.now) }
-{
-    if t[STATE_AT] == EMPTY_STATE {
-        return false;
-    }
-    if t[KEY_LENGTH_AT] as usize != k.len() {
-        return false;
-    }
-    let key = &t[KEY_AT..FIELD_AT];
-    if word(key, 0) != low {
-        return false;
-    }
-    word(key, WORD) == high
+// A key that is looked for in many slots: its bytes, and the two words that they spell in their place.
+#[derive(Drop)]
+pub struct SoughtKey<'a> {
+    bytes: &'a [u8],
+    low: u64,
+    high: u64,
 }
 
-// Whether the slot holds an entry of a key that is live at a time, by the key's two words and its length.
-pub fn is_live_with(t: &[u8], low: u64, high: u64, k: &[u8], time: u64) -> bool
-    requires slot_bytes { SlotBytes t.now }
-    requires low_value { (low ≡ from_le (part 0 8 k.now)) × (high ≡ from_le (part 8 8 k.now)) }
-    ensures { result ≡ live_of_key time k.now (decode_slot t.now) }
-{
-    if is_live(t, time) {
-        return of_key_with(t, low, high, k);
+impl<'a> Model for SoughtKey<'a> {
+    ghost Value = { List ℕ };
+
+    ghost view = { λ k. k.bytes.now };
+
+    ghost invariant = { λ k. Bytes k.bytes.now × (k.low ≡ from_le (part 0 8 k.bytes.now)) × (k.high ≡ from_le (part 8 8 k.bytes.now)) };
+}
+
+impl<'a> SoughtKey<'a> {
+    pub fn new(key: &'a [u8]) -> SoughtKey<'a>
+        ensures { result ≡ key.now }
+    {
+        SoughtKey {
+            bytes: key,
+            low: word_padded(key, 0),
+            high: word_padded(key, WORD),
+        }
     }
-    false
+
+    // Whether a slot holds an entry of the key: by its length, and then by words.
+    pub fn is_held(&self, t: &[u8]) -> bool
+        requires { SlotBytes t.now }
+        ensures { result ≡ of_key self.now (decode_slot t.now) }
+    {
+        if t[STATE_AT] == EMPTY_STATE {
+            return false;
+        }
+        if t[KEY_LENGTH_AT] as usize != self.bytes.len() {
+            return false;
+        }
+        let key = &t[KEY_AT..FIELD_AT];
+        if word(key, 0) != self.low {
+            return false;
+        }
+        word(key, WORD) == self.high
+    }
+
+    // Whether a slot holds an entry of the key that is live at a time.
+    pub fn is_live(&self, t: &[u8], time: u64) -> bool
+        requires { SlotBytes t.now }
+        ensures { result ≡ live_of_key time self.now (decode_slot t.now) }
+    {
+        if is_live(t, time) {
+            return self.is_held(t);
+        }
+        false
+    }
 }
 
 // Whether the slot holds the entry of a key and a field. The field is compared first: it is what differs.
@@ -226,16 +269,14 @@ pub fn word_compared(x: u64, y: u64) -> usize
 {
     let mut a = x;
     let mut b = y;
-    let mut n = 0;
-    while n < WORD {
-        n += 1;
+    for n in 0..WORD {
         if a % 256 != b % 256 {
-            return n;
+            return n + 1;
         }
-        a = a / 256;
-        b = b / 256;
+        a /= 256;
+        b /= 256;
     }
-    n
+    WORD
 }
 
 // A number of a field's first 16 bytes: the same for the same field.
@@ -250,8 +291,7 @@ pub fn fingerprint_at(t: &[u8]) -> u64
     requires { length t.now ≡ slot_size }
     ensures { result ≡ fingerprint_of (part field_at field_most t.now) }
 {
-    let field = &t[FIELD_AT..VALUE_AT];
-    word(field, 0) ^ word(field, WORD)
+    fingerprint_of(&t[FIELD_AT..VALUE_AT])
 }
 
 // The same as `holds`, by the field's fingerprint first: where the slot has another, nothing else of it is looked at, and where a field of at most a

@@ -1,10 +1,13 @@
+use mathlib.Core.Path.{◌≡◌, refl, ◌∙◌}
+use Prim.Native.Nat.{ℕ}
+use Rattle.std.specs.Prelude.{Option, None, Some, unwrap_or}
 use Rattle.store.specs.Store.{instant_of}
 use Rattle.store.proofs.change.instant_of.Goals as goal
 
-pub returns-in-None : goal.returns-in-None
+same : (x : Option ℕ) → unwrap_or x 0 ≡ instant_of x
 unfolding instant_of
-returns-in-None c = rw c.in-None.is
+same None = refl
+same (Some t) = refl
 
-pub returns-in-Some : goal.returns-in-Some
-unfolding instant_of
-returns-in-Some c = rw c.in-Some.is
+pub returns : goal.returns
+returns c = c.unwrap_or.ensures ∙ same c.args.expiry

@@ -11,14 +11,14 @@ overflow_cast-field_length c = omega (arith, c.type_inv.t 2)
 pub overflow_cast-value_length : goal.overflow_cast-value_length
 overflow_cast-value_length c = omega (arith, c.type_inv.t 3)
 
-pub padding_of_16-key-requires : goal.padding_of_16-key-requires
-padding_of_16-key-requires c = record { t_len = c.requires.t_len; at_bound = omega arith; used_bound = key_fits c.args.t.now c.requires.t_value }
+pub padding-key-requires : goal.padding-key-requires
+padding-key-requires c = record { t_len = c.requires.t_len; at_bound = omega arith; size_whole = omega arith; used_bound = key_fits c.args.t.now c.requires.t_value }
 
-pub padding_of_32-field-requires : goal.padding_of_32-field-requires
-padding_of_32-field-requires c = record { t_len = c.requires.t_len; at_bound = omega arith; used_bound = field_fits c.args.t.now c.requires.t_value }
+pub padding-field-requires : goal.padding-field-requires
+padding-field-requires c = record { t_len = c.requires.t_len; at_bound = omega arith; size_whole = omega arith; used_bound = field_fits c.args.t.now c.requires.t_value }
 
-pub padding_of_64-value-requires : goal.padding_of_64-value-requires
-padding_of_64-value-requires c = record { t_len = c.requires.t_len; at_bound = omega arith; used_bound = value_fits c.args.t.now c.requires.t_value }
+pub padding-value-requires : goal.padding-value-requires
+padding-value-requires c = record { t_len = c.requires.t_len; at_bound = omega arith; size_whole = omega arith; used_bound = value_fits c.args.t.now c.requires.t_value }
 
 pub returns : goal.returns
-returns c = places_bits c.args.t.now c.padding_of_16-key.result c.padding_of_32-field.result c.padding_of_64-value.result c.padding_of_16-key.ensures c.padding_of_32-field.ensures c.padding_of_64-value.ensures
+returns c = places_bits c.args.t.now c.padding-key.result c.padding-field.result c.padding-value.result c.padding-key.ensures c.padding-field.ensures c.padding-value.ensures

@@ -5,6 +5,3 @@ use Rattle.store.proofs.check.slots_well.Given as goal
 
 abbrev pub invariant-loop-i : goal.invariant-loop-i
 invariant-loop-i l = (length l.filter ≡ length l.initial.filter) × Sifting l.count l.store l.i l.filter
-
-abbrev pub decreases-loop-i : goal.decreases-loop-i
-decreases-loop-i l = l.i

@@ -13,14 +13,14 @@ header_well-requires c = header_inside c.args.store.now c.slot_count-count.resul
 pub returns-then-not-header_well : goal.returns-then-not-header_well
 returns-then-not-header_well c = rw (size_right c.args.store.now c.slot_count-count.result c.slot_count-count.ensures c.if-count-eq0.false (bytes_intro c.args.store.now (λ i. (c.type_inv.store i).fits)), ← c.header_well.ensures, not-true c.header_well.result c.if-not-header_well.true-raw)
 
-pub few_well-requires : goal.few_well-requires
-few_well-requires c = slots_inside c.args.store.now c.slot_count-count.result c.slot_count-count.ensures c.if-count-eq0.false
+pub well_with-requires-clause-count_in_bounds : goal.well_with-requires-clause-count_in_bounds
+well_with-requires-clause-count_in_bounds c = slots_inside c.args.store.now c.slot_count-count.result c.slot_count-count.ensures c.if-count-eq0.false
 
 pub returns-then-count-le-FEW_WORDS : goal.returns-then-count-le-FEW_WORDS
-returns-then-count-le-FEW_WORDS c = rw (size_right c.args.store.now c.slot_count-count.result c.slot_count-count.ensures c.if-count-eq0.false (bytes_intro c.args.store.now (λ i. (c.type_inv.store i).fits)), ← c.header_well.ensures, not-false c.header_well.result c.if-not-header_well.false-raw) c.few_well.ensures
+returns-then-count-le-FEW_WORDS c = rw (size_right c.args.store.now c.slot_count-count.result c.slot_count-count.ensures c.if-count-eq0.false (bytes_intro c.args.store.now (λ i. (c.type_inv.store i).fits)), ← c.header_well.ensures, not-false c.header_well.result c.if-not-header_well.false-raw) c.well_with.ensures
 
-pub many_well-requires : goal.many_well-requires
-many_well-requires c = slots_inside c.args.store.now c.slot_count-count.result c.slot_count-count.ensures c.if-count-eq0.false
+pub well_with-requires-2-clause-count_in_bounds : goal.well_with-requires-2-clause-count_in_bounds
+well_with-requires-2-clause-count_in_bounds c = slots_inside c.args.store.now c.slot_count-count.result c.slot_count-count.ensures c.if-count-eq0.false
 
 pub returns : goal.returns
-returns c = rw (size_right c.args.store.now c.slot_count-count.result c.slot_count-count.ensures c.if-count-eq0.false (bytes_intro c.args.store.now (λ i. (c.type_inv.store i).fits)), ← c.header_well.ensures, not-false c.header_well.result c.if-not-header_well.false-raw) c.many_well.ensures
+returns c = rw (size_right c.args.store.now c.slot_count-count.result c.slot_count-count.ensures c.if-count-eq0.false (bytes_intro c.args.store.now (λ i. (c.type_inv.store i).fits)), ← c.header_well.ensures, not-false c.header_well.result c.if-not-header_well.false-raw) c.well_with-2.ensures

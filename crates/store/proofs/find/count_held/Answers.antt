@@ -1,23 +1,6 @@
+use borrow.Author.Rules.{rules}
 use Rattle.store.specs.Time.{of_key}
-use Rattle.store.proofs.Finding.{count_begins, walk_inside, walk_bytes, count_adds, count_goes_on, count_ends}
 use Rattle.store.proofs.find.count_held.Goals as goal
-use Rattle.store.proofs.find.count_held.Goals.{then-of_key_with, else-of_key_with}
-
-pub loop-i-init : goal.loop-i-init
-loop-i-init c = count_begins (of_key c.args.key.now) c.args.store.now c.requires c.slots-count.ensures
-
-pub bytes-requires : goal.bytes-requires
-bytes-requires c = walk_inside c.loop-i.invariant.walk c.loop-i-test.true
-
-pub of_key_with-requires : goal.of_key_with-requires
-of_key_with-requires c = record { slot_bytes = walk_bytes c.loop-i.invariant.walk c.loop-i-test.true c.bytes.ensures; low_value = (c.word_padded-low.ensures, c.word_padded-high.ensures) }
-
-pub loop-i-preserved : goal.loop-i-preserved
-loop-i-preserved c =
-    elim c.if-of_key_with.branch [
-      | then-of_key_with w ↦ rw w.n-is (count_adds c.loop-i.invariant c.loop-i-test.true c.bytes.ensures c.of_key_with.ensures w.if-of_key_with.true)
-      | else-of_key_with w ↦ rw w.n-is (count_goes_on c.loop-i.invariant c.loop-i-test.true c.bytes.ensures c.of_key_with.ensures w.if-of_key_with.false)
-    ]
 
 pub returns : goal.returns
-returns c = count_ends c.loop-i.invariant c.loop-i-test.false
+returns c = c.count.ensures (of_key c.args.key.now) (λ t r w q. rw (← c.new-sought.ensures) (search rules))

@@ -1,22 +1,9 @@
+use mathlib.Core.Path.{◌∙◌}
+use Rattle.store.specs.Store.{decode}
+use Rattle.store.proofs.Finding.{lowest_begin}
 use borrow.Author.Rules.{rules}
 use Rattle.store.specs.Time.{empty_slot}
-use Rattle.store.proofs.Finding.{seek_begins, walk_inside, walk_bytes, seek_finds, seek_goes_on, seek_ends}
 use Rattle.store.proofs.find.empty.Goals as goal
 
-pub loop-i-init : goal.loop-i-init
-loop-i-init c = seek_begins empty_slot c.args.store.now c.requires c.slots-count.ensures
-
-pub bytes-requires : goal.bytes-requires
-bytes-requires c = walk_inside c.loop-i.invariant.walk c.loop-i-test.true
-
-pub is_empty-requires : goal.is_empty-requires
-is_empty-requires c = (walk_bytes c.loop-i.invariant.walk c.loop-i-test.true c.bytes.ensures).size
-
-pub returns-then-is_empty : goal.returns-then-is_empty
-returns-then-is_empty c = seek_finds c.loop-i.invariant c.loop-i-test.true c.bytes.ensures c.is_empty.ensures c.if-is_empty.true
-
-pub loop-i-preserved : goal.loop-i-preserved
-loop-i-preserved c = seek_goes_on c.loop-i.invariant c.loop-i-test.true c.bytes.ensures c.is_empty.ensures (search rules)
-
 pub returns : goal.returns
-returns c = seek_ends c.loop-i.invariant c.loop-i-test.false
+returns c = c.lowest.ensures empty_slot (λ t r w q. search rules) ∙ lowest_begin empty_slot (decode c.args.store.now).slots

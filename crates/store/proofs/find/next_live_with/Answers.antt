@@ -1,21 +1,6 @@
-use mathlib.Core.Path.{refl}
-use Rattle.store.proofs.Finding.{walk_inside, walk_bytes, seek_finds, seek_goes_on, seek_ends}
+use borrow.Author.Rules.{rules}
+use Rattle.store.specs.Time.{live_of_key}
 use Rattle.store.proofs.find.next_live_with.Goals as goal
 
-pub loop-i-init : goal.loop-i-init
-loop-i-init c = record { walk = record { well = c.requires.store_value; slots = c.slots-count.ensures }; rest = refl }
-
-pub bytes-requires : goal.bytes-requires
-bytes-requires c = walk_inside c.loop-i.invariant.walk c.loop-i-test.true
-
-pub is_live_with-requires : goal.is_live_with-requires
-is_live_with-requires c = record { slot_bytes = walk_bytes c.loop-i.invariant.walk c.loop-i-test.true c.bytes.ensures; low_value = c.requires.low_value }
-
-pub returns-then-is_live_with : goal.returns-then-is_live_with
-returns-then-is_live_with c = seek_finds c.loop-i.invariant c.loop-i-test.true c.bytes.ensures c.is_live_with.ensures c.if-is_live_with.true
-
-pub loop-i-preserved : goal.loop-i-preserved
-loop-i-preserved c = seek_goes_on c.loop-i.invariant c.loop-i-test.true c.bytes.ensures c.is_live_with.ensures c.if-is_live_with.false
-
 pub returns : goal.returns
-returns c = seek_ends c.loop-i.invariant c.loop-i-test.false
+returns c = c.lowest.ensures (live_of_key c.args.time c.args.key.now) (λ t r w q. search rules)

@@ -1,18 +1,11 @@
-use native.Mathlib.Omega.{arith}
-use lib.ListN.{get_or}
 use Rattle.store.specs.Store.{decode_entry}
-use Rattle.store.proofs.SlotParts.{part_of, value_inside}
+use native.Mathlib.Omega.{arith}
+use Rattle.store.proofs.SlotParts.{value_inside}
 use Rattle.store.proofs.slot.value.Goals as goal
 
-pub overflow_cast-end : goal.overflow_cast-end
-overflow_cast-end c = omega (arith, c.type_inv.t 3)
-
-pub overflow_add-end : goal.overflow_add-end
-overflow_add-end c = omega (arith, c.type_inv.t 3)
-
-pub slice_bounds-result-end : goal.slice_bounds-result-end
-slice_bounds-result-end c = value_inside c.args.t.now c.requires
+pub used-requires : goal.used-requires
+used-requires c = record { length_inside = omega (arith, c.requires.slot.size); used_inside = value_inside c.args.t.now c.requires }
 
 pub returns : goal.returns
 unfolding decode_entry
-returns c = part_of 64 (get_or c.args.t.now 3 0) c.args.t.now
+returns c = c.used.ensures
