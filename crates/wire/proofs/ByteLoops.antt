@@ -3,7 +3,7 @@ use mathlib.Core.Path.{◌≡◌, refl, sym, ap, ◌∙◌}
 use mathlib.Core.Bool.{Bool, true, false, ◌&&◌, and-true, and_assoc}
 use mathlib.Core.List.{List, [], ◌∷◌, ◌++◌, append_assoc, append-nil}
 use Prim.Native.Nat.{ℕ, zero, suc, ◌+◌, ◌-◌, ◌*◌, ◌/◌, ◌%◌, ◌^◌, ◌≤◌, ◌<◌}
-use native.Mathlib.Nat.{sub-zero, mul-le-mul_right, div-one, zero-div, div-div-eq-div-mul}
+use native.Mathlib.Nat.{mul-le-mul_right, div-one, zero-div, div-div-eq-div-mul}
 use native.Mathlib.Numerals.{add-one}
 use native.Mathlib.Omega.{arith}
 use Rattle.std.specs.Bool.{MatchBool}
@@ -131,16 +131,10 @@ module _ (s : List ℕ) (x i : ℕ) (f : Reading s x i) (width : length s ≤ 8)
         small = rw (whole, add-one) (read_small x i (get_or s i 0) f.small byte);
       }
 
-pub read_ends : (s : List ℕ) (x i : ℕ) → Reading s x i → length s ≤ i → x ≡ from_le s
-read_ends s x i f h = rw (← (take_all i s h)) f.spells
-
 -- The first i bytes and those of what is left of the number are the number's.
 pub record Writing (n x : ℕ) (s : List ℕ) (rest i : ℕ) : Type 0 where
   pub size : length s ≡ n
   pub bytes : take i s ++ to_le (n - i) rest ≡ to_le n x
-
-pub write_begins : (s : List ℕ) (x : ℕ) → Writing (length s) x s x 0
-write_begins s x = record { size = refl; bytes = rw (sub-zero (length s)) }
 
 -- The next byte is the lowest that is left.
 pub write_goes_on : (n x : ℕ) (s : List ℕ) (rest i : ℕ) → Writing n x s rest i → i < n → Writing n x (set s i (rest % 256)) (rest / 256) (i + 1)

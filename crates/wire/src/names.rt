@@ -13,8 +13,10 @@ pub fn spells(word: &[u8], name: &[u8]) -> bool
     if word.len() != name.len() {
         return false;
     }
-    word.iter().rev().zip(name.iter().rev()).all(|(letter, capital)| letter.to_ascii_uppercase()
-        == *capital)
+    word.iter()
+        .rev()
+        .zip(name.iter().rev())
+        .all(|(x, y)| x.to_ascii_uppercase() == *y)
 }
 
 // The lowest row whose name a word spells.

@@ -1,6 +1,5 @@
 use native.Mathlib.Omega.{arith}
 use Rattle.wire.proofs.IntegerSigns.{signs_same, signs_other, add_same, add_first, add_second, add_outside}
-use borrow.Author.Tests.{ltb-false}
 use Rattle.wire.proofs.integers.add.Goals as goal
 use Rattle.wire.proofs.integers.add.Goals.{then-a-gt-LOWEST-via-then-a-gt-LOWEST, then-a-gt-LOWEST-via-else-a-gt-LOWEST+then-a-b-2}
 
@@ -9,9 +8,6 @@ pub returns-then-a-gt-LOWEST : goal.returns-then-a-gt-LOWEST
 returns-then-a-gt-LOWEST c =
     add_outside c.args.a c.args.b (signs_same c.args.a.negative c.args.b.negative c.if-a-b.true)
     (elim c.then-a-gt-LOWEST.branch [ then-a-gt-LOWEST-via-then-a-gt-LOWEST w ↦ omega arith | then-a-gt-LOWEST-via-else-a-gt-LOWEST+then-a-b-2 w ↦ omega arith ])
-
-pub overflow_add-a : goal.overflow_add-a
-overflow_add-a c = omega (arith, ltb-false)
 
 pub returns-then-a-b : goal.returns-then-a-b
 returns-then-a-b c =

@@ -20,19 +20,10 @@ loop-c-init c =
 pub returns-then-not-is_ascii_digit : goal.returns-then-not-is_ascii_digit
 returns-then-not-is_ascii_digit c = reading_other c.loop-c.invariant c.loop-c-test.true (sym (digit_is _) ∙ sym c.is_ascii_digit.ensures.value ∙ c.if-not-is_ascii_digit.true)
 
-pub overflow_cast-d : goal.overflow_cast-d
-overflow_cast-d c = omega (arith, c.type_inv.s c.loop-c.c-index)
-
 pub returns-then-most-d : goal.returns-then-most-d
 returns-then-most-d c =
     reading_above c.loop-c.invariant c.loop-c-test.true
     (elim c.then-most-d.branch [ then-most-d-via-then-most-d w ↦ omega arith | then-most-d-via-else-most-d+then-most-d-2 w ↦ omega arith ])
-
-pub overflow_mul-n : goal.overflow_mul-n
-overflow_mul-n c = omega (arith, ltb-false)
-
-pub overflow_add-n : goal.overflow_add-n
-overflow_add-n c = omega (arith, ltb-false)
 
 pub loop-c-preserved : goal.loop-c-preserved
 loop-c-preserved c =

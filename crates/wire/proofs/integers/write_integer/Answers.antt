@@ -1,12 +1,11 @@
 -- A minus goes before the magnitude, which is written into the tail; with no minus the magnitude is all.
-use mathlib.Core.Path.{◌≡◌, ap, ◌∙◌}
+use mathlib.Core.Path.{◌≡◌, ap}
 use mathlib.Core.Bool.{true, false}
 use mathlib.Core.List.{◌∷◌}
 use mathlib.Core.Logic.{◌⊎◌, ⊎_elim}
-use Prim.Native.Nat.{◌-◌, ◌<◌, ◌≤◌}
+use Prim.Native.Nat.{◌<◌, ◌≤◌}
 use native.Mathlib.Omega.{arith}
-use borrow.Rule.Slice.PartMut.{same_len_mid}
-use lib.ListN.{length, set, length-set}
+use lib.ListN.{length, length-set}
 use Rattle.wire.specs.declared.integers.Signed.{Signed}
 use Rattle.wire.specs.Integers.{natural_text, integer_text}
 use Rattle.wire.specs.Promises.{integer_of}
@@ -38,11 +37,6 @@ write_natural-requires c =
 
 pub overflow_add-result : goal.overflow_add-result
 overflow_add-result c = omega (arith, c.write_natural.ensures.size, is_minus c.args.z c.if-z.true c.if-z-gt0.true)
-
-pub shape_of-out-then-z-gt0 : goal.shape_of-out-then-z-gt0
-shape_of-out-then-z-gt0 c =
-    same_len_mid 1 (length (set c.args.out.now 0 45) - 1) (set c.args.out.now 0 45) c.write_natural.new.out c.write_natural.auto.out
-    ∙ length-set c.args.out.now 0 45
 
 pub returns-then-z-gt0 : goal.returns-then-z-gt0
 returns-then-z-gt0 c =

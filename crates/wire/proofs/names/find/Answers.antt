@@ -11,15 +11,6 @@ pub loop-i-init : goal.loop-i-init
 unfolding row_named
 loop-i-init c = (omega arith, rw (sub-zero (length c.args.table.now / row_size)))
 
-pub overflow_cast-end : goal.overflow_cast-end
-overflow_cast-end c = omega (arith, c.requires.short c.loop-i.i)
-
-pub overflow_add-end : goal.overflow_add-end
-overflow_add-end c = omega (arith, c.requires.short c.loop-i.i)
-
-pub slice_bounds-spells-end : goal.slice_bounds-spells-end
-slice_bounds-spells-end c = omega (arith, c.requires.short c.loop-i.i)
-
 pub returns-then-spells : goal.returns-then-spells
 returns-then-spells c = (sym (row_hit _ _ _ _ c.loop-i-test.true _ c.spells.ensures c.if-spells.true) ∙ c.loop-i.invariant.1)
 

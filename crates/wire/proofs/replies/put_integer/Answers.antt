@@ -5,7 +5,7 @@ use Rattle.wire.specs.Integers.{integer_text}
 use Rattle.wire.specs.Words.{crlf}
 use Rattle.wire.specs.Replies.{integer}
 use Rattle.wire.specs.Promises.{integer_of}
-use Rattle.wire.proofs.ReplyLaying.{laid_length, laid_within, laid_tail, tail_inside, tail_room, front_room, mark_inside, mark_room, marked}
+use Rattle.wire.proofs.ReplyLaying.{laid_within, laid_tail, tail_inside, tail_room, front_room, mark_inside, mark_room, marked}
 use Rattle.wire.proofs.replies.put_integer.Goals as goal
 
 pub bounds-out-0 : goal.bounds-out-0
@@ -43,10 +43,6 @@ put_end-requires c = tail_room crlf (marked _ (integer_text (integer_of c.args.z
 pub overflow_add-result : goal.overflow_add-result
 unfolding integer text
 overflow_add-result c = omega (arith, laid_within (laid_tail (marked _ (integer_text (integer_of c.args.z)) crlf c.args.out.now (c.requires) c.write_integer-at.ensures) c.put_end.ensures) (c.requires))
-
-pub shape_of-out : goal.shape_of-out
-unfolding integer text
-shape_of-out c = laid_length (laid_tail (marked _ (integer_text (integer_of c.args.z)) crlf c.args.out.now (c.requires) c.write_integer-at.ensures) c.put_end.ensures) (c.requires)
 
 pub returns : goal.returns
 unfolding integer text

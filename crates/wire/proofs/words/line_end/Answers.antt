@@ -1,10 +1,7 @@
-use mathlib.Core.Path.{refl, sym, ◌∙◌}
+use mathlib.Core.Path.{sym, ◌∙◌}
 use native.Mathlib.Omega.{arith}
 use Rattle.wire.proofs.WordPlaces.{line_here, line_on, line_past}
 use Rattle.wire.proofs.words.line_end.Goals as goal
-
-pub loop-i-init : goal.loop-i-init
-loop-i-init c = refl
 
 pub returns-then-s-i-eq13 : goal.returns-then-s-i-eq13
 returns-then-s-i-eq13 c = line_here _ _ c.loop-i-test.true c.if-s-i-eq13.true ∙ c.loop-i.invariant

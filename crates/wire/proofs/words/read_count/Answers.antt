@@ -21,9 +21,6 @@ returns-then-not-ends_line c = counted_line _ _ _ _ c.if-s-at.false c.if-s-at-2.
 pub slice_bounds-read_natural-end : goal.slice_bounds-read_natural-end
 slice_bounds-read_natural-end c = omega (arith, ends_room _ _ (sym c.ends_line.ensures ∙ not-false _ c.if-not-ends_line.false-raw))
 
-pub overflow_add-result : goal.overflow_add-result
-overflow_add-result c = omega (arith, ends_room _ _ (sym c.ends_line.ensures ∙ not-false _ c.if-not-ends_line.false-raw))
-
 pub returns : goal.returns
 returns c = counted_value _ _ _ _ c.if-s-at.false c.if-s-at-2.false _ c.line_end-end.ensures _ (sym c.ends_line.ensures ∙ not-false _ c.if-not-ends_line.false-raw) (sym c.in_ok-n.was ∙ c.read_natural.ensures)
 

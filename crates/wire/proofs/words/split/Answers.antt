@@ -13,12 +13,6 @@ loop-i-init c =
     let now = progress_begins {places = c.args.places.now} head in
     (now, refl, λ l e. places_past now head l e)
 
-pub read_word-requires : goal.read_word-requires
-read_word-requires c = c.loop-i.invariant.0.within
-
-pub shape_of-places-in_default-read_word : goal.shape_of-places-in_default-read_word
-shape_of-places-in_default-read_word c = c.loop-i.invariant.1
-
 pub returns-in_default-read_word : goal.returns-in_default-read_word
 returns-in_default-read_word c =
     places_none (sym c.in-Some.is ∙ c.read_count.ensures)
@@ -29,9 +23,6 @@ loop-i-preserved c =
     let inv = c.loop-i.invariant in
     let now = progress_goes_on inv.0 c.loop-i-test.true (omega arith) (sym c.in-Some-read_word.is ∙ c.read_word.ensures) in
     (now, rw length-set inv.1, λ l e. places_past now (sym c.in-Some.is ∙ c.read_count.ensures) l e)
-
-pub shape_of-places : goal.shape_of-places
-shape_of-places c = c.loop-i.invariant.1
 
 pub returns : goal.returns
 returns c = places_all (sym c.in-Some.is ∙ c.read_count.ensures) c.loop-i.invariant.0 (omega (arith, c.loop-i.invariant.1)) c.loop-i-test.false (omega arith)

@@ -1,16 +1,9 @@
-use native.Mathlib.Omega.{arith}
 use Rattle.wire.proofs.WordPlaces.{word_part, word_past}
 use Rattle.wire.proofs.words.word.Goals as goal
 
 -- A word by its place, or past the places.
 pub returns-then-places-i : goal.returns-then-places-i
 returns-then-places-i c = word_past c.args.s.now c.args.places.now c.args.i c.if-places-i.true
-
-pub overflow_add-end : goal.overflow_add-end
-overflow_add-end c = omega (arith, c.requires.inside c.args.i c.if-places-i.false)
-
-pub slice_bounds-result-end-2 : goal.slice_bounds-result-end-2
-slice_bounds-result-end-2 c = omega (arith, c.requires.inside c.args.i c.if-places-i.false)
 
 pub returns : goal.returns
 returns c = word_part c.args.s.now c.args.places.now c.args.i
