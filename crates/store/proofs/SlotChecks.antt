@@ -44,14 +44,6 @@ module _ (t : List ℕ) where
   unfolding slot_well
   well_held n = rw (ne_eqb (get_or t state_at 0) empty_state n) (held_parts t)
 
-  -- one after the other
-  pub lengths_last : get_or t state_at 0 ≤ expiring_state → get_or t key_length_at 0 ≤ key_most → get_or t field_length_at 0 ≤ field_most
-      → every (length_tests t) ≡ leb (get_or t value_length_at 0) value_most
-  unfolding length_tests every
-  lengths_last s k f =
-      rw (le-leb (get_or t state_at 0) expiring_state s, le-leb (get_or t key_length_at 0) key_most k, le-leb (get_or t field_length_at 0) field_most f)
-      (and-true (leb (get_or t value_length_at 0) value_most))
-
   -- lengths that pass their tests
   pub key_fits : every (length_tests t) ≡ true → get_or t key_length_at 0 ≤ key_most
   unfolding length_tests
@@ -133,7 +125,7 @@ module _ (at m n used : ℕ) (t : List ℕ) where
       zero_split (m - used) (drop used (part at (m + n) t)) ∙ rw (first, last)
 
   -- where they end in the last
-  pub beyond_last : m ≤ used → zero_beyond at (m + n) used t ≡ zero_beyond (at + m) n (used - m) t
+  beyond_last : m ≤ used → zero_beyond at (m + n) used t ≡ zero_beyond (at + m) n (used - m) t
   unfolding zero_beyond
   beyond_last h =
       let e : m + (used - m) ≡ used = omega arith in

@@ -3,4 +3,4 @@ use Rattle.store.proofs.read.now_at.Goals as goal
 
 pub returns : goal.returns
 unfolding now_at
-returns c = rw c.clock.ensures at c.max.ensures
+returns c = cc
