@@ -1,11 +1,12 @@
 -- The bytes of a slot compared with a key and a field by words, and the search that counts them.
-use Rattle.std.specs.Prelude.{None, Some}
+use Rattle.std.specs.Prelude.{Option, None, Some}
 use mathlib.Core.Path.{◌≡◌, refl, sym, ap, ◌∙◌}
 use mathlib.Core.Bool.{Bool, true, false, false≢true, cond, not, ◌&&◌, ◌||◌}
 use mathlib.Core.List.{List, ◌++◌}
 use Prim.Native.Nat.{ℕ, suc, ◌+◌, ◌-◌, ◌*◌, ◌/◌, ◌%◌, ◌≤◌, ◌<◌}
 use native.Mathlib.Numerals.{add-one}
 use native.Mathlib.Omega.{arith}
+use lib.Bits.{bit_xor}
 use lib.Dec.{ltb, eqb}
 use lib.ListN.{length, take, drop, get_or, length-append, drop_of_length-le}
 use lib.Seq.{take-add, take_all, take-length, length-take-le, get_or-take, drop-cons, drop-drop}
@@ -15,13 +16,13 @@ use Rattle.wire.specs.Bytes.{Bytes, part, padded, same, from_le, to_le}
 use Rattle.store.specs.Layout.{header_size, slot_size, slots_most, state_at, key_length_at, field_length_at, empty_state, key_at, key_most, field_most}
 use Rattle.store.specs.Store.{Slot, decode_entry, decode_slot, decode, well_formed, holds}
 use Rattle.store.specs.Search.{skipped, run_compared, slot_compared, compared}
-use Rattle.store.specs.Promises.{SlotBytes, HeldBytes, slot_at, name_words, run_start, lowest_from, searched, searched_within}
+use Rattle.store.specs.Promises.{SlotBytes, HeldBytes, slot_at, name_words, run_start, fingerprint_of, lowest_from, searched, searched_within}
 use Rattle.store.proofs.Pieces.{length_part}
-use Rattle.wire.proofs.Lists.{both_ways}
+use Rattle.wire.proofs.Lists.{both_ways, impossible}
 use Rattle.wire.proofs.ByteLaws.{bytes_append, bytes_padded, bytes_part, length_to_le, same_refl, same_true, to_le_from_le}
 use Rattle.store.proofs.ReadAt.{part_part}
 use Rattle.store.proofs.Encode.{decode_valid}
-use Rattle.store.proofs.Finding.{lowest_begin, lowest_end, lowest_hit, lowest_skip, Walk, walk_inside, walk_bytes, walk_means}
+use Rattle.store.proofs.Finding.{lowest_begin, lowest_end, lowest_hit, lowest_skip, Walk, within, walk_inside, walk_bytes, walk_means, Seek}
 use Rattle.store.proofs.Runs.{placed, compared_same, compared_most, same_word, length_placed, word_placed, same_names, run_compared_lem}
 use Rattle.store.proofs.SlotParts.{state_empty, state_held, holds_held, tests, key_padded, field_padded, key_are_bytes, key_length, field_length, field_are_bytes}
 
@@ -425,3 +426,50 @@ module _ {k f ws b : List ℕ} {n from i m : ℕ} {t : List ℕ} {w : ℕ} (s : 
 pub search_whole : (k f : List ℕ) (n : ℕ) (ss : List Slot) → n ≡ length ss → searched_within 0 n k f ss ≡ searched k f ss
 unfolding searched_within searched
 search_whole k f n ss e = rw (e, take-length ss) (λ j. record { found = (lowest_begin (holds k f) ss j); compared = compared k f ss })
+
+-- ---- slots with the field's fingerprint, one by one
+
+-- it is of the field's words
+pub fingerprint_named : (k f : List ℕ) {ws : List ℕ} → ws ≡ name_words k f → bit_xor (get_or ws 2 0) (get_or ws 3 0) ≡ fingerprint_of f
+unfolding name_words fingerprint_of
+fingerprint_named k f e = rw e
+
+module _ (k f : List ℕ) {b : List ℕ} {n i : ℕ} {o : Option ℕ} {r : Option ℕ} (s : Seek (holds k f) b n i o) (l : i < n)
+    (e : r ≡ (searched_within i (i + 1) k f (decode b).slots).found) where
+  abbrev ss : List Slot
+  ss = (decode b).slots
+
+  here : i < length ss
+  here = within s.walk l
+
+  one : length (take (i + 1) ss) ≡ i + 1
+  one = length-take-le (i + 1) ss (omega (arith, here))
+
+  only : get_or (take (i + 1) ss) i None ≡ get_or ss i None
+  only = get_or-take (i + 1) ss i None (omega arith)
+
+  -- the slot is the match, or it is not
+  hit : holds k f (get_or ss i None) ≡ true → r ≡ Some i
+  unfolding searched_within
+  hit h = e ∙ (lowest_hit (holds k f) (take (i + 1) ss) i (rw one (omega arith)) (rw only h))
+
+  miss : holds k f (get_or ss i None) ≡ false → r ≡ None
+  unfolding searched_within
+  miss h =
+      e
+      ∙ (lowest_skip (holds k f) (take (i + 1) ss) i (rw one (omega arith)) (rw only h)
+      ∙ lowest_end (holds k f) (take (i + 1) ss) (i + 1) (rw one (omega arith)))
+
+  pub candidate_found : {j : ℕ} → r ≡ Some j → Some j ≡ o
+  candidate_found {j} q = go (holds k f (get_or ss i None)) refl
+    where
+      go : (x : Bool) → holds k f (get_or ss i None) ≡ x → Some j ≡ o
+      go true h = sym q ∙ hit h ∙ (sym (lowest_hit (holds k f) ss i here h) ∙ s.rest)
+      go false h = let z : Some j ≡ None = sym q ∙ miss h in impossible cc
+
+  pub candidate_passed : r ≡ None → Seek (holds k f) b n (i + 1) o
+  candidate_passed q = go (holds k f (get_or ss i None)) refl
+    where
+      go : (x : Bool) → holds k f (get_or ss i None) ≡ x → Seek (holds k f) b n (i + 1) o
+      go true h = let z : Some i ≡ None = sym (hit h) ∙ q in impossible cc
+      go false h = record { walk = s.walk; rest = sym (lowest_skip (holds k f) ss i here h) ∙ s.rest }

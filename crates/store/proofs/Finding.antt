@@ -93,7 +93,7 @@ module _ (p : Slot → Bool) (b : List ℕ) (from i : ℕ) (z : p None ≡ false
         held = not_empty p (get_or (decode b).slots i None) z (rw e at h);
       }
 
-  pub found_held : Some i ≡ (lowest_from from p (decode b).slots) → Held b i
+  pub found_held : Some i ≡ lowest_from from p (decode b).slots → Held b i
   unfolding lowest_from
   found_held h = go (lowest_slot p (drop from (decode b).slots)) refl h
     where
@@ -101,7 +101,7 @@ module _ (p : Slot → Bool) (b : List ℕ) (from i : ℕ) (z : p None ≡ false
       go None q r = impossible cc
       go (Some j) q r = later_held j (cc) (lowest_some p (drop from (decode b).slots) j q)
 
-pub named_held : (p : Slot → Bool) (b : List ℕ) (i : ℕ) → p None ≡ false → well_formed b ≡ true → Some i ≡ (lowest_slot p (decode b).slots) → Held b i
+pub named_held : (p : Slot → Bool) (b : List ℕ) (i : ℕ) → p None ≡ false → well_formed b ≡ true → Some i ≡ lowest_slot p (decode b).slots → Held b i
 named_held p b i z w h = found_held p b 0 i z w (rw (lowest_begin p (decode b).slots) h)
 
 -- ---- a loop over the n slots of a well-formed store
@@ -184,7 +184,7 @@ seek_skips k f s e h = record { walk = s.walk; rest = sym (h.rest k f e) ∙ s.r
 
 -- slot i holds a name: no other does
 pub hint_finds : (k f : List ℕ) {b t : List ℕ} {n i : ℕ} {r : Bool} → Walk b n → i < n → t ≡ slot_at b i → r ≡ holds k f (decode_slot t) → r ≡ true
-    → Some i ≡ (lowest_slot (holds k f) (decode b).slots)
+    → Some i ≡ lowest_slot (holds k f) (decode b).slots
 hint_finds k f {b} {i = i} w l e q h = rw (lowest_only k f (decode b).slots i (decode_valid b w.well).apart (walk_test w l e (holds k f) q h))
 
 -- ---- counts

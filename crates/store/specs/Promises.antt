@@ -156,11 +156,11 @@ lowest_from i p ss = option_map (λ j. i + j) (lowest_slot p (drop i ss))
 
 -- "The search .. also hands back how many bytes it compared"
 unfoldable pub searched : List ℕ → List ℕ → List Slot → Searched
-searched k f ss = record { found = (lowest_slot (holds k f) ss); compared = compared k f ss }
+searched k f ss = record { found = lowest_slot (holds k f) ss; compared = compared k f ss }
 
 -- the same among the slots from i up to n
 unfoldable pub searched_within : ℕ → ℕ → List ℕ → List ℕ → List Slot → Searched
-searched_within i n k f ss = record { found = (lowest_from i (holds k f) (take n ss)); compared = compared k f (drop i (take n ss)) }
+searched_within i n k f ss = record { found = lowest_from i (holds k f) (take n ss); compared = compared k f (drop i (take n ss)) }
 
 -- from a slot to another, no slot holds a field of a fingerprint
 pub record Skips (fingerprint from : ℕ) (ss : List Slot) (r : ℕ) : Type 0 where

@@ -1,6 +1,5 @@
 // Changes of a well-formed store, each said by what the store then holds.
-ghost use Rattle.std.specs.Prelude.{◌≡◌, true, length, ◌≤◌, ◌<◌};
-ghost use Rattle.std.specs.Prelude.{None, Some};
+ghost use Rattle.std.specs.Prelude.{◌≡◌, true, length, ◌≤◌, ◌<◌, None, Some};
 ghost use Rattle.wire.specs.Bytes.{padded};
 ghost use Rattle.store.specs.Layout.{slot_size, time_limit, version_most};
 ghost use Rattle.store.specs.Store.{decode, well_formed, slot_count, encode_entry, state_of, instant_of, with_clock, entry, entry_at};

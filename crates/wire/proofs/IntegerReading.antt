@@ -84,13 +84,13 @@ read_end most n h = rw (le-leb n most h)
 -- ---- what is refused before the first digit
 
 -- An empty text is refused.
-pub read_empty : (most : ℕ) (s : List ℕ) → length s ≡ 0 → None ≡ (read_natural most s)
+pub read_empty : (most : ℕ) (s : List ℕ) → length s ≡ 0 → None ≡ read_natural most s
 unfolding read_natural read_integer read_plain or_else
 read_empty most [] e = refl
 read_empty most (c ∷ s) e = absurd (omega arith)
 
 -- A leading zero is refused.
-pub read_zero : (most : ℕ) (s : List ℕ) → get_or s 0 0 ≡ 48 → 1 < length s → None ≡ (read_natural most s)
+pub read_zero : (most : ℕ) (s : List ℕ) → get_or s 0 0 ≡ 48 → 1 < length s → None ≡ read_natural most s
 unfolding is_natural is_empty only_if
 read_zero most [] e l = absurd (omega arith)
 read_zero most (c ∷ []) e l = absurd (omega arith)
@@ -130,15 +130,15 @@ module _ {most : ℕ} {s : List ℕ} {n i : ℕ} (r : Reading most s n i) (l : i
       }
 
   -- Another byte is refused.
-  pub reading_other : is_digit (get_or s i 0) ≡ false → None ≡ (read_natural most s)
+  pub reading_other : is_digit (get_or s i 0) ≡ false → None ≡ read_natural most s
   reading_other h = rw (reading_next, read_other most n (get_or s i 0) (drop (suc i) s) h)
 
   -- A number above `most` is refused, whatever follows.
-  pub reading_above : most < n * 10 + (get_or s i 0 - 48) → None ≡ (read_natural most s)
+  pub reading_above : most < n * 10 + (get_or s i 0 - 48) → None ≡ read_natural most s
   reading_above h = rw (reading_next, read_above most n (get_or s i 0) (drop (suc i) s) h)
 
 -- After the last digit.
-pub reading_ends : {most : ℕ} {s : List ℕ} {n i : ℕ} → Reading most s n i → length s ≤ i → Some n ≡ (read_natural most s)
+pub reading_ends : {most : ℕ} {s : List ℕ} {n i : ℕ} → Reading most s n i → length s ≤ i → Some n ≡ read_natural most s
 reading_ends {most} {s} {n} {i} r l =
     let end : i ≡ length s = omega arith in
     rw (r.read, end, drop-length, read_end most n r.small)

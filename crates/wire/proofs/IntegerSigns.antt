@@ -130,7 +130,7 @@ unfolding read_integer read_plain or_else
 integer_empty [] e = refl
 integer_empty (c ∷ s) e = absurd (omega arith)
 
-module _ (s : List ℕ) {r : Option ℕ} (read : r ≡ (read_natural 0x7fff_ffff_ffff_ffff s)) (other : get_or s 0 0 ≢ 45) where
+module _ (s : List ℕ) {r : Option ℕ} (read : r ≡ read_natural 0x7fff_ffff_ffff_ffff s) (other : get_or s 0 0 ≢ 45) where
   -- With no minus, a number that was read is the integer.
   pub plain_value : (n : ℕ) → r ≡ Some n → Some (record { negative = false; magnitude = n }) ≡ option_map signed_for (read_integer lowest64 highest64 s)
   unfolding signed_for
@@ -144,7 +144,7 @@ after_minus : (s : List ℕ) → 0 < length s → get_or s 0 0 ≡ 45 → read_i
 after_minus [] l dash = absurd (omega arith)
 after_minus (c ∷ s) l dash = rw (take_all (suc (length s) - 1) s (omega arith), dash) (read_minus s)
 
-module _ (s : List ℕ) {r : Option ℕ} (read : r ≡ (read_natural 0x8000_0000_0000_0000 (take (length s - 1) (drop 1 s)))) (some_bytes : 0 < length s) (dash : get_or s 0 0 ≡ 45) where
+module _ (s : List ℕ) {r : Option ℕ} (read : r ≡ read_natural 0x8000_0000_0000_0000 (take (length s - 1) (drop 1 s))) (some_bytes : 0 < length s) (dash : get_or s 0 0 ≡ 45) where
   -- After a minus, a number that was read and is not 0 is the integer's magnitude.
   pub minus_value : (n : ℕ) → r ≡ Some n → n ≢ 0 → Some (record { negative = true; magnitude = n }) ≡ option_map signed_for (read_integer lowest64 highest64 s)
   unfolding signed_for or_else only_if minus

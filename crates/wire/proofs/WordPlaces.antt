@@ -170,7 +170,7 @@ module _ (s : List ℕ) (at mark most : ℕ) where
 
       -- its digits are no count, or they are
       pub counted_refused : same (part end 2 s) crlf ≡ true
-          → None ≡ (read_natural most (take (end - (at + 1)) (drop (at + 1) s)))
+          → None ≡ read_natural most (take (end - (at + 1)) (drop (at + 1) s))
           → None ≡ counted_for (length s) (read_count mark most (drop at s))
       unfolding counted_for
       counted_refused h r = rw (counted_is h) (go (read_natural most (take (end - (at + 1)) (drop (at + 1) s))) r)
@@ -181,7 +181,7 @@ module _ (s : List ℕ) (at mark most : ℕ) where
           go (Some n) r = impossible cc
 
       pub counted_value : (n : ℕ) → same (part end 2 s) crlf ≡ true
-          → Some n ≡ (read_natural most (take (end - (at + 1)) (drop (at + 1) s)))
+          → Some n ≡ read_natural most (take (end - (at + 1)) (drop (at + 1) s))
           → counted n (end + 2) ≡ counted_for (length s) (read_count mark most (drop at s))
       unfolding counted_for
       counted_value n h r = rw (counted_is h) (go (read_natural most (take (end - (at + 1)) (drop (at + 1) s))) r)
