@@ -26,7 +26,6 @@ use Rattle.commands.specs.declared.Sum.{Sum}
 use Rattle.commands.specs.declared.options.OptionFound.{OptionFound}
 use Rattle.commands.specs.declared.options.OptionFound.TheVariants as founds
 use Rattle.commands.specs.declared.options.ScannedOptions.{ScannedOptions}
-use Rattle.commands.specs.Refusal.{table}
 use Rattle.wire.specs.Checks.{Check, ◌when◌, first_applying}
 use Rattle.commands.specs.Command.{Deed, Command}
 use Rattle.commands.specs.Command.Deed.{assign, increment, expire, persist, renumber, ask}
@@ -66,9 +65,6 @@ refusal_number refusals.StoreFull = 24
 unfoldable pub by_number : {T : Type 0} → Result T Refusal → Result T ℕ
 by_number (Ok x) = Ok x
 by_number (Err r) = Err (refusal_number r)
-
-unfoldable pub is_refusal : ℕ → Bool
-is_refusal n = any (λ r. eqb r.number n) table
 
 -- ---- options that were given
 
