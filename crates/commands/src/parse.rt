@@ -8,8 +8,8 @@ ghost use Rattle.commands.specs.TablePromises.{command_of, unit_of, question_of,
 ghost use Rattle.commands.specs.ParsePromises.{Divided, parse_rest, meant};
 
 use crate::counts::{count_fits, too_long};
-use crate::operands::{Added, Terms, Versioned};
-use crate::options::{NOT_GIVEN, scan};
+use crate::options::scan;
+use crate::refusal::Refusal;
 use crate::table::{
     ARGUMENT_AT, ASK_FAMILY, CONDITION_GROUP, COUNT_FAMILY, DELETE_FAMILY, EXPIRE_FAMILY,
     EXPIRY_GROUP, FAMILY_AT, GET_MANY_FAMILY, INCREMENT_FAMILY, MAX_GROUP, MIN_GROUP, NO_EXP_GROUP,
@@ -22,114 +22,82 @@ use wire::integers::read_natural;
 use wire::words::word;
 
 // EXHSET from its options on: checks 15 to 18.
-fn parse_set(command: &[u8], places: &[[usize; 2]], time: u64) -> Parsed
+fn parse_set(command: &[u8], places: &[[usize; 2]], time: u64) -> Result<Parsed, Refusal>
     requires { (Inside command.now places.now) × (time < time_limit) }
     ensures { let ws = words_in command.now places.now in meant ws result ≡ parse_rest time P.Form.set_form ws }
 {
-    let given = scan(
+    let options = scan(
         command,
         places,
         4,
         &[EXPIRY_GROUP, CONDITION_GROUP, VERSION_GROUP],
-    );
-    if given.refusal != 0 {
-        return Parsed::Refused(given.refusal);
-    }
-    let read = operands::read_terms(command, places, given, time);
-    match read {
-        Terms::Value(version, until) => {
-            let condition = operands::condition(given.said[CONDITION_GROUP]);
-            Parsed::OnField(FieldDeed::Assign(condition, version, until))
-        }
-        Terms::Refused(n) => Parsed::Refused(n),
-    }
+    )?;
+    let terms = operands::read_terms(command, places, options, time)?;
+    let condition = operands::condition(options.given[CONDITION_GROUP]);
+    Ok(Parsed::OnField(FieldDeed::Assign(condition, terms)))
 }
 
 // EXHINCRBY from its options on.
-fn parse_increment(command: &[u8], places: &[[usize; 2]], time: u64) -> Parsed
+fn parse_increment(command: &[u8], places: &[[usize; 2]], time: u64) -> Result<Parsed, Refusal>
     requires { (Inside command.now places.now) × (time < time_limit) }
     ensures { let ws = words_in command.now places.now in meant ws result ≡ parse_rest time P.Form.increment_form ws }
 {
-    let given = scan(
+    let options = scan(
         command,
         places,
         4,
         &[EXPIRY_GROUP, VERSION_GROUP, MIN_GROUP, MAX_GROUP],
-    );
-    if given.refusal != 0 {
-        return Parsed::Refused(given.refusal);
-    }
-    let added = operands::sum(command, places, given);
-    let Added::Value(sum) = added else {
-        return Parsed::Refused(16);
-    };
-    let read = operands::read_terms(command, places, given, time);
-    match read {
-        Terms::Value(version, until) => Parsed::OnField(FieldDeed::Increment(sum, version, until)),
-        Terms::Refused(n) => Parsed::Refused(n),
-    }
+    )?;
+    let sum = operands::sum(command, places, options)?;
+    let terms = operands::read_terms(command, places, options, time)?;
+    Ok(Parsed::OnField(FieldDeed::Increment(sum, terms)))
 }
 
 // EXHEXPIRE, EXHEXPIREAT, EXHPEXPIRE and EXHPEXPIREAT from their options on, by their units.
-fn parse_expire(command: &[u8], places: &[[usize; 2]], unit: usize, time: u64) -> Parsed
+fn parse_expire(
+    command: &[u8],
+    places: &[[usize; 2]],
+    unit: usize,
+    time: u64,
+) -> Result<Parsed, Refusal>
     requires { (Inside command.now places.now) × (time < time_limit) }
     ensures { let ws = words_in command.now places.now in
         meant ws result ≡ parse_rest time (P.Form.expire_form (unit_of unit)) ws }
 {
-    let given = scan(command, places, 4, &[VERSION_GROUP]);
-    if given.refusal != 0 {
-        return Parsed::Refused(given.refusal);
-    }
-    let read = read_natural(word(command, places, 3), TIME_LIMIT);
-    let Some(n) = read else {
-        return Parsed::Refused(16);
-    };
-    let versioned = operands::versioning(
-        command,
-        places,
-        given.said[VERSION_GROUP],
-        given.operands[VERSION_GROUP],
-    );
-    let Versioned::Value(versioning) = versioned else {
-        return Parsed::Refused(16);
-    };
+    let options = scan(command, places, 4, &[VERSION_GROUP])?;
+    let n = read_natural(word(command, places, 3), TIME_LIMIT).ok_or(Refusal::NotInteger)?;
+    let versioning = operands::versioning(command, places, options.given[VERSION_GROUP])?;
     if operands::is_zero(versioning) {
-        return Parsed::Refused(17);
+        return Err(Refusal::InvalidVersion);
     }
     let instant = operands::instant(unit, n, time);
     if TIME_LIMIT < instant {
-        return Parsed::Refused(18);
+        return Err(Refusal::InvalidExpireTime);
     }
-    Parsed::OnField(FieldDeed::Expire(instant, versioning))
+    Ok(Parsed::OnField(FieldDeed::Expire(instant, versioning)))
 }
 
 // EXHSETVER from its number on.
-fn parse_renumber(command: &[u8], places: &[[usize; 2]]) -> Parsed
+fn parse_renumber(command: &[u8], places: &[[usize; 2]]) -> Result<Parsed, Refusal>
     requires { Inside command.now places.now }
     ensures { let ws = words_in command.now places.now in
         ((time : ℕ) → meant ws result ≡ parse_rest time P.Form.renumber_form ws) }
 {
-    let read = read_natural(word(command, places, 3), VERSION_MOST);
-    let Some(n) = read else {
-        return Parsed::Refused(16);
-    };
-    Parsed::OnField(FieldDeed::Renumber(n))
+    let n = read_natural(word(command, places, 3), VERSION_MOST).ok_or(Refusal::NotInteger)?;
+    Ok(Parsed::OnField(FieldDeed::Renumber(n)))
 }
 
 // EXHLEN from its options on.
-fn parse_count(command: &[u8], places: &[[usize; 2]]) -> Parsed
+fn parse_count(command: &[u8], places: &[[usize; 2]]) -> Result<Parsed, Refusal>
     requires { Inside command.now places.now }
     ensures { let ws = words_in command.now places.now in
         ((time : ℕ) → meant ws result ≡ parse_rest time P.Form.count_form ws) }
 {
-    let given = scan(command, places, 2, &[NO_EXP_GROUP]);
-    if given.refusal != 0 {
-        return Parsed::Refused(given.refusal);
+    let options = scan(command, places, 2, &[NO_EXP_GROUP])?;
+    if options.given[NO_EXP_GROUP].is_some() {
+        return Ok(Parsed::OnKey(KeyDeed::CountLive));
     }
-    if given.said[NO_EXP_GROUP] < NOT_GIVEN {
-        return Parsed::OnKey(KeyDeed::CountLive);
-    }
-    Parsed::OnKey(KeyDeed::CountHeld)
+    Ok(Parsed::OnKey(KeyDeed::CountHeld))
 }
 
 // A question by its number.
@@ -159,7 +127,12 @@ fn listing(n: usize) -> Listing
 }
 
 // A command of a row from its options on: checks 15 to 18.
-fn parse_row(command: &[u8], places: &[[usize; 2]], row: usize, time: u64) -> Parsed
+fn parse_row(
+    command: &[u8],
+    places: &[[usize; 2]],
+    row: usize,
+    time: u64,
+) -> Result<Parsed, Refusal>
     requires { (Inside command.now places.now) × (row < command_count) × (time < time_limit) }
     ensures { let ws = words_in command.now places.now in meant ws result ≡ parse_rest time (command_of row).form ws }
 {
@@ -167,39 +140,41 @@ fn parse_row(command: &[u8], places: &[[usize; 2]], row: usize, time: u64) -> Pa
     let argument = command_datum(row, ARGUMENT_AT);
     match family {
         SET_FAMILY => parse_set(command, places, time),
-        SET_MANY_FAMILY => Parsed::OnKey(KeyDeed::SetMany),
+        SET_MANY_FAMILY => Ok(Parsed::OnKey(KeyDeed::SetMany)),
         INCREMENT_FAMILY => parse_increment(command, places, time),
         EXPIRE_FAMILY => parse_expire(command, places, argument, time),
-        PERSIST_FAMILY => Parsed::OnField(FieldDeed::Persist),
+        PERSIST_FAMILY => Ok(Parsed::OnField(FieldDeed::Persist)),
         RENUMBER_FAMILY => parse_renumber(command, places),
-        ASK_FAMILY => Parsed::OnField(FieldDeed::Ask(question(argument))),
-        GET_MANY_FAMILY => Parsed::OnKey(KeyDeed::GetMany(question(argument))),
-        DELETE_FAMILY => Parsed::OnKey(KeyDeed::Delete),
+        ASK_FAMILY => Ok(Parsed::OnField(FieldDeed::Ask(question(argument)))),
+        GET_MANY_FAMILY => Ok(Parsed::OnKey(KeyDeed::GetMany(question(argument)))),
+        DELETE_FAMILY => Ok(Parsed::OnKey(KeyDeed::Delete)),
         COUNT_FAMILY => parse_count(command, places),
-        _ => Parsed::OnKey(KeyDeed::List(listing(argument))),
+        _ => Ok(Parsed::OnKey(KeyDeed::List(listing(argument)))),
     }
 }
 
 // What a command says, or the lowest of the refusals 10 to 18; no places at all are that its bytes are damaged.
-pub fn parse(command: &[u8], places: &[[usize; 2]], clock: u64, time: u64) -> Parsed
+pub fn parse(
+    command: &[u8],
+    places: &[[usize; 2]],
+    clock: u64,
+    time: u64,
+) -> Result<Parsed, Refusal>
     requires { (Divided command.now places.now) × (clock < time_limit → time < time_limit) }
     ensures { let ws = words_in command.now places.now in meant ws result ≡ P.parse time clock command.now }
 {
     if places.len() == 0 {
-        return Parsed::Refused(10);
+        return Err(Refusal::Protocol);
     }
     if TIME_LIMIT <= clock {
-        return Parsed::Refused(11);
+        return Err(Refusal::ClockOutOfRange);
     }
-    let found = command_named(word(command, places, 0));
-    let Some(row) = found else {
-        return Parsed::Refused(12);
-    };
+    let row = command_named(word(command, places, 0)).ok_or(Refusal::UnknownCommand)?;
     if !count_fits(row, places.len()) {
-        return Parsed::Refused(13);
+        return Err(Refusal::WrongArgumentCount);
     }
     if too_long(command, places, row) {
-        return Parsed::Refused(14);
+        return Err(Refusal::TooLong);
     }
     parse_row(command, places, row, time)
 }
