@@ -20,7 +20,7 @@ use crate::act::{look, slot_for};
 use crate::answer::put_answer;
 use crate::refusal::put_error;
 use crate::versions::{is_barred, is_stale, next_expiry, next_version, setter_version};
-use crate::{FieldDeed, Question, Sight, Stamping, Sum, Versioning};
+use crate::{FieldDeed, MINUS_ONE, ONE, Question, Sight, Stamping, Sum, Versioning, ZERO};
 use store::layout::VERSION_MOST;
 use store::{change, read};
 use wire::integers::{Signed, add, at_most, read_integer, write_integer};
@@ -46,10 +46,7 @@ pub fn held_version(bytes: &[u8], found: Option<usize>) -> u64
     requires { HeldAt bytes.now found }
     ensures { result ≡ held_version (entry_for (decode bytes.now).slots found) }
 {
-    match found {
-        Some(i) => read::version(bytes, i),
-        None => 0,
-    }
+    found.map_or(0, |i| read::version(bytes, i))
 }
 
 // The expiry of a field, none where it is missing.
@@ -57,10 +54,7 @@ fn held_expiry(bytes: &[u8], found: Option<usize>) -> Option<u64>
     requires { HeldAt bytes.now found }
     ensures { result ≡ held_expiry (entry_for (decode bytes.now).slots found) }
 {
-    match found {
-        Some(i) => read::expiry(bytes, i),
-        None => None,
-    }
+    found.and_then(|i| read::expiry(bytes, i))
 }
 
 // Whether what is said of a field's version is stale; of a missing field nothing is.
@@ -68,10 +62,7 @@ fn is_stale_at(bytes: &[u8], found: Option<usize>, versioning: Versioning) -> bo
     requires { HeldAt bytes.now found }
     ensures { result ≡ is_stale versioning (entry_for (decode bytes.now).slots found) }
 {
-    match found {
-        Some(i) => is_stale(versioning, read::version(bytes, i)),
-        None => false,
-    }
+    found.is_some_and(|i| is_stale(versioning, read::version(bytes, i)))
 }
 
 // Writes a field's entry, unless its version passes the largest or the store is full.
@@ -117,18 +108,13 @@ fn write_settled(wrote: WriteOutcome, z: Signed) -> Settled
 }
 
 // How many fields a write adds, by what was found: 1 or 0.
+#[tactic(auto, unfolding(crate::specs::Promises::fields_added))]
 fn fields_added(found: Option<usize>) -> Signed
     ensures { result ≡ fields_added found }
 {
     match found {
-        Some(_) => Signed {
-            negative: false,
-            magnitude: 0,
-        },
-        None => Signed {
-            negative: false,
-            magnitude: 1,
-        },
+        Some(_) => ZERO,
+        None => ONE,
     }
 }
 
@@ -162,13 +148,7 @@ fn stored(bytes: &[u8], found: Option<usize>) -> Option<Signed>
     requires { HeldAt bytes.now found }
     ensures { result ≡ option_map signed_for (counted (entry_for (decode bytes.now).slots found)) }
 {
-    match found {
-        Some(i) => read_integer(read::value(bytes, i)),
-        None => Some(Signed {
-            negative: false,
-            magnitude: 0,
-        }),
-    }
+    found.map_or(Some(ZERO), |i| read_integer(read::value(bytes, i)))
 }
 
 // The sum of an integer and an amount, refused outside signed 64 bits and outside its bounds.
@@ -253,10 +233,7 @@ fn stamp(bytes: &mut [u8], i: usize, version: u64, expiry: Option<u64>) -> Settl
         return Settled::Refused(23);
     }
     change::restamp(bytes, i, version, expiry);
-    Settled::Replied(Signed {
-        negative: false,
-        magnitude: 1,
-    })
+    Settled::Replied(ONE)
 }
 
 // EXHEXPIRE, EXHPEXPIRE, EXHEXPIREAT and EXHPEXPIREAT.
@@ -267,10 +244,7 @@ fn expire(bytes: &mut [u8], found: Option<usize>, instant: u64, versioning: Vers
         ((time : ℕ) → Changes time e b bytes.new result) }
 {
     let Some(i) = found else {
-        return Settled::Replied(Signed {
-            negative: false,
-            magnitude: 0,
-        });
+        return Settled::Replied(ZERO);
     };
     let held = read::version(bytes, i);
     if is_stale(versioning, held) {
@@ -288,17 +262,11 @@ fn persist(bytes: &mut [u8], found: Option<usize>) -> Settled
         ((time : ℕ) → Changes time e b bytes.new result) }
 {
     let Some(i) = found else {
-        return Settled::Replied(Signed {
-            negative: false,
-            magnitude: 0,
-        });
+        return Settled::Replied(ZERO);
     };
     let until = read::expiry(bytes, i);
     let Some(_) = until else {
-        return Settled::Replied(Signed {
-            negative: false,
-            magnitude: 0,
-        });
+        return Settled::Replied(ZERO);
     };
     stamp(bytes, i, read::version(bytes, i), None)
 }
@@ -311,10 +279,7 @@ fn renumber(bytes: &mut [u8], found: Option<usize>, version: u64) -> Settled
         ((time : ℕ) → Changes time e b bytes.new result) }
 {
     let Some(i) = found else {
-        return Settled::Replied(Signed {
-            negative: false,
-            magnitude: 0,
-        });
+        return Settled::Replied(ZERO);
     };
     stamp(bytes, i, version, read::expiry(bytes, i))
 }
@@ -340,10 +305,7 @@ fn settle_deed(
     match deed {
         FieldDeed::Assign(condition, versioning, lifetime) => {
             if is_barred(condition, found) {
-                return Settled::Replied(Signed {
-                    negative: true,
-                    magnitude: 1,
-                });
+                return Settled::Replied(MINUS_ONE);
             }
             let stamping = Stamping {
                 versioning,
