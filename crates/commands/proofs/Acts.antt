@@ -1,5 +1,5 @@
 -- What the acts on a store leave in it: the sweep of one name, the slot for an entry, the entry put there.
-use Rattle.std.specs.Prelude.{Option, None, Some}
+use Rattle.std.specs.Prelude.{MatchOption, Option, None, Some}
 use mathlib.Core.Path.{◌≡◌, refl, sym, ap, ◌∙◌}
 use mathlib.Core.Bool.{Bool, true, false, cond, and-false, or-false}
 use mathlib.Core.List.{List, [], ◌∷◌}
@@ -142,23 +142,14 @@ module _ (b : List ℕ) (w : well_formed b ≡ true) (k f : List ℕ) where
 
 -- ---- the slot for an entry
 
-module _ (time : ℕ) (ss : List Slot) {own : Option ℕ} where
-  -- its own
-  pub after_own : {i : ℕ} → own ≡ Some i → Some i ≡ slot_after time own ss
-  unfolding slot_after
-  after_own h = rw h refl
-
-  module _ (h : own ≡ None) where
-    -- an empty one
-    pub after_empty : (i : ℕ) → Some i ≡ (lowest_slot empty_slot ss) → Some i ≡ slot_after time own ss
-    unfolding slot_after or_else
-    after_empty i e = rw (h, found_at (lowest_slot empty_slot ss) i e) refl
-
-    -- a dead one, or none
-    pub after_dead : {r : Option ℕ} → None ≡ (lowest_slot empty_slot ss) → r ≡ (lowest_slot (dead_slot time) ss)
-        → r ≡ slot_after time own ss
-    unfolding slot_after or_else
-    after_dead e d = rw (h, found_nothing (lowest_slot empty_slot ss) e) d
+-- its own, else an empty one, else a dead one, or none
+pub slot_chosen : (time : ℕ) (ss : List Slot) (own first : Option ℕ) {r : Option ℕ}
+    → MatchOption own (first ≡ lowest_slot empty_slot ss) (λ i. first ≡ Some i)
+    → MatchOption first (r ≡ lowest_slot (dead_slot time) ss) (λ i. r ≡ Some i) → r ≡ slot_after time own ss
+unfolding slot_after or_else
+slot_chosen time ss (Some i) first h d = rw h at d
+slot_chosen time ss None (Some j) h d = rw (← h) d
+slot_chosen time ss None None h d = rw (← h) d
 
 -- After a look for a key and a field it is the slot for their entry.
 pub after_look : (time : ℕ) (b k f : List ℕ) {own r : Option ℕ} → Looked b k f own → r ≡ slot_after time own (decode b).slots

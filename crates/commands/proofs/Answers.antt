@@ -2,10 +2,10 @@
 use Rattle.std.specs.Prelude.{Option, None, Some}
 use mathlib.Core.Path.{◌≡◌, refl, sym, ap, subst, ◌∙◌}
 use mathlib.Core.Bool.{Bool, true, false}
+use mathlib.Core.Logic.{◌⊎◌, inl, inr}
 use mathlib.Core.List.{List, [], ◌∷◌, ◌++◌, flatten, append_assoc, append-nil}
 use Prim.Native.Nat.{ℕ, ◌-◌, ◌/◌, ◌≤◌}
 use native.Mathlib.Omega.{arith}
-use native.Mathlib.Nat.{zero-div}
 use lib.ListN.{length}
 use Rattle.wire.specs.Lists.{or_else}
 use Rattle.wire.specs.Replies.{nil, integer, number, bulk, header, array}
@@ -33,17 +33,10 @@ pub left_never : (now unit : ℕ) {x : Option ℕ} → x ≡ None → record { n
 unfolding time_left_of time_left signed_for
 left_never now unit h = rw h refl
 
--- What is left up to a later instant
-pub left_later : (now unit : ℕ) {x : Option ℕ} {t : ℕ} → x ≡ Some t → record { negative = false; magnitude = (t - now) / unit } ≡ time_left_of now unit x
+-- What is left up to an instant, nothing of one that is over.
+pub left_until : (now unit : ℕ) {x : Option ℕ} {t : ℕ} → x ≡ Some t → record { negative = false; magnitude = (t - now) / unit } ≡ time_left_of now unit x
 unfolding time_left_of time_left signed_for
-left_later now unit h = rw h refl
-
--- and of an instant that is over.
-pub left_over : (now unit : ℕ) {x : Option ℕ} {t : ℕ} → x ≡ Some t → t ≤ now → record { negative = false; magnitude = 0 } ≡ time_left_of now unit x
-unfolding time_left_of time_left signed_for
-left_over now unit {t = t} h l =
-    let none_left : t - now ≡ 0 = omega arith in
-    rw (h, none_left, zero-div unit) refl
+left_until now unit h = rw h refl
 
 -- A missing field of a key that exists, and of one that does not.
 pub version_missing : (now : ℕ) (k : List ℕ) (ss : List Slot) {r : Bool} → r ≡ key_exists now k ss → r ≡ true
@@ -123,33 +116,24 @@ pair_room {b} {i = i} h l g f = found_room 0 Versioned h l (versioned_reply 0 (e
 -- ---- the reply where the field is missing
 
 module _ (time : ℕ) (ss : List Slot) (k : List ℕ) {q : Question} where
-  pub no_value : q ≡ Value → reply time ss k q None ≡ nil
+  pub no_value : (q ≡ Value) ⊎ (q ≡ Versioned) → reply time ss k q None ≡ nil
   unfolding reply or_else
-  no_value h = rw h refl
+  no_value (inl h) = rw h refl
+  no_value (inr h) = rw h refl
 
-  pub no_versioned : q ≡ Versioned → reply time ss k q None ≡ nil
+  pub no_length : (q ≡ Length) ⊎ (q ≡ Exists) → reply time ss k q None ≡ number 0
   unfolding reply or_else
-  no_versioned h = rw h refl
-
-  pub no_length : q ≡ Length → reply time ss k q None ≡ number 0
-  unfolding reply or_else
-  no_length h = rw h refl
-
-  pub no_exists : q ≡ Exists → reply time ss k q None ≡ number 0
-  unfolding reply or_else
-  no_exists h = rw h refl
+  no_length (inl h) = rw h refl
+  no_length (inr h) = rw h refl
 
   pub no_version : {s : Signed} → q ≡ Version → s ≡ no_version_of time k ss → reply time ss k q None ≡ integer (integer_of s)
   unfolding reply or_else no_version_of
   no_version h g = rw (h, g, sign_said) refl
 
-  pub no_seconds : q ≡ Seconds → reply time ss k q None ≡ integer (integer_of (record { negative = true; magnitude = 2 }))
+  pub no_time : (q ≡ Seconds) ⊎ (q ≡ Milliseconds) → reply time ss k q None ≡ integer (integer_of (record { negative = true; magnitude = 2 }))
   unfolding reply or_else integer_of
-  no_seconds h = rw h refl
-
-  pub no_milliseconds : q ≡ Milliseconds → reply time ss k q None ≡ integer (integer_of (record { negative = true; magnitude = 2 }))
-  unfolding reply or_else integer_of
-  no_milliseconds h = rw h refl
+  no_time (inl h) = rw h refl
+  no_time (inr h) = rw h refl
 
 -- ---- the entry that was looked for
 

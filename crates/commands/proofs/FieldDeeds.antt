@@ -1,5 +1,5 @@
 -- What is done with one field that was looked for: each way in which its code goes, and the effect that it has.
-use Rattle.std.specs.Prelude.{Option, None, Some, option_map, Result, Ok, Err, ⊤}
+use Rattle.std.specs.Prelude.{Option, None, Some, option_map, Result, Ok, Err, ⊤, MatchOption}
 use mathlib.Core.Path.{◌≡◌, refl, sym, ap, ◌∙◌}
 use mathlib.Core.Bool.{Bool, true, false, not, ◌&&◌, and-false}
 use mathlib.Core.List.{List, []}
@@ -11,7 +11,7 @@ use lib.ListN.{length, take, get_or}
 use borrow.Author.Tests.{not-true, not-false}
 use Rattle.wire.specs.Lists.{only_if, or_else}
 use Rattle.wire.specs.Bytes.{Bytes}
-use Rattle.wire.specs.Integers.{read_integer, lowest64, highest64, within, integer_text}
+use Rattle.wire.specs.Integers.{lowest64, highest64, within, integer_text}
 use Rattle.wire.specs.Replies.{integer, number}
 use Rattle.wire.specs.declared.integers.Signed.{Signed}
 use Rattle.wire.specs.Promises.{signed_for, integer_of, Laid}
@@ -100,14 +100,11 @@ module _ {b : List ℕ} {found : Option ℕ} (h : HeldAt b found) where
       go (Some e) x = x.version
 
 -- What is read of a slot that was found is said of its entry, and what is said of a missing one.
-module _ (ss : List Slot) {found : Option ℕ} where
-  pub entry_found : {A : Type 0} (say : Option Entry → A) {i : ℕ} {x : A} → found ≡ Some i → x ≡ say (Some (entry_at ss i)) → x ≡ say (entry_for ss found)
-  unfolding entry_for
-  entry_found say h q = rw h q
-
-  pub entry_none : {A : Type 0} (say : Option Entry → A) {x : A} → found ≡ None → x ≡ say None → x ≡ say (entry_for ss found)
-  unfolding entry_for
-  entry_none say h q = rw h q
+pub said_of : {A : Type 0} (ss : List Slot) (say : Option Entry → A) (found : Option ℕ) {x : A}
+    → MatchOption found (x ≡ say None) (λ i. x ≡ say (Some (entry_at ss i))) → x ≡ say (entry_for ss found)
+unfolding entry_for
+said_of ss say None h = h
+said_of ss say (Some i) h = h
 
 -- ---- an entry written
 
@@ -338,17 +335,6 @@ only_none : (t : Bool) (z : ℤ) → only_if t z ≡ None → t ≡ false
 unfolding only_if
 only_none true z h = impossible cc
 only_none false z h = refl
-
--- The integer of a field
-module _ (ss : List Slot) {found : Option ℕ} where
-  pub stored_found : {i : ℕ} {v : List ℕ} {r : Option Signed} → found ≡ Some i → v ≡ (entry_at ss i).value → r ≡ option_map signed_for (read_integer lowest64 highest64 v)
-      → r ≡ option_map signed_for (counted (entry_for ss found))
-  unfolding counted entry_for or_else
-  stored_found h q e = rw (h, ← q) e
-
-  pub stored_none : found ≡ None → Some (record { negative = false; magnitude = 0 }) ≡ option_map signed_for (counted (entry_for ss found))
-  unfolding counted entry_for or_else signed_for
-  stored_none h = rw h refl
 
 -- A sum and its bounds
 module _ (start : ℤ) (sum : Sum) where

@@ -2,11 +2,11 @@
 use mathlib.Core.Path.{◌≡◌, refl, sym, ap, ◌∙◌}
 use mathlib.Core.Bool.{true}
 use mathlib.Core.List.{List, [], ◌∷◌, ◌++◌, map, flatten}
-use Prim.Native.Nat.{ℕ, zero, suc, ◌+◌, ◌-◌, ◌*◌, ◌≤◌, ◌<◌}
+use Prim.Native.Nat.{ℕ, zero, suc, ◌+◌, ◌-◌, ◌*◌, ◌/◌, ◌≤◌, ◌<◌}
 use native.Mathlib.Numerals.{add-one}
 use native.Mathlib.Omega.{arith}
 use lib.ListN.{length, take, drop, length-map, length-drop, drop_of_length-le}
-use lib.Seq.{drop-cons, take_all, get_or-drop}
+use lib.Seq.{drop-cons, take_all, get_or-drop, drop-drop}
 use Rattle.wire.specs.Lists.{keep, or_else}
 use Rattle.wire.specs.Words.{Word, word_at}
 use Rattle.wire.specs.Replies.{header, array}
@@ -25,11 +25,12 @@ use Rattle.commands.specs.declared.Listing.{Listing}
 use Rattle.commands.specs.declared.Listing.TheVariants.{Fields, Values, Both}
 use Rattle.commands.specs.Refusal.{buffer_least}
 use Rattle.commands.specs.Command.{fields_of}
+use Rattle.commands.specs.Parse.{pairs_of}
 use Rattle.commands.specs.Command.Command.{get_many, list}
 use Rattle.commands.specs.Effect.{change_all, effect}
 use Rattle.commands.specs.Effect.Change.{remove}
 use Rattle.commands.specs.Execute.{swept}
-use Rattle.commands.specs.Promises.{answer_most, answer_about, answers_of, fields_most, listed_of, width_of, Removes, Deletes}
+use Rattle.commands.specs.Promises.{answer_most, answer_about, answers_of, fields_most, listed_of, width_of, Removes, Deletes, firsts, each_first, fields_in}
 use Rattle.commands.proofs.Fit.{effect_short, elements_most}
 use Rattle.wire.proofs.Elements.{Next}
 use Rattle.commands.proofs.ListedSlots.{shown_count}
@@ -82,6 +83,45 @@ module _ (s : List ℕ) (places : List (List ℕ)) (i : ℕ) where
   pub length_from : length (words_from s places i) ≡ length places - i
   unfolding words_from
   length_from = rw (length-drop, length_words)
+
+-- ---- each first of so many words
+
+module _ (step : ℕ) (s : List ℕ) (places : List (List ℕ)) where
+  -- those from number i on
+  unfoldable pub firsts_from : ℕ → List Word
+  firsts_from i = firsts step (length places / step - i) (drop (step * i) (words_in s places))
+
+  pub all_firsts : firsts_from 0 ≡ each_first step (words_in s places)
+  unfolding firsts_from each_first
+  all_firsts =
+      let z : step * 0 ≡ 0 = omega arith in
+      let n : length places / step - 0 ≡ length places / step = omega arith in
+      rw (length_words s places, z, n) refl
+
+  pub next_first : (i : ℕ) → i < length places / step → {f : Word} → f ≡ word_at (step * i) (words_in s places)
+      → firsts_from i ≡ f ∷ firsts_from (i + 1)
+  unfolding firsts_from firsts word_at
+  next_first i l q =
+      let n : length places / step - i ≡ suc (length places / step - (i + 1)) = omega arith in
+      let m : step * i + step ≡ step * (i + 1) = omega arith in
+      let z : step * i + 0 ≡ step * i = omega arith in
+      rw (n, q, get_or-drop (step * i) (words_in s places) 0 [], drop-drop step (step * i) (words_in s places), m, z) refl
+
+  pub no_first : (i : ℕ) → length places / step ≤ i → firsts_from i ≡ []
+  unfolding firsts_from firsts
+  no_first i l = let n : length places / step - i ≡ 0 = omega arith in rw n
+
+-- one by one they are all, two by two the fields of pairs
+pub each_word : (ws : List Word) → each_first 1 ws ≡ ws
+unfolding each_first firsts word_at
+each_word [] = refl
+each_word (w ∷ ws) = let n : length (w ∷ ws) / 1 ≡ suc (length ws / 1) = omega arith in rw n (ap (λ (z : List Word). w ∷ z) (each_word ws))
+
+pub each_field : (ws : List Word) → each_first 2 ws ≡ fields_in ws
+unfolding each_first firsts word_at fields_in pairs_of
+each_field [] = refl
+each_field (w ∷ []) = refl
+each_field (w ∷ v ∷ ws) = let n : length (w ∷ v ∷ ws) / 2 ≡ suc (length ws / 2) = omega arith in rw n (ap (λ (z : List Word). w ∷ z) (each_field ws))
 
 -- ---- the dead entries are removed
 

@@ -8,7 +8,7 @@ use native.Mathlib.Nat.{suc-mul, add_comm}
 use native.Mathlib.Omega.{arith}
 use borrow.Author.Tests.{eqb-true, eqb-false}
 use lib.Dec.{eqb}
-use lib.ListN.{length, drop, get_or, set, length-append, length-set, drop_of_length-le}
+use lib.ListN.{length, drop, get_or, set, length-append, length-set}
 use lib.Seq.{drop-drop, get_or-drop, ext_get_or}
 use Rattle.wire.specs.Lists.{keep, or_else}
 use Rattle.wire.specs.Bytes.{same}
@@ -126,9 +126,9 @@ pub record NextLive (now : ℕ) (b : List ℕ) (k : Word) (from i : ℕ) : Type 
   pub well : well_formed b ≡ true
   pub found : Some i ≡ (lowest_from from (live_of_key now k) (decode b).slots)
 
-pub live_next : {now : ℕ} {b : List ℕ} {k : Word} {from i : ℕ} {r : Option ℕ} → well_formed b ≡ true → r ≡ Some i
-    → r ≡ (lowest_from from (live_of_key now k) (decode b).slots) → NextLive now b k from i
-live_next w q h = record { well = w; found = sym q ∙ h }
+pub next_live : {now : ℕ} {b : List ℕ} {k : Word} {from i : ℕ} → well_formed b ≡ true → Some i ≡ (lowest_from from (live_of_key now k) (decode b).slots)
+    → NextLive now b k from i
+next_live w h = record { well = w; found = h }
 
 module _ {now : ℕ} {b : List ℕ} {k : Word} {from i : ℕ} (n : NextLive now b k from i) where
   pub live_held : Held b i
@@ -138,8 +138,8 @@ module _ {now : ℕ} {b : List ℕ} {k : Word} {from i : ℕ} (n : NextLive now 
   pub live_few : i < slots_most
   live_few = omega (arith, live_held.inside, length_decode b, (decode_valid b n.well).most)
 
-  pub live_later : from ≤ i
-  live_later = (keep_from (live_of_key now k) (decode b).slots from i n.found).0
+  pub live_later : (from ≤ i) × (i < length (decode b).slots)
+  live_later = ((keep_from (live_of_key now k) (decode b).slots from i n.found).0, omega (arith, live_held.inside, length_decode b))
 
   -- it is shown, and then what is left after it
   pub shown_next : (l : Listing) → Next (shown_from now b k l from) (flatten (listed l (entry_at (decode b).slots i))) (shown_from now b k l (i + 1))
@@ -152,14 +152,9 @@ module _ {now : ℕ} {b : List ℕ} {k : Word} {from i : ℕ} (n : NextLive now 
 
 module _ (now : ℕ) (b : List ℕ) (k : Word) (l : Listing) (from : ℕ) where
   -- there is none
-  pub shown_end : {r : Option ℕ} → r ≡ None → r ≡ (lowest_from from (live_of_key now k) (decode b).slots)
-      → shown_from now b k l from ≡ []
+  pub shown_end : None ≡ (lowest_from from (live_of_key now k) (decode b).slots) → shown_from now b k l from ≡ []
   unfolding shown_from flat_map flatten
-  shown_end q h = rw (keep_over (live_of_key now k) (decode b).slots from (sym q ∙ h))
-
-  pub shown_over : length (decode b).slots ≤ from → shown_from now b k l from ≡ []
-  unfolding shown_from keep flat_map flatten
-  shown_over h = rw (drop_of_length-le (decode b).slots {i = from} h)
+  shown_end h = rw (keep_over (live_of_key now k) (decode b).slots from h)
 
 width_entry : (l : Listing) (e : Entry) → length (listed l e) ≡ width_of l
 unfolding listed width_of

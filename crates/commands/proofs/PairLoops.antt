@@ -3,7 +3,7 @@ use Rattle.std.specs.Prelude.{Option, None, Some, is_some, Ok, Err}
 use mathlib.Core.Path.{◌≡◌, refl, sym, ap, subst, ◌∙◌}
 use mathlib.Core.Bool.{Bool, true, false, cond, not, ◌||◌}
 use mathlib.Core.List.{List, [], ◌∷◌, map}
-use Prim.Native.Nat.{ℕ, suc, ◌+◌, ◌-◌, ◌≤◌, ◌<◌}
+use Prim.Native.Nat.{ℕ, suc, ◌+◌, ◌-◌, ◌*◌, ◌/◌, ◌≤◌, ◌<◌}
 use native.Mathlib.Omega.{arith}
 use borrow.Author.Tests.{ltb-false, lt-ltb, le-ltb, ne_eqb}
 use lib.Dec.{ltb, eqb}
@@ -12,7 +12,7 @@ use Rattle.wire.specs.Lists.{any, keep}
 use Rattle.wire.specs.Bytes.{same}
 use Rattle.wire.specs.Words.{Word, words_most, word_at}
 use Rattle.wire.specs.Promises.{words_in, Inside}
-use Rattle.wire.proofs.Lists.{or_left, or_right, or_neither, length_keep}
+use Rattle.wire.proofs.Lists.{impossible, or_left, or_right, or_neither, length_keep}
 use Rattle.store.specs.Layout.{key_most, field_most, value_most, version_most}
 use Rattle.store.specs.Store.{Entry, entry, Slot, Store, decode, holds, well_formed}
 use Rattle.store.specs.Time.{lowest_slot, put}
@@ -35,12 +35,12 @@ use Rattle.commands.proofs.PairOverflow.{next_is}
 
 -- ---- the next pair
 
--- the pairs from place i on, and their fields
+-- the pairs from pair i on, and their fields
 unfoldable pub pairs_from : List ℕ → List (List ℕ) → ℕ → List Pair
-pairs_from s places i = pairs_of (words_from s places i)
+pairs_from s places i = pairs_of (words_from s places (2 * i))
 
 unfoldable pub named_from : List ℕ → List (List ℕ) → ℕ → List Word
-named_from s places i = fields_in (words_from s places i)
+named_from s places i = fields_in (words_from s places (2 * i))
 
 pairs_none : (ws : List Word) → length ws ≤ 1 → pairs_of ws ≡ []
 unfolding pairs_of
@@ -49,23 +49,23 @@ pairs_none (w ∷ []) l = refl
 pairs_none (w ∷ v ∷ ws) l = absurd (let z : ⊥ = omega arith in z)
 
 module _ (s : List ℕ) (places : List (List ℕ)) (i : ℕ) where
-  pub next_pair : i + 1 < length places → {f v : Word} → f ≡ word_at i (words_in s places) → v ≡ word_at (i + 1) (words_in s places)
-      → pairs_from s places i ≡ record { field = f; value = v } ∷ pairs_from s places (i + 2)
+  pub next_pair : i < length places / 2 → {f v : Word} → f ≡ word_at (2 * i) (words_in s places) → v ≡ word_at (2 * i + 1) (words_in s places)
+      → pairs_from s places i ≡ record { field = f; value = v } ∷ pairs_from s places (i + 1)
   unfolding pairs_from pairs_of
   next_pair l p q =
-      let two : i + 1 + 1 ≡ i + 2 = omega arith in
-      rw (next_word s places i (omega arith) p, next_word s places (i + 1) l q, two)
+      let two : 2 * i + 1 + 1 ≡ 2 * (i + 1) = omega arith in
+      rw (next_word s places (2 * i) (omega arith) p, next_word s places (2 * i + 1) (omega arith) q, two)
 
-  pub no_pair : length places ≤ i + 1 → pairs_from s places i ≡ []
+  pub no_pair : length places / 2 ≤ i → pairs_from s places i ≡ []
   unfolding pairs_from
-  no_pair l = pairs_none (words_from s places i) (rw (length_from s places i) (omega arith))
+  no_pair l = pairs_none (words_from s places (2 * i)) (rw (length_from s places (2 * i)) (omega arith))
 
   -- and its field
-  pub next_named : i + 1 < length places → {f : Word} → f ≡ word_at i (words_in s places) → named_from s places i ≡ f ∷ named_from s places (i + 2)
+  pub next_named : i < length places / 2 → {f : Word} → f ≡ word_at (2 * i) (words_in s places) → named_from s places i ≡ f ∷ named_from s places (i + 1)
   unfolding pairs_from named_from fields_in
   next_named l p = ap (map (λ x. x.field)) (next_pair l p refl)
 
-  pub none_named_lem : length places ≤ i + 1 → named_from s places i ≡ []
+  pub none_named_lem : length places / 2 ≤ i → named_from s places i ≡ []
   unfolding pairs_from named_from fields_in
   none_named_lem l = ap (map (λ x. x.field)) (no_pair l)
 
@@ -73,8 +73,8 @@ module _ (s : List ℕ) (places : List (List ℕ)) (i : ℕ) where
   pub few_named : Inside s places → length (named_from s places i) ≤ words_most
   unfolding named_from fields_in
   few_named w =
-      rw (length-map (pairs_of (words_from s places i)) (λ x. x.field))
-      (omega (arith, pair_count (words_from s places i), length_from s places i, w.most))
+      rw (length-map (pairs_of (words_from s places (2 * i))) (λ x. x.field))
+      (omega (arith, pair_count (words_from s places (2 * i)), length_from s places (2 * i), w.most))
 
 pub few_fields : (s : List ℕ) (places : List (List ℕ)) → Inside s places → length (fields_in (words_in s places)) ≤ words_most
 unfolding named_from words_from
@@ -117,15 +117,15 @@ module _ {f : Word} {fields rest : List Word} {n : ℕ} (r : Repeating f fields 
     pub repeating_skip : t ≡ false → Repeating f fields more n
     repeating_skip h = record { sum = omega (arith, r.sum, ap (times_in f) q, times_skip f g more (sym e ∙ h)) }
 
--- the field of word i comes again so often
-module _ (s : List ℕ) (places : List (List ℕ)) (i : ℕ) {f : Word} {r : ℕ} (q : f ≡ word_at i (words_in s places))
-    (e : r ≡ times_in (word_at i (words_in s places)) (fields_in (drop (i + 2) (words_in s places)))) where
-  pub again_is : r ≡ times_in f (named_from s places (i + 2))
+-- the field of pair i comes again so often
+module _ (s : List ℕ) (places : List (List ℕ)) (i : ℕ) {f : Word} {r : ℕ} (q : f ≡ word_at (2 * i) (words_in s places))
+    (e : r ≡ times_in (word_at (2 * i) (words_in s places)) (fields_in (drop (2 * (i + 1)) (words_in s places)))) where
+  pub again_is : r ≡ times_in f (named_from s places (i + 1))
   unfolding named_from words_from
   again_is = rw q e
 
   pub again_few : Inside s places → r ≤ words_most
-  again_few w = omega (arith, again_is, few_times f (named_from s places (i + 2)), few_named s places (i + 2) w)
+  again_few w = omega (arith, again_is, few_times f (named_from s places (i + 1)), few_named s places (i + 1) w)
 
 -- ---- what these times tell
 
@@ -134,22 +134,26 @@ pub telling_all : {found : Option ℕ} {held times n : ℕ} → n ≡ times → 
 telling_all e = record { most = omega arith; passes = rw e; added = rw e }
 
 -- of a field that is held, with a version far from the largest, 0 tells as much
-pub telling_none : {found : Option ℕ} {held times j : ℕ} → found ≡ Some j → held < version_most - words_most → times ≤ words_most → Telling found held times 0
+pub telling_none : {found : Option ℕ} {held times : ℕ} → is_some found ≡ true → held < version_most - words_most → times ≤ words_most → Telling found held times 0
 unfolding new_field
 telling_none {found} {held} {times} e l m =
     record {
       most = omega arith;
       passes = le-ltb version_most (held + (0 + 1)) (omega arith) ∙ sym (le-ltb version_most (held + (times + 1)) (omega arith));
-      added = rw e;
+      added = go found e;
     }
+  where
+    go : (o : Option ℕ) → is_some o ≡ true → new_field o 0 ≡ new_field o times
+    go (Some i) q = refl
+    go None q = impossible cc
 
 module _ (s : List ℕ) (places : List (List ℕ)) (i : ℕ) where
-  pub times_few : Inside s places → times_in (word_at i (words_in s places)) (fields_in (drop (i + 2) (words_in s places))) ≤ words_most
+  pub times_few : Inside s places → times_in (word_at (2 * i) (words_in s places)) (fields_in (drop (2 * (i + 1)) (words_in s places))) ≤ words_most
   times_few w = again_few s places i refl refl w
 
-  pub telling_is : {found : Option ℕ} {held n : ℕ} {f : Word} → f ≡ word_at i (words_in s places)
-      → Telling found held (times_in (word_at i (words_in s places)) (fields_in (drop (i + 2) (words_in s places)))) n
-      → Telling found held (times_in f (named_from s places (i + 2))) n
+  pub telling_is : {found : Option ℕ} {held n : ℕ} {f : Word} → f ≡ word_at (2 * i) (words_in s places)
+      → Telling found held (times_in (word_at (2 * i) (words_in s places)) (fields_in (drop (2 * (i + 1)) (words_in s places)))) n
+      → Telling found held (times_in f (named_from s places (i + 1))) n
   unfolding named_from words_from
   telling_is q t = rw q t
 
@@ -335,9 +339,9 @@ placed_pair now k f v s {d = d} q h = subst (λ (e : Entry). Holds d (with_put n
 
 -- What the code knows of the field at i tells whether it passes the largest version.
 abbrev pub Passing : List ℕ → List (List ℕ) → List ℕ → Word → ℕ → Type 0
-Passing s places b k i = (f : Word) (found : Option ℕ) (held again : ℕ) → i + 1 < length places → f ≡ word_at i (words_in s places)
+Passing s places b k i = (f : Word) (found : Option ℕ) (held again : ℕ) → i < length places / 2 → f ≡ word_at (2 * i) (words_in s places)
     → found ≡ (lowest_slot (holds k f) (decode b).slots) → held ≡ held_version (entry_for (decode b).slots found)
-    → Telling found held (times_in (word_at i (words_in s places)) (fields_in (drop (i + 2) (words_in s places)))) again → version_most < held + (again + 1)
+    → Telling found held (times_in (word_at (2 * i) (words_in s places)) (fields_in (drop (2 * (i + 1)) (words_in s places)))) again → version_most < held + (again + 1)
     → Err VersionOverflow ≡ survey_of k (fields_in (words_in s places)) (decode b).slots
 
 pub survey_passes : (s : List ℕ) (places : List (List ℕ)) (b : List ℕ) (k : Word) (i : ℕ) {n : ℕ} → well_formed b ≡ true

@@ -1,11 +1,11 @@
 -- What the functions that do a command ask and answer, in the terms of the other definitions.
 use Rattle.std.specs.Prelude.{Option, None, Some, Result, Ok, Err, ⊤}
-use Rattle.std.specs.Prelude.{◌≡◌, Bool, true, false, cond, not, ◌&&◌, ◌||◌, ℕ, suc, ◌+◌, ◌-◌, ◌≤◌, ◌<◌, ltb, eqb, ℤ, negsuc, ◌+ℤ◌, length}
+use Rattle.std.specs.Prelude.{◌≡◌, Bool, true, false, cond, not, ◌&&◌, ◌||◌, ℕ, suc, ◌+◌, ◌-◌, ◌≤◌, ◌<◌, ltb, eqb, ℤ, negsuc, ◌+ℤ◌, length, zero, ◌/◌, drop}
 use mathlib.Core.List.{List, [], ◌∷◌, map, flat_map}
 use Rattle.wire.specs.Lists.{any, keep, or_else, only_if}
 use Rattle.wire.specs.Bytes.{same}
 use Rattle.wire.specs.Integers.{lowest64, highest64, within}
-use Rattle.wire.specs.Words.{Word, words_most}
+use Rattle.wire.specs.Words.{Word, words_most, word_at}
 use Rattle.wire.specs.declared.integers.Signed.{Signed}
 use Rattle.wire.specs.Replies.{integer, laid_over}
 use Rattle.wire.specs.Promises.{signed_for, integer_of, Inside, Laid}
@@ -46,11 +46,6 @@ Looked b k f r = r ≡ (lowest_slot (holds k f) (decode b).slots)
 -- the slot for an entry of a key and a field
 unfoldable pub look_for : ℕ → List ℕ → List ℕ → List Slot → Option ℕ
 look_for now k f ss = (slot_for now k f ss)
-
--- where to look first for what a look found
-unfoldable pub hint_for : Option ℕ → ℕ
-hint_for (Some i) = i
-hint_for None = 0
 
 -- the slot for an entry whose own slot, or that it has none, is known
 unfoldable pub slot_after : ℕ → Option ℕ → List Slot → Option ℕ
@@ -162,6 +157,17 @@ versioned v = with_version v blank
 
 abbrev pub expiring : Option ℕ → Entry
 expiring x = with_expiry x blank
+
+-- ---- fields among words
+
+-- the first words of n times so many words
+unfoldable pub firsts : ℕ → ℕ → List Word → List Word
+firsts step zero ws = []
+firsts step (suc n) ws = word_at 0 ws ∷ firsts step n (drop step ws)
+
+-- the first word of each so many
+unfoldable pub each_first : ℕ → List Word → List Word
+each_first step ws = firsts step (length ws / step) ws
 
 -- ---- pairs
 

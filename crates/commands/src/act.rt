@@ -1,12 +1,14 @@
 // What commands do with an entry of the store: look for it, remove it when dead, put it in its place.
-ghost use Rattle.std.specs.Prelude.{◌≡◌, true, [], ◌∷◌};
+ghost use Rattle.std.specs.Prelude.{◌≡◌, true, [], ◌∷◌, ◌≤◌};
+ghost use Rattle.wire.specs.Promises.{words_in, Inside};
 ghost use Rattle.store.specs.Store.{decode, well_formed, entry};
 ghost use Rattle.store.specs.Valid.{Fits};
 ghost use Rattle.store.specs.Promises.{Holds};
 ghost use Rattle.commands.specs.Execute.{swept};
-ghost use Rattle.commands.specs.Promises.{Looked, hint_for, slot_after, with_put};
+ghost use Rattle.commands.specs.Promises.{Looked, each_first, slot_after, with_put};
 
 use store::{change, find, read};
+use wire::words::{WORDS_MOST, word};
 
 // Looks for the entry of a key and a field. A dead one is removed, so what is found is live.
 pub fn look(bytes: &mut [u8], key: &[u8], field: &[u8], time: u64) -> Option<usize>
@@ -15,10 +17,7 @@ pub fn look(bytes: &mut [u8], key: &[u8], field: &[u8], time: u64) -> Option<usi
         let f = field.now in
         (Holds bytes.new (swept time k (f ∷ []) (decode bytes.old))) × (Looked bytes.new k f result) }
 {
-    let found = find::named(bytes, key, field);
-    let Some(i) = found else {
-        return None;
-    };
+    let i = find::named(bytes, key, field)?;
     if read::is_live(bytes, i, time) {
         return Some(i);
     }
@@ -26,14 +25,23 @@ pub fn look(bytes: &mut [u8], key: &[u8], field: &[u8], time: u64) -> Option<usi
     None
 }
 
-// Where to look first for what a look found: its slot, else any.
-pub fn hint_for(found: Option<usize>) -> usize
-    ensures { result ≡ hint_for found }
+// Removes the dead entries of a key and some fields, each the first of STEP words. The slot that each has is kept as a hint, a missing one's is any.
+pub fn sweep<const STEP: usize>(
+    command: &[u8],
+    places: &[[usize; 2]],
+    bytes: &mut [u8],
+    key: &[u8],
+    time: u64,
+    hints: &mut [usize; WORDS_MOST],
+)
+    requires { (Inside command.now places.now) × (well_formed bytes.old ≡ true) × (1 ≤ STEP) }
+    ensures { let fs = each_first STEP (words_in command.now places.now) in
+        Holds bytes.new (swept time key.now fs (decode bytes.old)) }
 {
-    let Some(i) = found else {
-        return 0;
-    };
-    i
+    for i in 0..places.len() / STEP {
+        let found = look(bytes, key, word(command, places, STEP * i), time);
+        hints[i] = found.unwrap_or(0);
+    }
 }
 
 // The slot for an entry: its own, else the lowest empty one, else the lowest dead one.
@@ -41,14 +49,8 @@ pub fn slot_for(bytes: &[u8], own: Option<usize>, time: u64) -> Option<usize>
     requires { well_formed bytes.now ≡ true }
     ensures { result ≡ slot_after time own (decode bytes.now).slots }
 {
-    if let Some(i) = own {
-        return Some(i);
-    }
-    let empty = find::empty(bytes);
-    if let Some(i) = empty {
-        return Some(i);
-    }
-    find::dead(bytes, time)
+    own.or_else(|| find::empty(bytes))
+        .or_else(|| find::dead(bytes, time))
 }
 
 // Writes an entry in its place; where there is none for it, nothing changes. `own` is the slot that a look found.
@@ -67,9 +69,7 @@ pub fn place(
     ensures { let e = entry key.now field.now value.now version expiry in
         Holds bytes.new (with_put time e (decode bytes.old)) }
 {
-    let found = slot_for(bytes, own, time);
-    match found {
-        None => {},
-        Some(i) => change::put(bytes, i, key, field, value, version, expiry),
+    if let Some(i) = slot_for(bytes, own, time) {
+        change::put(bytes, i, key, field, value, version, expiry);
     }
 }

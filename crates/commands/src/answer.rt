@@ -8,7 +8,7 @@ ghost use Rattle.store.specs.Promises.{Held};
 ghost use Rattle.commands.specs.Effect.{reply};
 ghost use Rattle.commands.specs.Promises.{Looked, time_left_of, no_version_of, answer_most, answer_about};
 
-use crate::Question;
+use crate::{MINUS_ONE, MINUS_TWO, Question};
 use store::{find, read};
 use wire::integers::Signed;
 use wire::replies::{put_bulk, put_header, put_integer, put_nil, put_number};
@@ -19,22 +19,8 @@ fn time_left(expiry: Option<u64>, time: u64, unit: u64) -> Signed
     ensures { result ≡ time_left_of time unit expiry }
 {
     match expiry {
-        None => Signed {
-            negative: true,
-            magnitude: 1,
-        },
-        Some(instant) => {
-            if time < instant {
-                return Signed {
-                    negative: false,
-                    magnitude: (instant - time) / unit,
-                };
-            }
-            Signed {
-                negative: false,
-                magnitude: 0,
-            }
-        },
+        None => MINUS_ONE,
+        Some(instant) => Signed::from(instant.saturating_sub(time) / unit),
     }
 }
 
@@ -44,15 +30,9 @@ fn no_version(bytes: &[u8], key: &[u8], time: u64) -> Signed
     ensures { result ≡ no_version_of time key.now (decode bytes.now).slots }
 {
     if find::key_exists(bytes, key, time) {
-        return Signed {
-            negative: true,
-            magnitude: 2,
-        };
+        return MINUS_TWO;
     }
-    Signed {
-        negative: true,
-        magnitude: 1,
-    }
+    MINUS_ONE
 }
 
 // An array of value and version.
@@ -89,18 +69,11 @@ fn put_missing(bytes: &[u8], question: Question, key: &[u8], time: u64, out: &mu
     ensures { let ss = (decode bytes.now).slots in
         Laid (reply time ss key.now question None) out.old out.new result }
 {
-    let minus_two = Signed {
-        negative: true,
-        magnitude: 2,
-    };
     match question {
-        Question::Value => put_nil(out),
-        Question::Versioned => put_nil(out),
-        Question::Length => put_number(0, out),
-        Question::Exists => put_number(0, out),
+        Question::Value | Question::Versioned => put_nil(out),
+        Question::Length | Question::Exists => put_number(0, out),
         Question::Version => put_integer(no_version(bytes, key, time), out),
-        Question::Seconds => put_integer(minus_two, out),
-        Question::Milliseconds => put_integer(minus_two, out),
+        Question::Seconds | Question::Milliseconds => put_integer(MINUS_TWO, out),
     }
 }
 

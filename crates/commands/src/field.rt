@@ -20,7 +20,7 @@ use crate::act::{look, slot_for};
 use crate::answer::put_answer;
 use crate::refusal::{Refusal, put_error};
 use crate::versions::{is_barred, is_stale, next_expiry, next_version, setter_version};
-use crate::{FieldDeed, Question, Sight, Stamping, Sum, Versioning};
+use crate::{FieldDeed, MINUS_ONE, ONE, Question, Sight, Stamping, Sum, Versioning, ZERO};
 use store::layout::VERSION_MOST;
 use store::{change, read};
 use wire::integers::{Signed, add, at_most, read_integer, write_integer};
@@ -38,10 +38,7 @@ pub fn held_version(bytes: &[u8], found: Option<usize>) -> u64
     requires { HeldAt bytes.now found }
     ensures { result ≡ held_version (entry_for (decode bytes.now).slots found) }
 {
-    match found {
-        Some(i) => read::version(bytes, i),
-        None => 0,
-    }
+    found.map_or(0, |i| read::version(bytes, i))
 }
 
 // The expiry of a field, none where it is missing.
@@ -49,10 +46,7 @@ fn held_expiry(bytes: &[u8], found: Option<usize>) -> Option<u64>
     requires { HeldAt bytes.now found }
     ensures { result ≡ held_expiry (entry_for (decode bytes.now).slots found) }
 {
-    match found {
-        Some(i) => read::expiry(bytes, i),
-        None => None,
-    }
+    found.and_then(|i| read::expiry(bytes, i))
 }
 
 // Whether what is said of a field's version is stale; of a missing field nothing is.
@@ -60,10 +54,7 @@ fn is_stale_at(bytes: &[u8], found: Option<usize>, versioning: Versioning) -> bo
     requires { HeldAt bytes.now found }
     ensures { result ≡ is_stale versioning (entry_for (decode bytes.now).slots found) }
 {
-    match found {
-        Some(i) => is_stale(versioning, read::version(bytes, i)),
-        None => false,
-    }
+    found.is_some_and(|i| is_stale(versioning, read::version(bytes, i)))
 }
 
 // Writes a field's entry, unless its version passes the largest or the store is full.
@@ -96,18 +87,13 @@ fn write(
 }
 
 // How many fields a write adds, by what was found: 1 or 0.
+#[tactic(auto, unfolding(crate::specs::Promises::fields_added))]
 fn fields_added(found: Option<usize>) -> Signed
     ensures { result ≡ fields_added found }
 {
     match found {
-        Some(_) => Signed {
-            negative: false,
-            magnitude: 0,
-        },
-        None => Signed {
-            negative: false,
-            magnitude: 1,
-        },
+        Some(_) => ZERO,
+        None => ONE,
     }
 }
 
@@ -141,13 +127,7 @@ fn stored(bytes: &[u8], found: Option<usize>) -> Option<Signed>
     requires { HeldAt bytes.now found }
     ensures { result ≡ option_map signed_for (counted (entry_for (decode bytes.now).slots found)) }
 {
-    match found {
-        Some(i) => read_integer(read::value(bytes, i)),
-        None => Some(Signed {
-            negative: false,
-            magnitude: 0,
-        }),
-    }
+    found.map_or(Some(ZERO), |i| read_integer(read::value(bytes, i)))
 }
 
 // The sum of an integer and an amount, refused outside signed 64 bits and outside its bounds.
@@ -223,10 +203,7 @@ fn stamp(bytes: &mut [u8], i: usize, version: u64, expiry: Option<u64>) -> Resul
         return Err(Refusal::VersionOverflow);
     }
     change::restamp(bytes, i, version, expiry);
-    Ok(Settled::Replied(Signed {
-        negative: false,
-        magnitude: 1,
-    }))
+    Ok(Settled::Replied(ONE))
 }
 
 // EXHEXPIRE, EXHPEXPIRE, EXHEXPIREAT and EXHPEXPIREAT.
@@ -242,10 +219,7 @@ fn expire(
         ((time : ℕ) → Changes time e b bytes.new result) }
 {
     let Some(i) = found else {
-        return Ok(Settled::Replied(Signed {
-            negative: false,
-            magnitude: 0,
-        }));
+        return Ok(Settled::Replied(ZERO));
     };
     let held = read::version(bytes, i);
     if is_stale(versioning, held) {
@@ -263,17 +237,11 @@ fn persist(bytes: &mut [u8], found: Option<usize>) -> Result<Settled, Refusal>
         ((time : ℕ) → Changes time e b bytes.new result) }
 {
     let Some(i) = found else {
-        return Ok(Settled::Replied(Signed {
-            negative: false,
-            magnitude: 0,
-        }));
+        return Ok(Settled::Replied(ZERO));
     };
     let until = read::expiry(bytes, i);
     let Some(_) = until else {
-        return Ok(Settled::Replied(Signed {
-            negative: false,
-            magnitude: 0,
-        }));
+        return Ok(Settled::Replied(ZERO));
     };
     stamp(bytes, i, read::version(bytes, i), None)
 }
@@ -286,10 +254,7 @@ fn renumber(bytes: &mut [u8], found: Option<usize>, version: u64) -> Result<Sett
         ((time : ℕ) → Changes time e b bytes.new result) }
 {
     let Some(i) = found else {
-        return Ok(Settled::Replied(Signed {
-            negative: false,
-            magnitude: 0,
-        }));
+        return Ok(Settled::Replied(ZERO));
     };
     stamp(bytes, i, version, read::expiry(bytes, i))
 }
@@ -315,10 +280,7 @@ fn settle_deed(
     match deed {
         FieldDeed::Assign(condition, stamping) => {
             if is_barred(condition, found) {
-                return Ok(Settled::Replied(Signed {
-                    negative: true,
-                    magnitude: 1,
-                }));
+                return Ok(Settled::Replied(MINUS_ONE));
             }
             assign(bytes, key, field, value, sight, stamping)
         },

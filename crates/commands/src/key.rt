@@ -8,38 +8,17 @@ ghost use Rattle.store.specs.Promises.{Held, Holds};
 ghost use Rattle.commands.specs.Refusal.{buffer_least};
 ghost use Rattle.commands.specs.Command.Command.{get_many, delete};
 ghost use Rattle.commands.specs.Effect.{listed};
-ghost use Rattle.commands.specs.Execute.{swept, run_on};
+ghost use Rattle.commands.specs.Execute.{run_on};
 ghost use Rattle.commands.specs.ParsePromises.{command_for};
 ghost use Rattle.commands.specs.Promises.{WithinLimits, Does, FieldsReady, answer_most, answer_about, answers_of, listed_of, Removes, Deletes, width_of};
 
-use crate::act::{hint_for, look};
+use crate::act::sweep;
 use crate::answer::put_answer;
 use crate::pairs::set_many;
 use crate::{Asking, KeyDeed, Listing, Question};
 use store::{SoughtKey, change, find, read};
 use wire::replies::{put_bulk, put_header, put_number};
 use wire::words::{WORDS_MOST, word};
-
-// Removes the dead entries of a key and some fields. Where a field stands is kept as a hint at the number of its word.
-fn sweep_fields(
-    command: &[u8],
-    fields: &[[usize; 2]],
-    bytes: &mut [u8],
-    key: &[u8],
-    time: u64,
-    hints: &mut [usize; WORDS_MOST],
-)
-    requires { (Inside command.now fields.now) × (well_formed bytes.old ≡ true) }
-    ensures { let fs = words_in command.now fields.now in
-        Holds bytes.new (swept time key.now fs (decode bytes.old)) }
-{
-    let mut i = 0;
-    while i < fields.len() {
-        let found = look(bytes, key, word(command, fields, i), time);
-        hints[i] = hint_for(found);
-        i += 1;
-    }
-}
 
 // The reply to a question about one field, found by its name.
 fn put_field(
@@ -77,11 +56,9 @@ fn put_answers(
         Laid (flatten answers) out.old out.new result }
 {
     let mut at = 0;
-    let mut i = 0;
-    while i < fields.len() {
+    for i in 0..fields.len() {
         let field = word(command, fields, i);
         at = put_field(bytes, asking, key, field, hints[i], &mut out[at..]) + at;
-        i += 1;
     }
     at
 }
@@ -101,7 +78,7 @@ fn get_many(
         Does (run_on time c (decode bytes.old)) bytes.new out.old out.new result }
 {
     let mut hints = [0; WORDS_MOST];
-    sweep_fields(command, fields, bytes, key, time, &mut hints);
+    sweep::<1>(command, fields, bytes, key, time, &mut hints);
     let at = put_header(fields.len() as u64, out);
     let asking = Asking { question, time };
     put_answers(command, fields, bytes, asking, key, &hints, &mut out[at..]) + at
@@ -133,10 +110,8 @@ fn remove_fields(
         Deletes key.now fs (decode bytes.old) bytes.new result }
 {
     let mut n = 0;
-    let mut i = 0;
-    while i < fields.len() {
+    for i in 0..fields.len() {
         n += remove_field(bytes, key, word(command, fields, i), hints[i]);
-        i += 1;
     }
     n
 }
@@ -155,18 +130,18 @@ fn delete(
         Does (run_on time c (decode bytes.old)) bytes.new out.old out.new result }
 {
     let mut hints = [0; WORDS_MOST];
-    sweep_fields(command, fields, bytes, key, time, &mut hints);
+    sweep::<1>(command, fields, bytes, key, time, &mut hints);
     let n = remove_fields(command, fields, bytes, key, &hints);
     put_number(n, out)
 }
 
 // How many elements a listing shows of an entry.
+#[tactic(auto, unfolding(crate::specs::Promises::width_of))]
 fn width(listing: Listing) -> u64
     ensures { result ≡ width_of listing }
 {
     match listing {
-        Listing::Fields => 1,
-        Listing::Values => 1,
+        Listing::Fields | Listing::Values => 1,
         Listing::Both => 2,
     }
 }
@@ -194,15 +169,10 @@ fn put_listed(bytes: &[u8], listing: Listing, key: &[u8], time: u64, out: &mut [
     ensures { let shown = flatten (listed_of time bytes.now key.now listing) in
         Laid shown out.old out.new result }
 {
-    let count = read::slots(bytes);
     let sought = SoughtKey::new(key);
     let mut at = 0;
     let mut from = 0;
-    while from < count {
-        let found = find::next_live_with(bytes, &sought, time, from);
-        let Some(i) = found else {
-            return at;
-        };
+    while let Some(i) = find::next_live_with(bytes, &sought, time, from) {
         at = put_entry(bytes, listing, i, &mut out[at..]) + at;
         from = i + 1;
     }

@@ -17,6 +17,27 @@ mod versions;
 
 use wire::integers::Signed;
 
+// Integers that are replied often.
+const ZERO: Signed = Signed {
+    negative: false,
+    magnitude: 0,
+};
+
+const ONE: Signed = Signed {
+    negative: false,
+    magnitude: 1,
+};
+
+const MINUS_ONE: Signed = Signed {
+    negative: true,
+    magnitude: 1,
+};
+
+const MINUS_TWO: Signed = Signed {
+    negative: true,
+    magnitude: 2,
+};
+
 // What decides an entry's version: nothing is given, VER v, ABS v, GT v.
 #[derive(Clone, Copy)]
 pub enum Versioning {

@@ -35,14 +35,7 @@ struct GroupedOption {
 fn takes(allowed: &[usize], group: usize) -> bool
     ensures { result ≡ any (eqb group) allowed.now }
 {
-    let mut i = 0;
-    while i < allowed.len() {
-        if allowed[i] == group {
-            return true;
-        }
-        i += 1;
-    }
-    false
+    allowed.contains(&group)
 }
 
 // The option at a word, of one of the groups that the command takes. It is refused where it is unknown or its operand is missing.

@@ -1,5 +1,5 @@
 // Integer text: read and written once for all uses, and signed sums.
-ghost use Rattle.std.specs.Prelude.{◌≡◌, ◌≤◌, length, ◌+ℤ◌, option_map};
+ghost use Rattle.std.specs.Prelude.{◌≡◌, false, ◌≤◌, length, ◌+ℤ◌, option_map};
 ghost use Rattle.std.specs.Int.Signed.{le_z};
 ghost use Rattle.wire.specs.Lists.{only_if};
 ghost use Rattle.wire.specs.Integers.{read_natural, read_integer, lowest64, highest64, within, natural_text, integer_text};
@@ -13,6 +13,18 @@ const LOWEST: u64 = 9223372036854775808;
 pub struct Signed {
     pub negative: bool,
     pub magnitude: u64,
+}
+
+// A natural number as an integer.
+impl From<u64> for Signed {
+    ghost from_gives = { λ n z. z ≡ record { negative = false; magnitude = n } };
+
+    fn from(natural: u64) -> Signed {
+        Signed {
+            negative: false,
+            magnitude: natural,
+        }
+    }
 }
 
 // A plain integer from 0 to `most`; any other text is refused, whatever its length.

@@ -1,12 +1,15 @@
+use Rattle.std.specs.Prelude.{option_map}
+use Rattle.std.proofs.Common.{rules}
+use Rattle.wire.specs.Lists.{or_else}
+use Rattle.wire.specs.Promises.{signed_for}
 use Rattle.store.specs.Store.{decode}
-use Rattle.commands.proofs.FieldDeeds.{stored_found, stored_none}
+use Rattle.commands.specs.Effect.{counted}
+use Rattle.commands.proofs.FieldDeeds.{said_of}
 use Rattle.commands.proofs.field.stored.Goals as goal
 
-pub value-requires : goal.value-requires
-value-requires c = c.requires _ c.in-Some.is
+pub map_or-requires : goal.map_or-requires
+map_or-requires c = λ x q. let h = c.requires x q in search rules
 
-pub returns-in-Some : goal.returns-in-Some
-returns-in-Some c = stored_found (decode c.args.bytes.now).slots c.in-Some.is c.value.ensures c.read_integer.ensures
-
-pub returns-in-None : goal.returns-in-None
-returns-in-None c = stored_none (decode c.args.bytes.now).slots c.in-None.is
+pub returns : goal.returns
+unfolding counted or_else signed_for
+returns c = said_of (decode c.args.bytes.now).slots (λ e. option_map signed_for (counted e)) c.args.found (search rules)

@@ -4,7 +4,7 @@ use Rattle.wire.proofs.ReplyLaying.{laid_tail, laid_within}
 use Rattle.commands.specs.Promises.{answer_most}
 use Rattle.commands.proofs.Answers.{laid_reply}
 use Rattle.wire.proofs.Elements.{tail_spare}
-use Rattle.commands.proofs.FieldLoops.{header_room, header_inside, answers_begin, answers_spare, answers_room}
+use Rattle.commands.proofs.FieldLoops.{each_word, header_room, header_inside, answers_begin, answers_spare, answers_room}
 use Rattle.commands.proofs.KeyDone.{does_many}
 use Rattle.commands.proofs.key.get_many.Goals as goal
 
@@ -19,11 +19,11 @@ slice_bounds-put_answers-start c = header_inside (omega (arith, c.requires.few))
 
 pub put_answers-requires : goal.put_answers-requires
 put_answers-requires c =
-    (c.requires.inside, c.sweep_fields.ensures.well, tail_spare answer_most _ c.put_header-at.ensures (answers_spare c.args.time _ c.args.key.now c.args.question c.args.command.now c.args.fields.now c.sweep_fields.ensures.well c.requires.few c.requires.room))
+    (c.requires.inside, c.sweep.ensures.well, tail_spare answer_most _ c.put_header-at.ensures (answers_spare c.args.time _ c.args.key.now c.args.question c.args.command.now c.args.fields.now c.sweep.ensures.well c.requires.few c.requires.room))
 
 pub overflow_add-result : goal.overflow_add-result
 overflow_add-result c =
-    omega (arith, laid_within (laid_tail c.put_header-at.ensures c.put_answers.ensures) (answers_room c.args.time _ c.args.key.now c.args.question c.args.command.now c.args.fields.now c.sweep_fields.ensures.well c.requires.few c.requires.room))
+    omega (arith, laid_within (laid_tail c.put_header-at.ensures c.put_answers.ensures) (answers_room c.args.time _ c.args.key.now c.args.question c.args.command.now c.args.fields.now c.sweep.ensures.well c.requires.few c.requires.room))
 
 pub returns : goal.returns
-returns c = does_many _ _ _ _ _ c.sweep_fields.ensures (laid_reply (sym (answers_begin _ _ _)) (laid_tail c.put_header-at.ensures c.put_answers.ensures))
+returns c = does_many _ _ _ _ _ (rw each_word at c.sweep.ensures) (laid_reply (sym (answers_begin _ _ _)) (laid_tail c.put_header-at.ensures c.put_answers.ensures))

@@ -10,13 +10,6 @@ pub loop-i-init : goal.loop-i-init
 unfolding words_from answers_from
 loop-i-init c = going_begins (laid_none _) refl (omega (arith, c.requires.2))
 
--- the hint's place is that of a word
-pub offset_bounds-hints-i : goal.offset_bounds-hints-i
-offset_bounds-hints-i c = omega (arith, c.loop-i-test.true, c.requires.0.most)
-
-pub bounds-hints-i : goal.bounds-hints-i
-bounds-hints-i c = omega (arith, c.loop-i-test.true, c.requires.0.most)
-
 pub slice_bounds-put_field-count : goal.slice_bounds-put_field-count
 slice_bounds-put_field-count c = going_start c.loop-i.invariant
 
@@ -37,6 +30,3 @@ shape_of-out c = going_length c.loop-i.invariant
 
 pub returns : goal.returns
 returns c = going_ends c.loop-i.invariant (answers_over _ _ _ _ c.loop-i-test.false)
-
-pub word-field-requires : goal.word-field-requires
-word-field-requires c = c.requires.0

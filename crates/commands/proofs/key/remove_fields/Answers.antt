@@ -8,16 +8,6 @@ pub loop-i-init : goal.loop-i-init
 unfolding words_from
 loop-i-init c = (deleting_begins c.requires.1, refl)
 
--- the hint's place is that of a word
-pub offset_bounds-hints-i : goal.offset_bounds-hints-i
-offset_bounds-hints-i c = omega (arith, c.loop-i-test.true, c.requires.0.most)
-
-pub bounds-hints-i : goal.bounds-hints-i
-bounds-hints-i c = omega (arith, c.loop-i-test.true, c.requires.0.most)
-
-pub remove_field-n-requires : goal.remove_field-n-requires
-remove_field-n-requires c = c.loop-i.invariant.0.well
-
 pub overflow_add-n : goal.overflow_add-n
 overflow_add-n c = omega (arith, deleting_few (deleting_on c.loop-i.invariant.0 (next_word _ _ _ c.loop-i-test.true c.word.ensures) c.remove_field-n.ensures) c.requires.1)
 
@@ -26,9 +16,3 @@ loop-i-preserved c = (deleting_on c.loop-i.invariant.0 (next_word _ _ _ c.loop-i
 
 pub returns : goal.returns
 returns c = deleting_ends c.loop-i.invariant.0 (no_word _ _ _ c.loop-i-test.false)
-
-pub word-requires : goal.word-requires
-word-requires c = c.requires.0
-
-pub shape_of-bytes : goal.shape_of-bytes
-shape_of-bytes c = c.loop-i.invariant.1

@@ -1,16 +1,11 @@
 use mathlib.Core.Path.{◌≡◌}
-use Prim.Native.Nat.{◌-◌, ◌≤◌}
 use lib.ListN.{length}
-use Rattle.wire.specs.Words.{words_most}
 use Rattle.wire.specs.Promises.{words_in}
 use Rattle.commands.specs.Parse.{pairs_of}
 use Rattle.commands.proofs.PairLoops.{pairs_from, Writing}
 use Rattle.commands.proofs.pairs.place_pairs.Given as goal
 
--- What is left does the same; the measure is how many words are left.
+-- What is left does the same.
 abbrev pub invariant-loop-i : goal.invariant-loop-i
 invariant-loop-i l =
-    Writing l.time l.key (pairs_of (words_in l.command l.pairs)) (pairs_from l.command l.pairs l.i) l.initial.bytes l.bytes × (l.i ≤ words_most) × (length l.bytes ≡ length l.initial.bytes)
-
-abbrev pub decreases-loop-i : goal.decreases-loop-i
-decreases-loop-i l = length l.pairs - l.i
+    Writing l.time l.key (pairs_of (words_in l.command l.pairs)) (pairs_from l.command l.pairs l.i) l.initial.bytes l.bytes × (length l.bytes ≡ length l.initial.bytes)

@@ -12,11 +12,7 @@ pub loop-i-init : goal.loop-i-init
 unfolding words_from named_from
 loop-i-init c =
     let now : Surveying c.args.key.now (fields_in (words_in c.args.command.now c.args.pairs.now)) (named_from c.args.command.now c.args.pairs.now 0) (decode c.args.bytes.now).slots 0 = record { sum = omega arith; same = refl } in
-    (now, omega arith, survey_passes _ _ _ _ _ c.requires.1 now)
-
--- the hint's place is that of a word
-pub bounds-hints-i : goal.bounds-hints-i
-bounds-hints-i c = omega (arith, c.loop-i-test.true, c.requires.0.most)
+    (now, survey_passes _ _ _ _ _ c.requires.1 now)
 
 pub held_version-held-requires : goal.held_version-held-requires
 held_version-held-requires c = sought_held (record { well = c.requires.1; looked = c.named_near-found.ensures })
@@ -45,22 +41,7 @@ loop-i-preserved c =
     let held = version_sought (record { well = c.requires.1; looked = c.named_near-found.ensures }) c.held_version-held.ensures in
     let again = telling_is _ _ _ c.word.ensures c.relevant_repeats-again.ensures in
     let now = surveying_on c.loop-i.invariant.0 next held again (omega arith) c.named_near-found.ensures c.new_field-n.ensures in
-    (now, omega (arith, c.loop-i-test.true, c.requires.0.most), survey_passes _ _ _ _ _ c.requires.1 now)
+    (now, survey_passes _ _ _ _ _ c.requires.1 now)
 
 pub returns : goal.returns
 returns c = surveying_ends c.loop-i.invariant.0 (none_named_lem _ _ _ c.loop-i-test.false)
-
-pub overflow_add-i : goal.overflow_add-i
-overflow_add-i c = omega (arith, c.loop-i.invariant.1)
-
-pub word-requires : goal.word-requires
-word-requires c = c.requires.0
-
-pub offset_bounds-hints-i : goal.offset_bounds-hints-i
-offset_bounds-hints-i c = omega (arith, c.loop-i.invariant.1)
-
-pub named_near-found-requires : goal.named_near-found-requires
-named_near-found-requires c = c.requires.1
-
-pub overflow_add-i-in-loop-i : goal.overflow_add-i-in-loop-i
-overflow_add-i-in-loop-i c = omega (arith, c.loop-i.invariant.1)
