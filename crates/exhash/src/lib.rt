@@ -9,7 +9,6 @@ ghost use Rattle.feeder.specs.State.{fresh};
 ghost use Rattle.feeder.specs.Feed.{feed};
 
 use compare::{Compared, Place};
-use feeder::feed::feed_lent;
 use feeder::{Fed, Feeder};
 
 // A state with no byte waiting.
@@ -20,7 +19,7 @@ pub extern "C" fn exh_feeder_fresh() -> Feeder
     Feeder::fresh()
 }
 
-// One feeding call. It lends the state that it got, as `Feeder::feed` does, and does not call that: its answer would be copied once more.
+// One feeding call. It lends the state that it got, as `Feeder::feed` does, and does not call that: the state would be copied once more.
 #[unsafe(no_mangle)]
 pub extern "C" fn exh_feed(
     mut feeder: Feeder,
@@ -31,16 +30,8 @@ pub extern "C" fn exh_feed(
     ensures { record { fed = result; store = store.new; buffer = reply.new }
         ≡ feed feeder piece.now store.old reply.old }
 {
-    let count = feeder.count;
-    let taken = feed_lent(&mut feeder.waiting, count, piece, store, reply);
-    feeder.count = taken.count;
-    Fed {
-        refusal: taken.refusal,
-        used: taken.used,
-        skipped: taken.skipped,
-        replied: taken.replied,
-        feeder,
-    }
+    let taken = feeder.feed_lent(piece, store, reply);
+    feeder.answer(taken)
 }
 
 // 0 where the bytes are a well-formed store, else 2.

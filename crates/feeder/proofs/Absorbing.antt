@@ -1,9 +1,11 @@
 -- Bytes taken: what is joined of the waiting bytes and a piece, the record done, what waits, and what a call comes to.
 use Rattle.std.specs.Prelude.{None, Some}
+use Rattle.std.specs.Prelude.{Ok}
 use mathlib.Core.Path.{◌≡◌, refl, sym, ap, ◌∙◌}
 use mathlib.Core.Bool.{true}
 use mathlib.Core.List.{List, ◌++◌}
 use Prim.Native.Nat.{ℕ, ◌+◌, ◌-◌, ◌≤◌, ◌<◌}
+use native.Mathlib.Nat.{sub-zero}
 use native.Mathlib.Omega.{arith}
 use lib.ListN.{length, take, drop, replicate, length-append, length-drop, length-take, length-replicate, replicate-append-replicate, take-append-drop}
 use lib.Seq.{take_all, length-take-le, drop-append-le, drop-append-add, drop-drop, take-append-add}
@@ -24,7 +26,7 @@ use Rattle.feeder.specs.Stream.{divide}
 use Rattle.feeder.specs.State.{waiting_most, state_of, fresh, waiting_in, is_left}
 use Rattle.feeder.specs.Absorb.{used_most, first_record, offered, keeping, completing, absorb}
 use Rattle.feeder.specs.Feed.{doing, answering}
-use Rattle.feeder.specs.Promises.{stop_of, Completing, answer_for}
+use Rattle.feeder.specs.Promises.{stop_of, Completing, fed_for}
 use Rattle.feeder.proofs.RecordHead.{part_more}
 use Rattle.feeder.proofs.StreamDivide.{rest_short}
 use Rattle.feeder.proofs.FirstRecord.{First, NoFirst, first_found, none_found, first_fits, first_most, none_rest, none_skipped}
@@ -183,9 +185,9 @@ module _ (f : Feeder) (p : List ℕ) (left : is_left f ≡ true) where
 
   -- all waits
   pub kept_all : {t : List ℕ} (at : ℕ) → at ≡ 0 → t ≡ laid_over (take f.count f.waiting ++ p) f.waiting
-      → record { waiting = t; count = f.count + length p } ≡ state_of (drop at (waiting_in f ++ p))
+      → record { waiting = t; count = f.count + length p - at } ≡ state_of (drop at (waiting_in f ++ p))
   unfolding waiting_in
-  kept_all at zeroth e = rw (zeroth, e, ← total) (laid_state (waiting_in f ++ p) f.waiting (left_state f left).size clean)
+  kept_all at zeroth e = rw (zeroth, e, ← total, sub-zero) (laid_state (waiting_in f ++ p) f.waiting (left_state f left).size clean)
     where
       clean : all_zero (drop (length (waiting_in f ++ p)) f.waiting) ≡ true
       clean =
@@ -238,12 +240,12 @@ module _ (f : Feeder) (piece : List ℕ) (left : is_left f ≡ true) {o : List �
           most = omega (arith, first_most first);
         }
 
-    pub absorbed_record : (b buffer : List ℕ) {v after over : List ℕ} {r : Executed}
+    pub absorbed_record : (b buffer : List ℕ) {after over : List ℕ} {r : Executed} {g : Feeder}
         → Replied (doing (Some (record_of n (drop at (take f.count f.waiting ++ o)))) b) after buffer over r
-        → record { waiting = v; count = 0 } ≡ fresh
-        → answer_for (record { refusal = 0; used = at + (command_at + n) - f.count; skipped = at; replied = r.replied; count = 0 }) v after over
+        → g ≡ fresh
+        → record { fed = fed_for (Ok (record { used = at + (command_at + n) - f.count; skipped = at; replied = r.replied })) g; store = after; buffer = over }
         ≡ answering (absorb (waiting_in f) piece) b buffer
-    unfolding answer_for answering absorb or_else completing waiting_in fresh
+    unfolding answering absorb or_else completing waiting_in fresh
     absorbed_record b buffer d q = rw (d.size, d.stored, d.bytes, q, eo, found, (left_state f left).count)
 
   -- no record is completed
@@ -273,7 +275,7 @@ module _ (f : Feeder) (piece : List ℕ) (left : is_left f ≡ true) {o : List �
         ))
 
     pub absorbed_none : (b buffer : List ℕ) {g : Feeder} → g ≡ state_of (drop at (waiting_in f ++ o))
-        → answer_for (record { refusal = 0; used = length o; skipped = at; replied = 0; count = g.count }) g.waiting b buffer
+        → record { fed = fed_for (Ok (record { used = length o; skipped = at; replied = 0 })) g; store = b; buffer = buffer }
         ≡ answering (absorb (waiting_in f) piece) b buffer
-    unfolding answer_for answering doing absorb or_else keeping laid_over
+    unfolding answering doing absorb or_else keeping laid_over
     absorbed_none b buffer h = rw (h, eo, stopped.0, leaves, stopped.1)

@@ -1,10 +1,13 @@
 -- What the tests of the code tell of the head at a place of two lists, w and then p, taken as one.
 use mathlib.Core.Path.{◌≡◌, sym, ap, ◌∙◌}
+use mathlib.Core.Logic.{◌⊎◌, inl, inr}
+use mathlib.Core.Bool.{or-true}
 use mathlib.Core.List.{List, ◌++◌}
 use Prim.Native.Nat.{ℕ, ◌+◌, ◌-◌, ◌*◌, ◌≤◌, ◌<◌}
 use native.Mathlib.Nat.{add-zero}
 use native.Mathlib.Omega.{arith}
-use lib.ListN.{length, drop, get_or, length-append, length-drop, get_or-append}
+use lib.Dec.{ltb}
+use lib.ListN.{length, drop, get_or, length-drop, get_or-append}
 use lib.Seq.{drop-cons, get_or-drop, get_or-append-add}
 use borrow.Author.Tests.{eq-eqb, ne_eqb, lt-ltb, le-ltb}
 use Rattle.wire.specs.Bytes.{from_le, part}
@@ -34,23 +37,23 @@ length_spelled s l =
 
 -- ---- the tests, in their order
 
-module _ (w p : List ℕ) (at : ℕ) {a : ℕ} (ea : a ≡ get_or (w ++ p) at 0) where
+-- the first byte is no mark
+pub no_first : (s : List ℕ) (at : ℕ) {a : ℕ} → a ≡ get_or s at 0 → (a ≡ first_mark → ⊥) → heads.Skip ≡ head_for (head_of (drop at s))
+unfolding head_for head_of
+no_first s at {a} ea h = rw (get_or-drop at s 0 0, add-zero, ← ea, ne_eqb a first_mark h)
+
+module _ (w p : List ℕ) (at : ℕ) {a count : ℕ} (ea : a ≡ get_or (w ++ p) at 0) (ec : count ≡ length (w ++ p)) where
   abbrev s : List ℕ
   s = drop at (w ++ p)
 
   abbrev left : ℕ
-  left = length w + length p - at
+  left = count - at
 
   left_is : length s ≡ left
-  left_is = rw (length-drop, length-append)
+  left_is = rw (length-drop, ec)
 
   zeroth : get_or s 0 0 ≡ a
   zeroth = get_or-drop at (w ++ p) 0 0 ∙ rw add-zero (sym ea)
-
-  -- the first byte is no mark
-  pub no_first : (a ≡ first_mark → ⊥) → heads.Skip ≡ head_for (head_of s)
-  unfolding head_for head_of
-  no_first h = rw (zeroth, ne_eqb a first_mark h)
 
   -- the first byte is a mark and stands alone
   pub alone : a ≡ first_mark → left < 2 → heads.Wait ≡ head_for (head_of s)
@@ -93,20 +96,17 @@ module _ (w p : List ℕ) (at : ℕ) {a : ℕ} (ea : a ≡ get_or (w ++ p) at 0)
         unfolding after_mark
         after_length = after_mark_lem ∙ rw (left_is, le-ltb left command_at enough, size)
 
-        pub too_short : n < 1 → heads.Skip ≡ head_for (head_of s)
+        -- the length is out of range
+        pub outside : (n < 1) ⊎ (command_most < n) → heads.Skip ≡ head_for (head_of s)
         unfolding head_for last_tests
-        too_short l = rw (after_length, lt-ltb n 1 l)
+        outside (inl l) = rw (after_length, lt-ltb n 1 l)
+        outside (inr l) = rw (after_length, lt-ltb command_most n l, or-true (ltb n 1))
 
-        module _ (some : 1 ≤ n) where
-          pub too_long_lem : command_most < n → heads.Skip ≡ head_for (head_of s)
+        module _ (some : 1 ≤ n) (few : n ≤ command_most) where
+          pub cut_short : left < command_at + n → heads.Wait ≡ head_for (head_of s)
           unfolding head_for last_tests
-          too_long_lem l = rw (after_length, le-ltb n 1 some, lt-ltb command_most n l)
+          cut_short l = rw (after_length, le-ltb n 1 some, le-ltb command_most n few, lt-ltb left (command_at + n) l)
 
-          module _ (few : n ≤ command_most) where
-            pub cut_short : left < command_at + n → heads.Wait ≡ head_for (head_of s)
-            unfolding head_for last_tests
-            cut_short l = rw (after_length, le-ltb n 1 some, le-ltb command_most n few, lt-ltb left (command_at + n) l)
-
-            pub all_there : command_at + n ≤ left → heads.Whole n ≡ head_for (head_of s)
-            unfolding head_for last_tests
-            all_there l = rw (after_length, le-ltb n 1 some, le-ltb command_most n few, le-ltb left (command_at + n) l)
+          pub all_there : command_at + n ≤ left → heads.Whole n ≡ head_for (head_of s)
+          unfolding head_for last_tests
+          all_there l = rw (after_length, le-ltb n 1 some, le-ltb command_most n few, le-ltb left (command_at + n) l)

@@ -1,17 +1,20 @@
 -- Where reading stops: from a byte to skip on it stops where it stops from the next.
 use Rattle.std.specs.Prelude.{Option, None, Some}
 use mathlib.Core.Path.{◌≡◌, refl, sym, ap, ◌∙◌}
-use mathlib.Core.Bool.{Bool, true, false, cond, not, ◌&&◌, false≢true}
+use mathlib.Core.Bool.{Bool, true, false, cond, not, false≢true}
 use mathlib.Core.List.{List, ◌∷◌, ◌++◌}
 use Prim.Native.Nat.{ℕ, zero, suc, ◌+◌, ◌-◌, ◌≤◌, ◌<◌}
 use native.Mathlib.Nat.{add-zero, zero-add}
 use native.Mathlib.Numerals.{add-one}
 use native.Mathlib.Omega.{arith}
 use lib.Dec.{eqb, ltb}
-use lib.ListN.{length, take, drop, get_or, length-append, length-drop, drop_of_length-le, get_or-eq_default}
+use Rattle.std.specs.List.{prefix_len, position, position_or_len}
+use Rattle.std.specs.Prelude as core
+use Rattle.std.specs.Prelude.{◌==◌, nat_lt, unwrap_or}
+use Rattle.std.proofs.lemmas.List.Sums.{prefix_len-le-length, prefix_len_passes}
+use lib.ListN.{length, take, drop, get_or, length-append, length-take, length-drop, drop_of_length-le}
 use lib.Seq.{drop-cons, get_or-take, get_or-drop}
-use borrow.Author.Count.{below_more}
-use borrow.Author.Tests.{ltb-true, ltb-false, le-ltb, ne_eqb, eqb-true, eq-eqb}
+use borrow.Author.Tests.{ltb-true, ltb-false, le-ltb, ne_eqb, eqb-true}
 use Rattle.wire.specs.Lists.{or_else}
 use Rattle.feeder.specs.declared.record.Head.TheVariants as heads
 use Rattle.feeder.specs.declared.scan.Stop.{Stop}
@@ -153,14 +156,41 @@ pass_over s k (suc n) l h =
 pub pass_begins : (s : List ℕ) (from : ℕ) → from ≤ length s → UnmarkedUpTo s from from
 pass_begins s from l = record { ahead = omega arith; inside = l; unmarked = λ i a b h. absurd (omega arith) }
 
-pub pass_goes_on : (s : List ℕ) (from i : ℕ) → UnmarkedUpTo s from i → i < length s → (get_or s i 0 ≡ first_mark → ⊥)
-    → UnmarkedUpTo s from (i + 1)
-pass_goes_on s from i f l h =
+-- the place of the first byte that passes a test, or the end
+place_or_end : (p : ℕ → Bool) (s : List ℕ) → unwrap_or (position p s) (length s) ≡ position_or_len p s
+place_or_end p s = go (nat_lt (position_or_len p s) (length s)) refl
+  where
+    go : (t : Bool) → nat_lt (position_or_len p s) (length s) ≡ t
+        → unwrap_or (cond t (core.Some (position_or_len p s)) core.None) (length s) ≡ position_or_len p s
+    go true q = refl
+    go false q = omega (arith, ltb-false (position_or_len p s) (length s) q, prefix_len-le-length (λ b. not (p b)) s)
+
+pub pass_others : (s : List ℕ) (from : ℕ) → from ≤ length s → {o : core.Option ℕ} {n : ℕ}
+    → o ≡ position (λ b. b == first_mark) (take (length s - from) (drop from s)) → n ≡ unwrap_or o (length s - from)
+    → UnmarkedUpTo s from (from + n)
+pass_others s from l {n = n} q r =
     record {
-      ahead = omega (arith, f.ahead);
-      inside = omega arith;
-      unmarked = λ j a b. below_more (λ k. from ≤ k → Unmarked s k) i (λ k u v. f.unmarked k v u) (λ v e. absurd (h e)) j b a;
+      ahead = omega arith;
+      inside = omega (arith, e, long);
+      unmarked = λ i a b m. absurd (false≢true (other (i - from) i (omega arith) (omega (arith, e)) m));
     }
+  where
+    rest : List ℕ
+    rest = take (length s - from) (drop from s)
+
+    size : length rest ≡ length s - from
+    size = rw (length-take, length-drop) (omega arith)
+
+    e : n ≡ position_or_len (λ b. b == first_mark) rest
+    e = r ∙ rw q (ap (λ (k : ℕ). unwrap_or (position (λ b. b == first_mark) rest) k) (sym size)) ∙ place_or_end (λ b. b == first_mark) rest
+
+    long : prefix_len (λ b. not (eqb b first_mark)) rest ≤ length s - from
+    long = omega (arith, prefix_len-le-length (λ b. not (eqb b first_mark)) rest, length-take (length s - from) (drop from s))
+
+    other : (k i : ℕ) → from + k ≡ i → k < prefix_len (λ b. not (eqb b first_mark)) rest → get_or s i 0 ≡ first_mark → false ≡ true
+    other k i at b m =
+        let this : get_or rest k 0 ≡ first_mark = get_or-take (length s - from) (drop from s) k 0 (omega (arith, long)) ∙ get_or-drop from s k 0 ∙ rw at m in
+        rw this at (prefix_len_passes (λ b. not (eqb b first_mark)) rest k 0 b)
 
 -- bytes passed after others
 pub pass_on : (s : List ℕ) (from i r : ℕ) → UnmarkedUpTo s from i → UnmarkedUpTo s i r → UnmarkedUpTo s from r
@@ -200,30 +230,6 @@ pub record Looking (s next : List ℕ) (clear : Bool) (i : ℕ) : Type 0 where
   pub inside : i ≤ length s
   pub unmarked : clear ≡ true → (k : ℕ) → k < i → NoPair s next k
 
-pub look_begins : (s next : List ℕ) → Looking s next true 0
-look_begins s next = record { inside = omega arith; unmarked = λ z k l e. absurd (omega arith) }
-
-pub look_goes_on : (s next : List ℕ) (clear : Bool) (i : ℕ) → Looking s next clear i → i < length s
-    → Looking s next (clear && not (eqb (get_or s i 0) first_mark && eqb (get_or next i 0) second_mark)) (i + 1)
-look_goes_on s next clear i f l = record { inside = omega arith; unmarked = go clear f.unmarked }
-  where
-    go : (t : Bool) → (t ≡ true → (k : ℕ) → k < i → NoPair s next k) → (t && not (eqb (get_or s i 0) first_mark && eqb (get_or next i 0) second_mark)) ≡ true
-        → (k : ℕ) → k < i + 1 → NoPair s next k
-    go false g z = absurd (false≢true z)
-    go true g z =
-        below_more (NoPair s next) i (g refl)
-        (λ a b. false≢true (rw (eq-eqb (get_or s i 0) first_mark a, eq-eqb (get_or next i 0) second_mark b) at z))
-
-pub look_ends : (s next : List ℕ) (clear : Bool) (i : ℕ) → Looking s next clear i → length s ≤ i → clear ≡ true → UnmarkedPairs s next
-look_ends s next clear i f l z k e = go (ltb k i) refl
-  where
-    go : (t : Bool) → ltb k i ≡ t → get_or next k 0 ≡ second_mark → ⊥
-    go true q = f.unmarked z k (ltb-true k i q) e
-    go false q =
-        let past : length s ≤ k = omega (arith, ltb-false k i q) in
-        let n : ◌≡◌ {A = ℕ} 0 first_mark = sym (get_or-eq_default s 0 past) ∙ e in
-        absurd (omega arith)
-
 -- the next place in the waiting bytes is the one next to it
 pub next_waiting : (s : List ℕ) (at : ℕ) → at < length s → NextPlace s at (at + 1)
 next_waiting s at l = record { ahead = omega arith; inside = omega arith; stops_there = refl }
@@ -247,31 +253,28 @@ next_marked w p at r l f =
 
 -- ---- reading has come to a place
 
-pub record Scanning (w p : List ℕ) (at : ℕ) : Type 0 where
-  pub inside : at ≤ length w + length p
-  pub rest : stop_from at (w ++ p) ≡ stop_of (w ++ p)
+pub record Scanning (s : List ℕ) (at : ℕ) : Type 0 where
+  pub inside : at ≤ length s
+  pub rest : stop_from at s ≡ stop_of s
 
-pub scan_begins : (w p : List ℕ) → Scanning w p 0
-scan_begins w p = record { inside = omega arith; rest = stop_begins (w ++ p) }
+pub scan_begins : (s : List ℕ) → Scanning s 0
+scan_begins s = record { inside = omega arith; rest = stop_begins s }
 
-pub scan_ends : (w p : List ℕ) (at : ℕ) → Scanning w p at → length w + length p ≤ at → stops.Rest (length w + length p) ≡ stop_of (w ++ p)
-scan_ends w p at f l =
-    let e : length w + length p ≡ at = omega (arith, f.inside) in
-    rw e (stop_end (w ++ p) at (rw length-append l) ∙ f.rest)
+module _ (s : List ℕ) (at : ℕ) (f : Scanning s at) {n : ℕ} (all : n ≡ length s) where
+  pub scan_ends : n ≤ at → stops.Rest n ≡ stop_of s
+  scan_ends l =
+      let e : n ≡ at = omega (arith, all, f.inside) in
+      rw e (stop_end s at (omega arith) ∙ f.rest)
 
-module _ (w p : List ℕ) (at : ℕ) (f : Scanning w p at) (more : at < length w + length p) where
-  here : at < length (w ++ p)
-  here = rw length-append more
+  module _ (more : at < n) where
+    here : at < length s
+    here = omega arith
 
-  pub scan_whole : (n : ℕ) → heads.Whole n ≡ head_for (head_of (drop at (w ++ p))) → stops.Record at n ≡ stop_of (w ++ p)
-  scan_whole n e = stop_whole (w ++ p) at n here e ∙ f.rest
+    pub scan_whole : (size : ℕ) → heads.Whole size ≡ head_for (head_of (drop at s)) → stops.Record at size ≡ stop_of s
+    scan_whole size e = stop_whole s at size here e ∙ f.rest
 
-  pub scan_waits : heads.Wait ≡ head_for (head_of (drop at (w ++ p))) → stops.Rest at ≡ stop_of (w ++ p)
-  scan_waits e = stop_wait (w ++ p) at here e ∙ f.rest
+    pub scan_waits : heads.Wait ≡ head_for (head_of (drop at s)) → stops.Rest at ≡ stop_of s
+    scan_waits e = stop_wait s at here e ∙ f.rest
 
-  pub scan_goes_on : (r : ℕ) → heads.Skip ≡ head_for (head_of (drop at (w ++ p))) → NextPlace (w ++ p) at r → Scanning w p r
-  scan_goes_on r e n =
-      record {
-        inside = omega (arith, n.inside, length-append w p);
-        rest = sym (stop_skip (w ++ p) at here e ∙ n.stops_there) ∙ f.rest;
-      }
+    pub scan_goes_on : (r : ℕ) → heads.Skip ≡ head_for (head_of (drop at s)) → NextPlace s at r → Scanning s r
+    scan_goes_on r e n = record { inside = n.inside; rest = sym (stop_skip s at here e ∙ n.stops_there) ∙ f.rest }

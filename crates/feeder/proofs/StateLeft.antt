@@ -84,8 +84,7 @@ module _ (s : List ℕ) (some : length s ≡ 0 → ⊥) where
       go (whole n) q e = cc
       go wait q e = rw (all_wait s q) (sym (same_refl s))
 
-  -- any other head
-  head_tells : {k : codes.Head} → (k ≡ heads.Wait → ⊥) → k ≡ head_for (head_of (drop 0 (s ++ []))) → false ≡ same (divide s).rest s
+  pub head_tells : {k : codes.Head} → (k ≡ heads.Wait → ⊥) → k ≡ head_for (head_of (drop 0 (s ++ []))) → false ≡ same (divide s).rest s
   unfolding head_for told
   head_tells {k} other e = tells s some (go (head_of s) (rw append-nil at e))
     where
@@ -93,12 +92,6 @@ module _ (s : List ℕ) (some : length s ≡ 0 → ⊥) where
       go skip e = refl
       go (whole n) e = refl
       go wait e = absurd (other e)
-
-  pub head_skips : heads.Skip ≡ head_for (head_of (drop 0 (s ++ []))) → false ≡ same (divide s).rest s
-  head_skips = head_tells (λ z. impossible cc)
-
-  pub head_whole : (n : ℕ) → heads.Whole n ≡ head_for (head_of (drop 0 (s ++ []))) → false ≡ same (divide s).rest s
-  head_whole n = head_tells (λ z. impossible cc)
 
 -- ---- whether feeding leaves a state
 
@@ -121,16 +114,19 @@ module _ (s : List ℕ) (n : ℕ) where
     unfolding is_left every waiting_in
     tests = rw (bytes, eq-eqb (length s) waiting_most size, le-leb n waiting_most few)
 
-    pub left_dirty : {z : Bool} → z ≡ all_zero (take (length s - n) (drop n s)) → z ≡ false → false ≡ is_left (record { waiting = s; count = n })
-    left_dirty e h = rw (tests, ← tail_part n s, ← e, h) (go (same (divide (take n s)).rest (take n s)))
+    clean_tail : {z : Bool} → z ≡ all_zero (take (waiting_most - n) (drop n s)) → z ≡ all_zero (drop n s)
+    clean_tail e = e ∙ ap all_zero (rw (← size) (tail_part n s))
+
+    pub left_dirty : false ≡ all_zero (take (waiting_most - n) (drop n s)) → false ≡ is_left (record { waiting = s; count = n })
+    left_dirty e = rw (tests, ← clean_tail e) (go (same (divide (take n s)).rest (take n s)))
       where
         go : (a : Bool) → false ≡ a && false
         go true = refl
         go false = refl
 
-    pub left_clean : {z r : Bool} → z ≡ all_zero (take (length s - n) (drop n s)) → z ≡ true → r ≡ same (divide (take n s)).rest (take n s)
+    pub left_clean : true ≡ all_zero (take (waiting_most - n) (drop n s)) → {r : Bool} → r ≡ same (divide (take n s)).rest (take n s)
         → r ≡ is_left (record { waiting = s; count = n })
-    left_clean e h all = rw (tests, ← tail_part n s, ← e, h) (all ∙ go (same (divide (take n s)).rest (take n s)))
+    left_clean e all = rw (tests, ← clean_tail e) (all ∙ go (same (divide (take n s)).rest (take n s)))
       where
         go : (a : Bool) → a ≡ a && true
         go true = refl

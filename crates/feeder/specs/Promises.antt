@@ -1,7 +1,13 @@
 -- What the functions of feeder answer, in the terms of the other definitions.
-use Rattle.std.specs.Prelude.{◌≡◌, List, ℕ, ◌+◌, ◌≤◌, ◌<◌, length, drop, get_or}
+use Rattle.std.specs.Prelude.{Option, None, Some}
+use Rattle.std.specs.Prelude.{◌≡◌, List, ◌++◌, ℕ, ◌+◌, ◌≤◌, ◌<◌, length, drop, get_or, Result, Ok, Err}
 use Rattle.wire.specs.Lists.{or_else}
 use Rattle.feeder.specs.declared.Absorbed.{Absorbed}
+use Rattle.feeder.specs.declared.Fed.{Fed}
+use Rattle.feeder.specs.declared.Feeder.{Feeder}
+use Rattle.feeder.specs.declared.Refusal.{Refusal}
+use Rattle.feeder.specs.declared.Refusal.TheVariants as refusals
+use Rattle.feeder.specs.declared.record.Joined.{Joined}
 use Rattle.feeder.specs.declared.record.Head.{Head}
 use Rattle.feeder.specs.declared.record.Head.TheVariants as heads
 use Rattle.feeder.specs.declared.scan.Stop.{Stop}
@@ -10,7 +16,13 @@ use Rattle.feeder.specs.Record as paper
 use Rattle.feeder.specs.Record.{first_mark, second_mark, command_at, record_most}
 use Rattle.feeder.specs.Stream.{divide}
 use Rattle.feeder.specs.Absorb.{first_record}
-use Rattle.feeder.specs.Feed.{Answer}
+use Rattle.feeder.specs.Feed.{unfed}
+
+-- ---- the bytes that are read
+
+-- the waiting bytes and those of a piece as one list
+abbrev pub joined : Joined → List ℕ
+joined j = j.waiting.now ++ j.piece.now
 
 -- ---- the record's head
 
@@ -71,22 +83,20 @@ pub record Completing (w piece : List ℕ) (at size : ℕ) : Type 0 where
   pub inside : at + (command_at + size) ≤ length w + length piece
   pub most : command_at + size ≤ record_most
 
--- what a refused call on lent places answers
-abbrev pub refused_with : ℕ → ℕ → Absorbed
-refused_with n count = record { refusal = n; used = 0; skipped = 0; replied = 0; count = count }
+-- ---- the call
 
--- a call's answer, where one on lent places answers a and leaves these waiting bytes, this store and this reply buffer
-unfoldable pub answer_for : Absorbed → List ℕ → List ℕ → List ℕ → Answer
-answer_for a waiting store buffer =
-    record {
-      fed =
-          record {
-            refusal = a.refusal;
-            used = a.used;
-            skipped = a.skipped;
-            replied = a.replied;
-            feeder = record { waiting = waiting; count = a.count };
-          };
-      store = store;
-      buffer = buffer;
-    }
+-- the number of each refusal
+abbrev pub number_of : Refusal → ℕ
+number_of refusals.State = 1
+number_of refusals.Store = 2
+number_of refusals.Reply = 3
+
+-- the number of the refusal that is answered, if there is one
+abbrev pub refused_by : Result Unit Refusal → Option ℕ
+refused_by (Ok x) = None
+refused_by (Err r) = Some (number_of r)
+
+-- what a call answers, where one on a lent state answers this and leaves the state f
+abbrev pub fed_for : Result Absorbed Refusal → Feeder → Fed
+fed_for (Ok a) f = record { refusal = 0; used = a.used; skipped = a.skipped; replied = a.replied; feeder = f }
+fed_for (Err r) f = unfed (number_of r) f

@@ -1,5 +1,5 @@
 // Taking bytes: up to the first record completed, which is done, the piece's end or 65,536 bytes.
-ghost use Rattle.std.specs.Prelude.{◌≡◌, true, ◌++◌, ◌+◌, ◌≤◌, ◌<◌, length, take, drop};
+ghost use Rattle.std.specs.Prelude.{◌≡◌, true, ◌++◌, ◌+◌, ◌≤◌, ◌<◌, length, take, drop, Ok};
 ghost use Rattle.std.specs.Prelude.{Some};
 ghost use Rattle.wire.specs.Replies.{laid_over};
 ghost use Rattle.store.specs.Store.{well_formed};
@@ -9,12 +9,12 @@ ghost use Rattle.feeder.specs.Record.{command_at, record_of};
 ghost use Rattle.feeder.specs.State.{waiting_most, state_of, fresh, waiting_in, is_left};
 ghost use Rattle.feeder.specs.Absorb.{offered, absorb};
 ghost use Rattle.feeder.specs.Feed.{doing, answering};
-ghost use Rattle.feeder.specs.Promises.{Completing, answer_for};
+ghost use Rattle.feeder.specs.Promises.{Completing, fed_for};
 
-use crate::Absorbed;
-use crate::record::{CLOCK_AT, COMMAND_AT, LENGTH_AT, RECORD_MOST};
-use crate::scan::{Stop, first_stop};
+use crate::record::{CLOCK_AT, COMMAND_AT, Joined, LENGTH_AT, RECORD_MOST};
+use crate::scan::Stop;
 use crate::state::WAITING_MOST;
+use crate::{Absorbed, Feeder};
 use commands::Executed;
 use commands::execute::execute;
 use wire::bytes::{clear, copy, read_le};
@@ -111,69 +111,67 @@ fn complete(
     do_joined(waiting, piece, at, size, store, reply)
 }
 
-// Clears the bytes that wait; the places after them are zero.
-fn forget(waiting: &mut [u8], count: usize)
-    requires { is_left (record { waiting = waiting.now; count = count }) ≡ true }
-    ensures { record { waiting = waiting.exit.now; count = 0 } ≡ fresh }
-{
-    clear(&mut waiting[..count]);
-}
-
-// Leaves waiting what is left from a place on, where a piece completes no record; answers how many bytes wait.
-fn keep(waiting: &mut [u8], count: usize, piece: &[u8], at: usize) -> usize
-    requires count_value { is_left (record { waiting = waiting.now; count = count }) ≡ true }
-    requires at_bound { (at ≤ count + length piece.now) × (count + length piece.now ≤ at + waiting_most) }
-    ensures { let before = waiting_in (record { waiting = waiting.entry.now; count = count }) in
-        record { waiting = waiting.exit.now; count = result } ≡ state_of (drop at (before ++ piece.now)) }
-{
-    if at == 0 {
-        append(waiting, count, piece);
-        return count + piece.len();
+impl Feeder {
+    // Clears the bytes that wait.
+    fn forget(&mut self)
+        requires { is_left self.old ≡ true }
+        ensures { self.new ≡ fresh }
+    {
+        let count = self.count;
+        self.count = 0;
+        clear(&mut self.waiting[..count]);
     }
-    let mut rest = [0u8; WAITING_MOST];
-    gather(&waiting[..count], piece, at, &mut rest);
-    copy(&rest, waiting);
-    count + piece.len() - at
-}
 
-// Takes bytes of a piece where so many of the lent places wait, and does the record that they complete.
-pub fn absorb(
-    waiting: &mut [u8; WAITING_MOST],
-    count: usize,
-    piece: &[u8],
-    store: &mut [u8],
-    reply: &mut [u8],
-) -> Absorbed
-    requires count_value { is_left (record { waiting = waiting.now; count = count }) ≡ true }
-    requires store_value { (well_formed store.old ≡ true) × (buffer_least ≤ length reply.old) }
-    ensures { let before = waiting_in (record { waiting = waiting.entry.now; count = count }) in
-        answer_for result waiting.exit.now store.new reply.new
-        ≡ answering (absorb before piece.now) store.old reply.old }
-{
-    let places = &mut waiting[..];
-    let offered = offer(piece);
-    let stop = first_stop(&places[..count], offered);
-    match stop {
-        Stop::Record(at, size) => {
-            let done = complete(&places[..count], offered, at, size, store, reply);
-            let end = at + (COMMAND_AT + size);
-            forget(places, count);
-            Absorbed {
-                refusal: 0,
-                used: end - count,
-                skipped: at,
-                replied: done.replied,
-                count: 0,
-            }
+    // Leaves waiting what is left from a place on, where a piece completes no record.
+    fn keep(&mut self, piece: &[u8], at: usize)
+        requires count_value { is_left self.old ≡ true }
+        requires at_bound { let end = self.old.count + length piece.now in
+            (at ≤ end) × (end ≤ at + waiting_most) }
+        ensures { self.new ≡ state_of (drop at (waiting_in self.old ++ piece.now)) }
+    {
+        let count = self.count;
+        self.count = count + piece.len() - at;
+        if at == 0 {
+            append(&mut self.waiting, count, piece);
+            return;
         }
-        Stop::Rest(from) => {
-            let kept = keep(places, count, offered, from);
-            Absorbed {
-                refusal: 0,
-                used: offered.len(),
-                skipped: from,
-                replied: 0,
-                count: kept,
+        let mut rest = [0u8; WAITING_MOST];
+        gather(&self.waiting[..count], piece, at, &mut rest);
+        copy(&rest, &mut self.waiting);
+    }
+
+    // Takes bytes of a piece, and does the record that they complete.
+    pub fn absorb(&mut self, piece: &[u8], store: &mut [u8], reply: &mut [u8]) -> Absorbed
+        requires count_value { is_left self.old ≡ true }
+        requires store_value { (well_formed store.old ≡ true) × (buffer_least ≤ length reply.old) }
+        ensures { record { fed = fed_for (Ok result) self.new; store = store.new; buffer = reply.new }
+            ≡ answering (absorb (waiting_in self.old) piece.now) store.old reply.old }
+    {
+        let offered = offer(piece);
+        let count = self.count;
+        let waiting = &self.waiting[..count];
+        let bytes = Joined {
+            waiting,
+            piece: offered,
+        };
+        match bytes.first_stop() {
+            Stop::Record(at, size) => {
+                let done = complete(waiting, offered, at, size, store, reply);
+                let end = at + (COMMAND_AT + size);
+                self.forget();
+                Absorbed {
+                    used: end - count,
+                    skipped: at,
+                    replied: done.replied,
+                }
+            }
+            Stop::Rest(from) => {
+                self.keep(offered, from);
+                Absorbed {
+                    used: offered.len(),
+                    skipped: from,
+                    replied: 0,
+                }
             }
         }
     }

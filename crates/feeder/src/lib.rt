@@ -28,12 +28,18 @@ pub struct Fed {
     pub feeder: Feeder,
 }
 
-// The same where the places of the waiting bytes are lent: of the state only how many then wait.
+// Why a call is refused: a state that no feeding leaves, a store that is not well formed, or a reply buffer that is too small.
+#[derive(Clone, Copy, Debug, PartialEq, Eq)]
+pub enum Refusal {
+    State,
+    Store,
+    Reply,
+}
+
+// What a call on a lent state that is not refused says: bytes of its piece used, bytes skipped and the reply's length.
 #[derive(Clone, Copy)]
 pub struct Absorbed {
-    pub refusal: u32,
     pub used: usize,
     pub skipped: usize,
     pub replied: usize,
-    pub count: usize,
 }

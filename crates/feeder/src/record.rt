@@ -1,7 +1,7 @@
 // What stands at a place of the waiting bytes and those of a piece, taken as one list.
 ghost use Rattle.std.specs.Prelude.{◌≡◌, ◌++◌, ◌+◌, ◌<◌, length, drop, get_or};
 ghost use Rattle.feeder.specs.Record.{head_of};
-ghost use Rattle.feeder.specs.Promises.{head_for};
+ghost use Rattle.feeder.specs.Promises.{head_for, joined};
 
 // The two bytes of the mark.
 pub const FIRST_MARK: u8 = 0x45;
@@ -31,47 +31,59 @@ pub enum Head {
     Wait,
 }
 
-// Byte i of the list.
-fn byte_at(waiting: &[u8], piece: &[u8], i: usize) -> u8
-    requires { i < length waiting.now + length piece.now }
-    ensures { result ≡ get_or (waiting.now ++ piece.now) i 0 }
-{
-    if i < waiting.len() {
-        return waiting[i];
-    }
-    let j = i - waiting.len();
-    piece[j]
+// The bytes that wait and those of a piece, taken as one list.
+#[derive(Clone, Copy)]
+pub struct Joined<'a> {
+    pub waiting: &'a [u8],
+    pub piece: &'a [u8],
 }
 
-// What stands at a place of the list.
-pub fn head_at(waiting: &[u8], piece: &[u8], at: usize) -> Head
-    requires { at < length waiting.now + length piece.now }
-    ensures { result ≡ head_for (head_of (drop at (waiting.now ++ piece.now))) }
-{
-    if byte_at(waiting, piece, at) != FIRST_MARK {
-        return Head::Skip;
+impl Joined<'_> {
+    pub fn len(&self) -> usize
+        ensures { result ≡ length (joined self.now) }
+    {
+        self.waiting.len() + self.piece.len()
     }
-    let left = waiting.len() + piece.len() - at;
-    if left < 2 {
-        return Head::Wait;
+
+    // Byte i of the list.
+    fn byte_at(&self, i: usize) -> u8
+        requires { i < length (joined self.now) }
+        ensures { result ≡ get_or (joined self.now) i 0 }
+    {
+        let before = self.waiting.len();
+        if i < before {
+            return self.waiting[i];
+        }
+        self.piece[i - before]
     }
-    if byte_at(waiting, piece, at + 1) != SECOND_MARK {
-        return Head::Skip;
+
+    // What stands at a place of the list.
+    pub fn head_at(&self, at: usize) -> Head
+        requires { at < length (joined self.now) }
+        ensures { result ≡ head_for (head_of (drop at (joined self.now))) }
+    {
+        if self.byte_at(at) != FIRST_MARK {
+            return Head::Skip;
+        }
+        let left = self.len() - at;
+        if left < 2 {
+            return Head::Wait;
+        }
+        if self.byte_at(at + 1) != SECOND_MARK {
+            return Head::Skip;
+        }
+        if left < COMMAND_AT {
+            return Head::Wait;
+        }
+        let low = self.byte_at(at + LENGTH_AT) as usize;
+        let high = self.byte_at(at + LENGTH_HIGH_AT) as usize;
+        let size = low + 256 * high;
+        if !(1..=COMMAND_MOST).contains(&size) {
+            return Head::Skip;
+        }
+        if left < COMMAND_AT + size {
+            return Head::Wait;
+        }
+        Head::Whole(size)
     }
-    if left < COMMAND_AT {
-        return Head::Wait;
-    }
-    let low = byte_at(waiting, piece, at + LENGTH_AT) as usize;
-    let high = byte_at(waiting, piece, at + LENGTH_HIGH_AT) as usize;
-    let size = low + 256 * high;
-    if size < 1 {
-        return Head::Skip;
-    }
-    if COMMAND_MOST < size {
-        return Head::Skip;
-    }
-    if left < COMMAND_AT + size {
-        return Head::Wait;
-    }
-    Head::Whole(size)
 }

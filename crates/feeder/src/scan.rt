@@ -1,8 +1,10 @@
 // Where reading stops in the waiting bytes and those of a piece, taken as one list.
-ghost use Rattle.std.specs.Prelude.{◌≡◌, true, ◌++◌, ◌+◌, ◌≤◌, ◌<◌, length};
-ghost use Rattle.feeder.specs.Promises.{block_size, UnmarkedPairs, UnmarkedUpTo, NextPlace, stop_of};
+ghost use Rattle.std.specs.Prelude.{◌≡◌, ◌==◌, true, ◌++◌, ◌+◌, ◌≤◌, ◌<◌, length};
+ghost use Rattle.std.specs.List.{position};
+ghost use Rattle.feeder.specs.Record.{first_mark};
+ghost use Rattle.feeder.specs.Promises.{block_size, UnmarkedPairs, UnmarkedUpTo, NextPlace, joined, stop_of};
 
-use crate::record::{FIRST_MARK, Head, SECOND_MARK, head_at};
+use crate::record::{FIRST_MARK, Head, Joined, SECOND_MARK};
 
 // The first record, by its place and its command's size, or where the rest that waits starts.
 #[derive(Clone, Copy)]
@@ -22,10 +24,8 @@ fn is_unmarked(block: &[u8], following: &[u8]) -> bool
     ensures { result ≡ true → UnmarkedPairs block.now following.now }
 {
     let mut unmarked = true;
-    let mut i = 0;
-    while i < block.len() {
-        unmarked = unmarked & !((block[i] == FIRST_MARK) & (following[i] == SECOND_MARK));
-        i += 1;
+    for (i, byte) in block.iter().enumerate() {
+        unmarked = unmarked & !((*byte == FIRST_MARK) & (following[i] == SECOND_MARK));
     }
     unmarked
 }
@@ -46,57 +46,51 @@ fn pass_blocks(piece: &[u8], from: usize) -> usize
     i
 }
 
-// The next byte of a piece from a place on that begins a mark, or the end, byte by byte.
-fn next_byte(piece: &[u8], from: usize) -> usize
-    requires { from ≤ length piece.now }
-    ensures { UnmarkedUpTo piece.now from result }
+// The first byte that begins a mark, byte by byte.
+fn first_byte(bytes: &[u8]) -> Option<usize>
+    ensures { result ≡ position (λ b. b == first_mark) bytes.now }
 {
-    let mut i = from;
-    while i < piece.len() {
-        if piece[i] == FIRST_MARK {
-            return i;
-        }
-        i += 1;
-    }
-    i
+    bytes.iter().position(|byte| *byte == FIRST_MARK)
 }
 
-// The same, past all blocks in which no mark begins.
+// The next byte of a piece from a place on that begins a mark, or the end, past all blocks in which no mark begins.
 fn next_mark(piece: &[u8], from: usize) -> usize
     requires { from ≤ length piece.now }
     ensures { UnmarkedUpTo piece.now from result }
 {
     let i = pass_blocks(piece, from);
-    next_byte(piece, i)
+    i + first_byte(&piece[i..]).unwrap_or(piece.len() - i)
 }
 
-// The place to look at after one whose byte is skipped. In the piece all bytes up to the next one that begins a mark
-// are passed over.
-fn next_place(waiting: &[u8], piece: &[u8], at: usize) -> usize
-    requires { at < length waiting.now + length piece.now }
-    ensures { NextPlace (waiting.now ++ piece.now) at result }
-{
-    let next = at + 1;
-    if next < waiting.len() {
-        return next;
-    }
-    let before = waiting.len();
-    let from = next - before;
-    before + next_mark(piece, from)
-}
-
-pub fn first_stop(waiting: &[u8], piece: &[u8]) -> Stop
-    ensures { result ≡ stop_of (waiting.now ++ piece.now) }
-{
-    let end = waiting.len() + piece.len();
-    let mut at = 0;
-    while at < end {
-        let head = head_at(waiting, piece, at);
-        match head {
-            Head::Whole(size) => return Stop::Record(at, size),
-            Head::Wait => return Stop::Rest(at),
-            Head::Skip => at = next_place(waiting, piece, at),
+impl Joined<'_> {
+    // The place to look at after one whose byte is skipped. In the piece all bytes up to the next one that begins a mark
+    // are passed over.
+    fn next_place(&self, at: usize) -> usize
+        requires { at < length (joined self.now) }
+        ensures { NextPlace (joined self.now) at result }
+    {
+        let next = at + 1;
+        let before = self.waiting.len();
+        if next < before {
+            return next;
         }
+        let from = next - before;
+        before + next_mark(self.piece, from)
     }
-    Stop::Rest(end)
+
+    pub fn first_stop(&self) -> Stop
+        ensures { result ≡ stop_of (joined self.now) }
+    {
+        let end = self.len();
+        let mut at = 0;
+        while at < end {
+            let head = self.head_at(at);
+            match head {
+                Head::Whole(size) => return Stop::Record(at, size),
+                Head::Wait => return Stop::Rest(at),
+                Head::Skip => at = self.next_place(at),
+            }
+        }
+        Stop::Rest(end)
+    }
 }

@@ -5,39 +5,26 @@ ghost use Rattle.feeder.specs.Stream.{divide};
 ghost use Rattle.feeder.specs.State.{waiting_most, fresh, is_left};
 
 use crate::Feeder;
-use crate::record::{Head, head_at};
+use crate::record::{Head, Joined};
 use wire::bytes::all_zero;
 
 // The most bytes that wait.
 pub const WAITING_MOST: usize = 1035;
 
 // Whether bytes, read alone, all wait.
+#[tactic(auto, using(crate::proofs::StateLeft::none_waits, crate::proofs::StateLeft::head_waits, crate::proofs::StateLeft::head_tells))]
 fn all_wait(s: &[u8]) -> bool
     ensures { result ≡ same (divide s.now).rest s.now }
 {
-    if s.len() == 0 {
+    if s.is_empty() {
         return true;
     }
-    let head = head_at(s, &s[..0], 0);
-    match head {
-        Head::Wait => true,
-        Head::Skip => false,
-        Head::Whole(_) => false,
-    }
-}
-
-// Whether feeding leaves a state of these places, of which so many wait.
-pub fn feeding_leaves(waiting: &[u8], count: usize) -> bool
-    requires { length waiting.now ≡ waiting_most }
-    ensures { result ≡ is_left (record { waiting = waiting.entry.now; count = count }) }
-{
-    if WAITING_MOST < count {
-        return false;
-    }
-    if !all_zero(&waiting[count..]) {
-        return false;
-    }
-    all_wait(&waiting[..count])
+    let bytes = Joined {
+        waiting: s,
+        piece: &s[..0],
+    };
+    let head = bytes.head_at(0);
+    matches!(head, Head::Wait)
 }
 
 impl Feeder {
@@ -49,5 +36,18 @@ impl Feeder {
             waiting: [0u8; WAITING_MOST],
             count: 0,
         }
+    }
+
+    // Whether feeding leaves this state.
+    pub fn is_left(&self) -> bool
+        ensures { result ≡ is_left self.now }
+    {
+        if WAITING_MOST < self.count {
+            return false;
+        }
+        if !all_zero(&self.waiting[self.count..]) {
+            return false;
+        }
+        all_wait(&self.waiting[..self.count])
     }
 }

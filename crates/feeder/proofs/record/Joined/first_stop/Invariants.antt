@@ -1,11 +1,12 @@
-use Prim.Native.Nat.{◌+◌, ◌-◌}
+use Prim.Native.Nat.{◌-◌}
 use lib.ListN.{length}
+use Rattle.feeder.specs.Promises.{joined}
 use Rattle.feeder.proofs.ScanStops.{Scanning}
-use Rattle.feeder.proofs.scan.first_stop.Given as goal
+use Rattle.feeder.proofs.record.Joined.first_stop.Given as goal
 
 -- From `at` on reading stops where it stops from the start. The measure is what is left of the bytes.
 abbrev pub invariant-loop-at : goal.invariant-loop-at
-invariant-loop-at l = Scanning l.waiting l.piece l.at
+invariant-loop-at l = Scanning (joined l.self) l.at
 
 abbrev pub decreases-loop-at : goal.decreases-loop-at
-decreases-loop-at l = length l.waiting + length l.piece - l.at
+decreases-loop-at l = length (joined l.self) - l.at

@@ -1,6 +1,0 @@
-use Rattle.feeder.specs.Promises.{answer_for}
-use Rattle.feeder.proofs.Feeder.feed.Goals as goal
-
-pub returns : goal.returns
-unfolding answer_for
-returns c = c.feed_lent-taken.ensures
