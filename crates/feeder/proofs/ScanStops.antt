@@ -9,7 +9,6 @@ use native.Mathlib.Numerals.{add-one}
 use native.Mathlib.Omega.{arith}
 use lib.Dec.{eqb, ltb}
 use Rattle.std.specs.List.{prefix_len, position, position_or_len}
-use Rattle.std.specs.Prelude as core
 use Rattle.std.specs.Prelude.{◌==◌, nat_lt, unwrap_or}
 use Rattle.std.proofs.lemmas.List.Sums.{prefix_len-le-length, prefix_len_passes}
 use lib.ListN.{length, take, drop, get_or, length-append, length-take, length-drop, drop_of_length-le}
@@ -161,7 +160,7 @@ place_or_end : (p : ℕ → Bool) (s : List ℕ) → unwrap_or (position p s) (l
 place_or_end p s = go (nat_lt (position_or_len p s) (length s)) refl
   where
     go : (t : Bool) → nat_lt (position_or_len p s) (length s) ≡ t
-        → unwrap_or (cond t (core.Some (position_or_len p s)) core.None) (length s) ≡ position_or_len p s
+        → unwrap_or (cond t (Some (position_or_len p s)) None) (length s) ≡ position_or_len p s
     go true q = refl
     go false q = omega (arith, ltb-false (position_or_len p s) (length s) q, prefix_len-le-length (λ b. not (p b)) s)
 
