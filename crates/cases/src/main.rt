@@ -2,52 +2,33 @@
 // fresh feeder, uncut and in pieces of 7 bytes and of 1, and writes in how many cases replies, skipped bytes, waiting bytes and store are the case's.
 #![tactic(auto)]
 
-ghost use Rattle.std.specs.Prelude.{◌<◌, ◌≤◌};
+ghost use Rattle.std.specs.Prelude.{◌<◌, ◌≤◌, length};
 
 use commands::execute::BUFFER_LEAST;
 use feeder::{Fed, Feeder};
-use std::num::{wrapping_add_u64, wrapping_add_usize};
-use wire::bytes::{copy, equal, read_le};
+use programs::{take_sized, unused};
+use std::io::{self, Read};
 
-// The descriptors of the standard streams.
-const STDIN: i32 = 0;
+const INPUT: u64 = 400000;
 
-const STDOUT: i32 = 1;
-
-const INPUT: usize = 400000;
-
-// The bytes of a part's size, and the most that a part has.
-const SIZE: usize = 4;
-
+// The most bytes that a case's store has.
 const MOST: usize = 1500;
-
-const NUMBER: usize = 8;
-
-const REPLY: usize = BUFFER_LEAST;
-
-// A part of the input: where it starts and ends.
-#[derive(Clone, Copy)]
-struct Part {
-    start: usize,
-    end: usize,
-}
 
 // A case: the store before, the stream, and the answers.
 #[derive(Clone, Copy)]
-struct Case {
-    store: Part,
-    stream: Part,
-    replies: Part,
-    skipped: Part,
-    waiting: Part,
-    after: Part,
+struct Case<'a> {
+    store: &'a [u8],
+    stream: &'a [u8],
+    replies: &'a [u8],
+    skipped: u64,
+    waiting: &'a [u8],
+    after: &'a [u8],
 }
 
-// What the calls so far come to: whether each was taken and replied as expected, the replies' length, the bytes skipped, and the state.
+// What the calls so far, each taken and replied as expected, come to: the replies that are left, the bytes skipped, and the state.
 #[derive(Clone, Copy)]
-struct Run {
-    agrees: bool,
-    replied: usize,
+struct Run<'a> {
+    replies: &'a [u8],
     skipped: u64,
     feeder: Feeder,
 }
@@ -61,252 +42,146 @@ struct Score {
     ones: u64,
 }
 
-// So many bytes at a place, or none at the input's end where it has fewer.
-fn bytes_at(input: &[u8], at: usize, size: usize) -> Part {
-    let n = input.len();
-    if n < at {
-        return Part { start: n, end: n };
-    }
-    if n - at < size {
-        return Part { start: n, end: n };
-    }
-    Part {
-        start: at,
-        end: at + size,
+// The part at the front, which stands after its size, and what follows it; nothing where the input is cut short.
+fn take_part(input: &[u8]) -> (&[u8], &[u8])
+    ensures any { length result.1.now ≤ length input.now }
+    ensures some { 0 < length input.now → length result.1.now < length input.now }
+{
+    take_sized(input).unwrap_or((&[], &[]))
+}
+
+// The number at the front and what follows it; 0 and nothing where the input is cut short.
+fn take_number(input: &[u8]) -> (u64, &[u8])
+    ensures { length result.1.now ≤ length input.now }
+{
+    match input.split_first_chunk::<8>() {
+        Some((number, rest)) => (u64::from_le_bytes(*number), rest),
+        None => (0, &[]),
     }
 }
 
-// The bytes of a part, none where it is not inside.
-fn bytes_of(input: &[u8], part: Part) -> &[u8] {
-    let start = part.start;
-    let end = part.end;
-    if end < start {
-        return &input[..0];
-    }
-    if input.len() < end {
-        return &input[..0];
-    }
-    &input[start..end]
-}
-
-// The number that a part of at most 8 bytes says.
-fn number_of(input: &[u8], part: Part) -> u64 {
-    let s = bytes_of(input, part);
-    if NUMBER < s.len() {
-        return 0;
-    }
-    read_le(s)
-}
-
-// The part that stands at a place, after its size.
-fn part_at(input: &[u8], at: usize) -> Part {
-    let head = bytes_at(input, at, SIZE);
-    let size = number_of(input, head) as usize;
-    bytes_at(input, head.end, size)
-}
-
-// The case that stands at a place.
-fn case_at(input: &[u8], at: usize) -> Case {
-    let store = part_at(input, at);
-    let stream = part_at(input, store.end);
-    let replies = part_at(input, stream.end);
-    let skipped = bytes_at(input, replies.end, NUMBER);
-    let waiting = part_at(input, skipped.end);
-    let after = part_at(input, waiting.end);
-    Case {
+// The case at the front, and what follows it.
+fn take_case(input: &[u8]) -> (Case<'_>, &[u8])
+    ensures { 0 < length input.now → length result.1.now < length input.now }
+{
+    let (store, rest) = take_part(input);
+    let (stream, rest) = take_part(rest);
+    let (replies, rest) = take_part(rest);
+    let (skipped, rest) = take_number(rest);
+    let (waiting, rest) = take_part(rest);
+    let (after, rest) = take_part(rest);
+    let case = Case {
         store,
         stream,
         replies,
         skipped,
         waiting,
         after,
-    }
+    };
+    (case, rest)
 }
 
-// The first bytes, none where there are fewer.
-fn first(s: &[u8], size: usize) -> &[u8] {
-    bytes_of(s, bytes_at(s, 0, size))
-}
-
-// Whether bytes stand at a place of others.
-fn stands_at(s: &[u8], all: &[u8], at: usize) -> bool {
-    let part = bytes_at(all, at, s.len());
-    equal(s, bytes_of(all, part))
-}
-
-// Whether a call was taken, and replied as the replies go on.
-fn goes_on(fed: Fed, reply: &[u8], replies: &[u8], at: usize) -> bool {
+// One call more; none where it was refused, or replied otherwise than expected.
+fn with_call<'a>(run: Run<'a>, fed: Fed, reply: &[u8]) -> Option<Run<'a>> {
     if fed.refusal != 0 {
-        return false;
+        return None;
     }
-    stands_at(first(reply, fed.replied), replies, at)
+    Some(Run {
+        replies: run.replies.strip_prefix(reply.get(..fed.replied)?)?,
+        skipped: run.skipped.wrapping_add(fed.skipped as u64),
+        feeder: fed.feeder,
+    })
 }
 
-// One call more.
-fn with_call(run: Run, fed: Fed, reply: &[u8], replies: &[u8]) -> Run {
-    let good = goes_on(fed, reply, replies, run.replied);
-    let feeder = fed.feeder;
-    Run {
-        agrees: run.agrees && good,
-        replied: wrapping_add_usize(run.replied, fed.replied),
-        skipped: wrapping_add_u64(run.skipped, fed.skipped as u64),
-        feeder,
-    }
-}
-
-// So many bytes further, but at most to the end; to the end where they are none.
-fn advance(at: usize, end: usize, bytes: usize) -> usize
-    requires { at < end }
-    ensures { (at < result) × (result ≤ end) }
-{
-    if bytes == 0 {
-        return end;
-    }
-    if end - at < bytes {
-        return end;
-    }
-    at + bytes
-}
-
-// Feeds a stream, each call offered the next `cut` bytes, all of the rest where that is 0.
-fn feed_cut(stream: &[u8], cut: usize, replies: &[u8], store: &mut [u8], reply: &mut [u8]) -> Run {
+// Feeds a case's stream, each call offered at most the next `cut` bytes.
+fn feed_cut<'a>(case: Case<'a>, cut: usize, store: &mut [u8], reply: &mut [u8]) -> Option<Run<'a>> {
     let mut run = Run {
-        agrees: true,
-        replied: 0,
+        replies: case.replies,
         skipped: 0,
         feeder: Feeder::fresh(),
     };
-    let mut at = 0;
-    while at < stream.len() {
-        let end = advance(at, stream.len(), cut);
-        let feeder = run.feeder;
-        let fed = feeder.feed(&stream[at..end], store, reply);
-        run = with_call(run, fed, reply, replies);
-        at = advance(at, stream.len(), fed.used);
+    let mut rest = case.stream;
+    while !rest.is_empty() {
+        let piece = &rest[..cut.min(rest.len())];
+        let fed = run.feeder.feed(piece, store, reply);
+        run = with_call(run, fed, reply)?;
+        rest = unused(rest, fed.used);
     }
-    run
-}
-
-// Whether the bytes that wait are those.
-fn waits(feeder: Feeder, waiting: &[u8]) -> bool {
-    let bytes = feeder.waiting;
-    equal(first(&bytes, feeder.count), waiting)
+    Some(run)
 }
 
 // Whether a run comes to a case's replies, skipped bytes and waiting bytes.
-fn comes_to(run: Run, input: &[u8], case: Case) -> bool {
-    if !run.agrees {
-        return false;
-    }
-    let replies = bytes_of(input, case.replies);
-    if run.replied != replies.len() {
-        return false;
-    }
-    if run.skipped != number_of(input, case.skipped) {
-        return false;
-    }
-    waits(run.feeder, bytes_of(input, case.waiting))
+fn comes_to(run: Run<'_>, case: Case<'_>) -> bool {
+    run.replies.is_empty()
+        && run.skipped == case.skipped
+        && run.feeder.waiting.get(..run.feeder.count) == Some(case.waiting)
 }
 
 // Whether a case's stream comes to its answers on a copy of its store.
-fn agrees_on(input: &[u8], case: Case, cut: usize, store: &mut [u8]) -> bool {
-    let before = bytes_of(input, case.store);
-    if before.len() != store.len() {
+fn agrees(case: Case<'_>, cut: usize) -> bool {
+    let size = case.store.len();
+    if MOST < size {
         return false;
     }
-    copy(before, store);
-    let stream = bytes_of(input, case.stream);
-    let replies = bytes_of(input, case.replies);
-    let mut reply = [0u8; REPLY];
-    let run = feed_cut(stream, cut, replies, store, &mut reply);
-    if !comes_to(run, input, case) {
-        return false;
-    }
-    equal(store, bytes_of(input, case.after))
-}
-
-// Whether a case agrees, fed in pieces of `cut` bytes, uncut where that is 0.
-fn agrees(input: &[u8], case: Case, cut: usize) -> bool {
     let mut space = [0u8; MOST];
-    let before = bytes_of(input, case.store);
-    let n = before.len();
-    if MOST < n {
-        return false;
+    let store = &mut space[..size];
+    store.copy_from_slice(case.store);
+    let mut reply = [0u8; BUFFER_LEAST];
+    match feed_cut(case, cut, store, &mut reply) {
+        Some(run) => comes_to(run, case) && *store == *case.after,
+        None => false,
     }
-    agrees_on(input, case, cut, &mut space[0..n])
 }
 
-fn say(name: &[u8], n: u64, end: &[u8]) {
-    io::write_all(STDOUT, name);
-    io::print_decimal(STDOUT, n);
-    io::write_all(STDOUT, end);
-}
-
-// 1 where a case agrees; else 0, and it says which case differs.
-fn try_cut(input: &[u8], case: Case, number: u64, cut: usize) -> u64 {
-    if agrees(input, case, cut) {
-        return 1;
+// 1 where a case agrees, fed uncut or in pieces; else 0, and it says which case differs.
+fn try_cut(rt: &impl Print, case: Case<'_>, number: u64, cut: Option<usize>) -> io::Result<u64> {
+    if agrees(case, cut.unwrap_or(usize::MAX)) {
+        return Ok(1);
     }
-    say(b"case ", number, b" differs ");
-    if cut == 0 {
-        io::write_all(STDOUT, b"uncut\n");
-        return 0;
+    match cut {
+        None => println!(rt; "case {number} differs uncut")?,
+        Some(cut) => println!(rt; "case {number} differs in pieces of {cut}")?,
     }
-    say(b"in pieces of ", cut as u64, b"\n");
-    0
+    Ok(0)
 }
 
 // One case more, tried each way.
-fn with_case(score: Score, input: &[u8], case: Case) -> Score {
-    let number = wrapping_add_u64(score.cases, 1);
-    let uncut = try_cut(input, case, number, 0);
-    let sevens = try_cut(input, case, number, 7);
-    let ones = try_cut(input, case, number, 1);
-    Score {
+fn with_case(rt: &impl Print, score: Score, case: Case<'_>) -> io::Result<Score> {
+    let number = score.cases.wrapping_add(1);
+    let uncut = try_cut(rt, case, number, None)?;
+    let sevens = try_cut(rt, case, number, Some(7))?;
+    let ones = try_cut(rt, case, number, Some(1))?;
+    Ok(Score {
         cases: number,
-        uncut: wrapping_add_u64(score.uncut, uncut),
-        sevens: wrapping_add_u64(score.sevens, sevens),
-        ones: wrapping_add_u64(score.ones, ones),
-    }
+        uncut: score.uncut.wrapping_add(uncut),
+        sevens: score.sevens.wrapping_add(sevens),
+        ones: score.ones.wrapping_add(ones),
+    })
 }
 
-// The place after a case, the end where the input is cut short.
-fn after_case(case: Case, at: usize, end: usize) -> usize
-    requires { at < end }
-    ensures { (at < result) × (result ≤ end) }
-{
-    let after = case.after.end;
-    if after <= at {
-        return end;
-    }
-    if end < after {
-        return end;
-    }
-    after
-}
-
-fn try_all(input: &[u8]) -> Score {
+fn try_all(rt: &impl Print, input: &[u8]) -> io::Result<()> {
     let mut score = Score {
         cases: 0,
         uncut: 0,
         sevens: 0,
         ones: 0,
     };
-    let mut at = 0;
-    while at < input.len() {
-        let case = case_at(input, at);
-        score = with_case(score, input, case);
-        at = after_case(case, at, input.len());
+    let mut rest = input;
+    while !rest.is_empty() {
+        let (case, after) = take_case(rest);
+        score = with_case(rt, score, case)?;
+        rest = after;
     }
-    score
+    print!(rt; "{} cases: {} agree uncut, ", score.cases, score.uncut)?;
+    println!(rt;
+        "{} in pieces of 7, {} in pieces of 1",
+        score.sevens, score.ones
+    )
 }
 
-fn main() {
-    let mut space = [0u8; INPUT];
-    let n = io::read_full(STDIN, &mut space);
-    let score = try_all(&space[..n]);
-    say(b"", score.cases, b" cases: ");
-    say(b"", score.uncut, b" agree uncut, ");
-    say(b"", score.sevens, b" in pieces of 7, ");
-    say(b"", score.ones, b" in pieces of 1\n");
+// A failed read is the input's end, and a failed write the program's.
+fn main(rt: HostRuntime) {
+    let mut input = Vec::new(rt.alloc());
+    let _ = rt.reader().take(INPUT).read_to_end(&mut input);
+    let _ = try_all(&rt, input.as_slice());
 }

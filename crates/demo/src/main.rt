@@ -11,33 +11,25 @@
 // Any other line is written as it stands.
 #![tactic(auto)]
 
-ghost use Rattle.std.specs.Prelude.{◌≡◌, true, ◌≤◌, ◌<◌, length};
-ghost use Rattle.store.specs.Store.{well_formed, slot_count};
-ghost use Rattle.store.specs.Promises.{Held};
+ghost use Rattle.std.specs.Prelude.{◌-◌, ◌≤◌, length};
 
 use commands::execute::BUFFER_LEAST;
 use compare::Which;
 use compare::listing::compare;
 use compare::newer::{newer, newer_in};
 use feeder::{Fed, Feeder};
+use programs::{put_command, show_slots, unused};
+use std::io::{self, Read};
 use store::check::well_formed;
 use store::layout::{HEADER_SIZE, SLOT_SIZE, TIME_LIMIT};
 use store::read;
-use wire::bytes::{clear, copy, equal, write_le};
+use wire::bytes::write_le;
 use wire::integers::read_natural;
-use wire::replies::{put_bulk, put_header};
 
-// The descriptors of the standard streams.
-const STDIN: i32 = 0;
-
-const STDOUT: i32 = 1;
-
-const SCRIPT: usize = 16384;
+const SCRIPT: u64 = 16384;
 
 // A store of two slots.
 const STORE: usize = HEADER_SIZE + 2 * SLOT_SIZE;
-
-const REPLY: usize = BUFFER_LEAST;
 
 // A record: mark, clock and length in 12 bytes, and at most 1,024 more.
 const RECORD: usize = 1036;
@@ -47,512 +39,272 @@ const COMMAND: usize = 12;
 // 45 57, low byte first.
 const MARK: u64 = 0x5745;
 
-// The longest word of a command.
+// The most words of a command, and the longest.
+const WORDS: usize = 64;
+
 const WORD: usize = 99;
 
-// The feeder, and the size of pieces, 0 where records come whole.
-#[derive(Clone, Copy)]
-struct Stage {
+// The feeder, the size of pieces where records do not come whole, the two stores, and the place of a reply.
+#[derive(Drop)]
+struct Play {
     feeder: Feeder,
-    cut: usize,
+    cut: Option<usize>,
+    store: [u8; STORE],
+    other: [u8; STORE],
+    reply: [u8; BUFFER_LEAST],
 }
 
 // ---- text
 
-fn put(text: &[u8]) {
-    io::write_all(STDOUT, text);
-}
-
 // A line.
-fn say(before: &[u8], text: &[u8]) {
-    put(before);
-    put(text);
-    put(b"\n");
-}
-
-fn put_number(n: u64, end: &[u8]) {
-    io::print_decimal(STDOUT, n);
-    put(end);
-}
-
-// The place of a byte at or after a place, the end where there is none.
-fn seek(s: &[u8], from: usize, byte: u8) -> usize
-    requires { from ≤ length s.now }
-    ensures { (from ≤ result) × (result ≤ length s.now) }
-{
-    let mut i = from;
-    while i < s.len() {
-        if s[i] == byte {
-            return i;
-        }
-        i += 1;
-    }
-    i
-}
-
-// The first byte, 0 where there is none.
-fn first(s: &[u8]) -> u8 {
-    if s.len() == 0 {
-        return 0;
-    }
-    s[0]
+fn say(rt: &impl Print, before: &str, text: &[u8]) -> io::Result<()> {
+    print!(rt; "{before}")?;
+    rt.write_all(text)?;
+    println!(rt)
 }
 
 // The bytes but the first so many.
-fn beyond(s: &[u8], count: usize) -> &[u8] {
-    if s.len() < count {
-        return &s[..0];
-    }
-    &s[count..]
-}
-
-// The first bytes, at most so many.
-fn within(s: &[u8], count: usize) -> &[u8] {
-    if s.len() < count {
-        return s;
-    }
-    &s[0..count]
+fn beyond(s: &[u8], count: usize) -> &[u8]
+    ensures { length result.now ≤ length s.now - count }
+{
+    s.get(count..).unwrap_or(&[])
 }
 
 // The number that a word says, 0 where it says none.
 fn number_of(word: &[u8]) -> u64 {
-    let read = read_natural(word, TIME_LIMIT);
-    match read {
-        Some(n) => n,
-        None => 0,
-    }
-}
-
-// ---- records
-
-// How many words a text has, with one space between them.
-fn count_words(text: &[u8]) -> u64 {
-    let mut n = 0;
-    let mut from = 0;
-    while from < text.len() {
-        let end = seek(text, from, b' ');
-        n += 1;
-        from = end + 1;
-    }
-    n
-}
-
-// A word as a bulk string, where it is short enough and there is room.
-fn put_word(word: &[u8], out: &mut [u8]) -> usize
-    ensures { result ≤ length out.old }
-{
-    if WORD < word.len() {
-        return 0;
-    }
-    if out.len() < word.len() + 7 {
-        return 0;
-    }
-    put_bulk(word, out)
-}
-
-// The words of a text as bulk strings, one after the other.
-fn put_words(text: &[u8], out: &mut [u8]) -> usize
-    ensures { result ≤ length out.old }
-{
-    let mut at = 0;
-    let mut from = 0;
-    while from < text.len() {
-        let end = seek(text, from, b' ');
-        let size = put_word(&text[from..end], &mut out[at..]);
-        at += size;
-        from = end + 1;
-    }
-    at
-}
-
-// The command that a text says.
-fn put_command(text: &[u8], out: &mut [u8]) -> usize
-    ensures { result ≤ length out.old }
-{
-    let count = count_words(text);
-    if 64 < count {
-        return 0;
-    }
-    if out.len() < 5 {
-        return 0;
-    }
-    let at = put_header(count, out);
-    put_words(text, &mut out[at..]) + at
-}
-
-// A record's mark, its clock and its command's size.
-fn put_head(clock: u64, size: u64, out: &mut [u8]) {
-    if out.len() < COMMAND {
-        return;
-    }
-    write_le(&mut out[0..2], MARK);
-    write_le(&mut out[2..10], clock);
-    write_le(&mut out[10..COMMAND], size);
+    read_natural(word, TIME_LIMIT).unwrap_or(0)
 }
 
 // The record of a line: the word before the first space is its clock, the rest its command.
-fn put_record(line: &[u8], out: &mut [u8]) -> usize
-    ensures { result ≤ length out.old }
+fn put_record(line: &[u8], out: &mut [u8; RECORD]) -> usize
+    ensures { result ≤ 1036 }
 {
-    if out.len() < COMMAND {
-        return 0;
-    }
-    let end = seek(line, 0, b' ');
-    let clock = number_of(within(line, end));
-    let size = put_command(beyond(line, end + 1), &mut out[COMMAND..]);
-    put_head(clock, size as u64, out);
+    let mut parts = line.splitn(2, |b| *b == b' ');
+    let clock = number_of(parts.next().unwrap_or(&[]));
+    let size = put_command(
+        parts.next().unwrap_or(&[]),
+        WORDS,
+        WORD,
+        &mut out[COMMAND..],
+    );
+    write_le(&mut out[0..2], MARK);
+    write_le(&mut out[2..10], clock);
+    write_le(&mut out[10..COMMAND], size as u64);
     COMMAND + size
 }
 
 // ---- replies
 
 // Writes a line of a reply, and answers whether the next line is the bytes of a value.
-fn show_line(line: &[u8], value: bool) -> bool {
+fn show_line(rt: &impl Print, line: &[u8], value: bool) -> io::Result<bool> {
     if value {
-        put(b" \"");
-        put(line);
-        put(b"\"");
-        return false;
+        print!(rt; " \"")?;
+        rt.write_all(line)?;
+        print!(rt; "\"")?;
+        return Ok(false);
     }
-    if equal(line, b"$-1") {
-        put(b" nil");
-        return false;
+    match line {
+        [b'$', b'-', b'1'] => print!(rt; " nil")?,
+        [b'$', ..] => return Ok(true),
+        [b'*', ..] => {}
+        _ => {
+            print!(rt; " ")?;
+            rt.write_all(beyond(line, 1))?;
+        }
     }
-    let mark = first(line);
-    if mark == b'$' {
-        return true;
-    }
-    if mark == b'*' {
-        return false;
-    }
-    put(b" ");
-    put(beyond(line, 1));
-    false
+    Ok(false)
 }
 
 // Writes a reply as text.
-fn show_reply(reply: &[u8]) {
+fn show_reply(rt: &impl Print, reply: &[u8]) -> io::Result<()> {
     let mut value = false;
-    let mut from = 0;
-    while from < reply.len() {
-        let end = seek(reply, from, b'\r');
-        value = show_line(&reply[from..end], value);
-        from = end + 2;
+    let mut rest = reply;
+    while !rest.is_empty() {
+        let end = rest.iter().position(|b| *b == b'\r').unwrap_or(rest.len());
+        value = show_line(rt, &rest[..end], value)?;
+        rest = beyond(rest, end + 2);
     }
+    Ok(())
 }
 
 // ---- the store
 
-fn show_expiry(expiry: Option<u64>, clock: u64) {
+fn show_expiry(rt: &impl Print, expiry: Option<u64>, clock: u64) -> io::Result<()> {
     match expiry {
-        None => put(b"\n"),
-        Some(instant) => {
-            if clock < instant {
-                put(b", expires at ");
-            } else {
-                put(b", dead since ");
-            }
-            put_number(instant, b"\n");
-        }
+        None => println!(rt),
+        Some(instant) if clock < instant => println!(rt; ", expires at {instant}"),
+        Some(instant) => println!(rt; ", dead since {instant}"),
     }
 }
 
-fn show_entry(bytes: &[u8], i: usize)
-    requires { Held bytes.now i }
-{
-    put(read::key(bytes, i));
-    put(b" ");
-    put(read::field(bytes, i));
-    put(b" = ");
-    put(read::value(bytes, i));
-    put(b", version ");
-    put_number(read::version(bytes, i), b"");
-    show_expiry(read::expiry(bytes, i), read::clock(bytes));
-}
-
-fn show_slot(bytes: &[u8], i: usize)
-    requires { (well_formed bytes.now ≡ true) × (i < slot_count bytes.now) }
-{
-    put(b"          slot ");
-    put_number(i as u64, b": ");
-    if read::is_empty(bytes, i) {
-        put(b"empty\n");
-        return;
-    }
-    show_entry(bytes, i);
-}
-
-fn show_slots(bytes: &[u8])
-    requires { well_formed bytes.now ≡ true }
-{
-    let count = read::slots(bytes);
-    let mut i = 0;
-    while i < count {
-        show_slot(bytes, i);
-        i += 1;
-    }
-}
-
-fn show_store(bytes: &[u8]) {
+fn show_store<R: Print>(rt: &R, bytes: &[u8]) -> io::Result<()> {
     if !well_formed(bytes) {
-        return;
+        return Ok(());
     }
-    put(b"        store, at ");
-    put_number(read::clock(bytes), b":\n");
-    show_slots(bytes);
+    let clock = read::clock(bytes);
+    println!(rt; "        store, at {clock}:")?;
+    show_slots(
+        rt,
+        "          ",
+        bytes,
+        |rt, expiry| show_expiry(rt, expiry, clock),
+    )
 }
 
 // ---- two stores side by side
 
-// Puts a store aside and empties it.
-fn put_aside(store: &mut [u8], other: &mut [u8])
-    requires { length store.old ≤ length other.old }
-{
-    copy(store, other);
-    clear(store);
-    put(b"  store put aside as the first handset's, and the second's begins empty\n");
-}
-
-fn show_refusal(number: u32) {
-    put(b"        refused: ");
-    put_number(number as u64, b"\n");
-}
-
-// Writes the lines of a text.
-fn show_lines(text: &[u8]) {
-    let mut from = 0;
-    while from < text.len() {
-        let end = seek(text, from, b'\n');
-        say(b"        ", &text[from..end]);
-        from = end + 1;
-    }
-}
-
-// What two stores differ in.
-fn show_differences(instant: u64, first: &[u8], second: &[u8], out: &mut [u8]) {
-    let compared = compare(first, second, instant, out);
-    if compared.refusal != 0 {
-        show_refusal(compared.refusal);
-        return;
-    }
-    if compared.written == 0 {
-        put(b"        none\n");
-        return;
-    }
-    show_lines(within(out, compared.written));
-}
-
 // A value, and whose it is.
-fn show_value(value: &[u8], whose: &[u8]) {
-    put(b"        \"");
-    put(value);
-    say(b"\", ", whose);
-}
-
-// The newer value of a field.
-fn show_newer<'a>(instant: u64, key: &[u8], field: &[u8], first: &'a [u8], second: &'a [u8]) {
-    let value = newer(first, second, key, field, instant);
-    let which = newer_in(first, second, key, field, instant);
-    match which {
-        Which::First(_) => show_value(value, b"the first's"),
-        Which::Second(_) => show_value(value, b"the second's"),
-        Which::Neither => put(b"        neither's\n"),
-        Which::Refused(number) => show_refusal(number),
-    }
-}
-
-// The newer value of the field that a line names: instant, key and field, with one space between them.
-fn show_named<'a>(line: &[u8], first: &'a [u8], second: &'a [u8]) {
-    let end = seek(line, 0, b' ');
-    let instant = number_of(within(line, end));
-    let name = beyond(line, end + 1);
-    let middle = seek(name, 0, b' ');
-    show_newer(
-        instant,
-        within(name, middle),
-        beyond(name, middle + 1),
-        first,
-        second,
-    );
+fn show_value(rt: &impl Print, value: &[u8], whose: &str) -> io::Result<()> {
+    print!(rt; "        \"")?;
+    rt.write_all(value)?;
+    println!(rt; "\", {whose}")
 }
 
 // ---- steps
 
-// So many bytes further, but at most to the end; to the end where they are none.
-fn advance(at: usize, end: usize, bytes: usize) -> usize
-    requires { at < end }
-    ensures { (at < result) × (result ≤ end) }
-{
-    if bytes == 0 {
-        return end;
+impl Play {
+    fn fresh() -> Play {
+        Play {
+            feeder: Feeder::fresh(),
+            cut: None,
+            store: [0; STORE],
+            other: [0; STORE],
+            reply: [0; BUFFER_LEAST],
+        }
     }
-    if end - at < bytes {
-        return end;
-    }
-    at + bytes
-}
 
-// What a call answers for a piece.
-fn show_call(fed: Fed, offered: usize) {
-    put(b"        piece of ");
-    put_number(offered as u64, b": ");
-    put_number(fed.used as u64, b" used, ");
-    put_number(fed.skipped as u64, b" skipped, ");
-    let feeder = fed.feeder;
-    put_number(feeder.count as u64, b" waiting\n");
-}
+    // What the two stores differ in.
+    fn show_differences(&mut self, rt: &impl Print, instant: u64) -> io::Result<()> {
+        let compared = compare(&self.other, &self.store, instant, &mut self.reply);
+        if compared.refusal != 0 {
+            return println!(rt; "        refused: {}", compared.refusal);
+        }
+        if compared.written == 0 {
+            return println!(rt; "        none");
+        }
+        let text = self.reply.get(..compared.written).unwrap_or(&self.reply);
+        for line in text.split_inclusive(|b| *b == b'\n') {
+            say(rt, "        ", line.strip_suffix(b"\n").unwrap_or(line))?;
+        }
+        Ok(())
+    }
 
-// A call's reply, and the call itself where records come in pieces.
-fn show_fed(fed: Fed, offered: usize, cut: usize, reply: &[u8]) {
-    if cut != 0 {
-        show_call(fed, offered);
+    // The newer value of the field that a line names: instant, key and field, with one space between them.
+    fn show_newer(&self, rt: &impl Print, line: &[u8]) -> io::Result<()> {
+        let mut parts = line.splitn(3, |b| *b == b' ');
+        let instant = number_of(parts.next().unwrap_or(&[]));
+        let key = parts.next().unwrap_or(&[]);
+        let field = parts.next().unwrap_or(&[]);
+        let value = newer(&self.other, &self.store, key, field, instant);
+        match newer_in(&self.other, &self.store, key, field, instant) {
+            Which::First(_) => show_value(rt, value, "the first's"),
+            Which::Second(_) => show_value(rt, value, "the second's"),
+            Which::Neither => println!(rt; "        neither's"),
+            Which::Refused(number) => println!(rt; "        refused: {number}"),
+        }
     }
-    if fed.replied != 0 {
-        put(b"        ->");
-        show_reply(within(reply, fed.replied));
-        put(b"\n");
-    }
-}
 
-// Feeds bytes, in pieces where the stage says so.
-fn feed(stage: Stage, bytes: &[u8], store: &mut [u8], reply: &mut [u8]) -> Stage {
-    let cut = stage.cut;
-    let mut feeder = stage.feeder;
-    let mut at = 0;
-    while at < bytes.len() {
-        let end = advance(at, bytes.len(), cut);
-        let fed = feeder.feed(&bytes[at..end], store, reply);
-        show_fed(fed, end - at, cut, reply);
-        let kept = fed.feeder;
-        feeder = kept;
-        at = advance(at, bytes.len(), fed.used);
+    // A call's reply, and the call itself where records come in pieces.
+    fn show_fed(&self, rt: &impl Print, fed: Fed, offered: usize) -> io::Result<()> {
+        if self.cut.is_some() {
+            print!(rt; "        piece of {offered}: {} used, ", fed.used)?;
+            println!(rt; "{} skipped, {} waiting", fed.skipped, fed.feeder.count)?;
+        }
+        if fed.replied == 0 {
+            return Ok(());
+        }
+        print!(rt; "        ->")?;
+        show_reply(rt, self.reply.get(..fed.replied).unwrap_or(&self.reply))?;
+        println!(rt)
     }
-    Stage { feeder, cut }
-}
 
-fn send(stage: Stage, line: &[u8], store: &mut [u8], reply: &mut [u8]) -> Stage {
-    say(b"  ", line);
-    let mut record = [0u8; RECORD];
-    let size = put_record(line, &mut record);
-    feed(stage, within(&record, size), store, reply)
-}
+    // Feeds bytes, in pieces where they do not come whole.
+    fn feed(&mut self, rt: &impl Print, bytes: &[u8]) -> io::Result<()> {
+        let mut rest = bytes;
+        while !rest.is_empty() {
+            let size = self.cut.unwrap_or(usize::MAX).min(rest.len());
+            let fed = self
+                .feeder
+                .feed(&rest[..size], &mut self.store, &mut self.reply);
+            self.feeder = fed.feeder;
+            self.show_fed(rt, fed, size)?;
+            rest = unused(rest, fed.used);
+        }
+        Ok(())
+    }
 
-fn show_byte(byte: u8) {
-    put(b" ");
-    io::print_hex(STDOUT, byte as u64, 2);
-}
+    fn send(&mut self, rt: &impl Print, line: &[u8]) -> io::Result<()> {
+        say(rt, "  ", line)?;
+        let mut record = [0u8; RECORD];
+        let size = put_record(line, &mut record);
+        self.feed(rt, &record[..size])
+    }
 
-// Writes bytes in hexadecimal.
-fn show_bytes(bytes: &[u8]) {
-    let mut i = 0;
-    while i < bytes.len() {
-        show_byte(bytes[i]);
-        i += 1;
+    // Feeds bytes as they stand.
+    fn send_stray(&mut self, rt: &impl Print, bytes: &[u8]) -> io::Result<()> {
+        print!(rt; "  stray")?;
+        for byte in bytes {
+            print!(rt; " {byte:02x}")?;
+        }
+        println!(rt)?;
+        self.feed(rt, bytes)
     }
-}
 
-// Feeds bytes as they stand.
-fn send_stray(stage: Stage, bytes: &[u8], store: &mut [u8], reply: &mut [u8]) -> Stage {
-    put(b"  stray");
-    show_bytes(bytes);
-    put(b"\n");
-    feed(stage, bytes, store, reply)
-}
+    // A line that changes no store.
+    fn show(&mut self, rt: &impl Print, line: &[u8]) -> io::Result<()> {
+        match line {
+            [b'?', ..] => show_store(rt, &self.store),
+            [b'.', ..] => say(rt, "        ", beyond(line, 2)),
+            [b'^', rest @ ..] => {
+                say(rt, "  side by side at ", rest)?;
+                self.show_differences(rt, number_of(rest))
+            }
+            [b'%', rest @ ..] => {
+                say(rt, "  newer at ", rest)?;
+                self.show_newer(rt, rest)
+            }
+            _ => say(rt, "", line),
+        }
+    }
 
-fn is_digit(byte: u8) -> bool {
-    if byte < b'0' {
-        return false;
-    }
-    byte <= b'9'
-}
-
-// A line that changes no store.
-fn show_other<'a>(line: &[u8], store: &'a [u8], other: &'a [u8], reply: &mut [u8]) {
-    let mark = first(line);
-    let rest = beyond(line, 1);
-    if mark == b'?' {
-        show_store(store);
-        return;
-    }
-    if mark == b'.' {
-        say(b"        ", beyond(line, 2));
-        return;
-    }
-    if mark == b'^' {
-        say(b"  side by side at ", rest);
-        show_differences(number_of(rest), other, store, reply);
-        return;
-    }
-    if mark == b'%' {
-        say(b"  newer at ", rest);
-        show_named(rest, other, store);
-        return;
-    }
-    say(b"", line);
-}
-
-fn fresh_stage() -> Stage {
-    Stage {
-        feeder: Feeder::fresh(),
-        cut: 0,
-    }
-}
-
-fn play_line(
-    stage: Stage,
-    line: &[u8],
-    store: &mut [u8],
-    other: &mut [u8],
-    reply: &mut [u8],
-) -> Stage
-    requires { length store.old ≤ length other.old }
-{
-    let mark = first(line);
-    let rest = beyond(line, 1);
-    if is_digit(mark) {
-        return send(stage, line, store, reply);
-    }
-    if mark == b'!' {
-        return send_stray(stage, rest, store, reply);
-    }
-    let feeder = stage.feeder;
-    if mark == b'~' {
-        return Stage {
-            feeder,
-            cut: number_of(rest) as usize,
-        };
-    }
-    if mark == b'=' {
-        say(b"\n", beyond(line, 2));
-        clear(store);
-        clear(other);
-        return fresh_stage();
-    }
-    if mark == b'&' {
-        put_aside(store, other);
-        return fresh_stage();
-    }
-    show_other(line, store, other, reply);
-    stage
-}
-
-fn play(script: &[u8], store: &mut [u8], other: &mut [u8], reply: &mut [u8])
-    requires { length store.old ≤ length other.old }
-{
-    let mut stage = fresh_stage();
-    let mut from = 0;
-    while from < script.len() {
-        let end = seek(script, from, b'\n');
-        stage = play_line(stage, &script[from..end], store, other, reply);
-        from = end + 1;
+    fn line(&mut self, rt: &impl Print, line: &[u8]) -> io::Result<()> {
+        match line {
+            [b'0'..=b'9', ..] => self.send(rt, line),
+            [b'!', rest @ ..] => self.send_stray(rt, rest),
+            [b'~', rest @ ..] => {
+                self.cut = Some(number_of(rest) as usize).filter(|cut| *cut != 0);
+                Ok(())
+            }
+            [b'=', ..] => {
+                *self = Play::fresh();
+                say(rt, "\n", beyond(line, 2))
+            }
+            [b'&', ..] => {
+                let other = self.store;
+                *self = Play {
+                    other,
+                    ..Play::fresh()
+                };
+                println!(rt;
+                    "  store put aside as the first handset's, and the second's begins empty"
+                )
+            }
+            _ => self.show(rt, line),
+        }
     }
 }
 
-fn main() {
-    let mut space = [0u8; SCRIPT];
-    let mut store = [0u8; STORE];
-    let mut other = [0u8; STORE];
-    let mut reply = [0u8; REPLY];
-    let n = io::read_full(STDIN, &mut space);
-    play(&space[..n], &mut store, &mut other, &mut reply);
+fn play_all(rt: &impl Print, script: &[u8]) -> io::Result<()> {
+    let mut play = Play::fresh();
+    for line in script.split_inclusive(|b| *b == b'\n') {
+        play.line(rt, line.strip_suffix(b"\n").unwrap_or(line))?;
+    }
+    Ok(())
+}
+
+// A failed read is the script's end, and a failed write the program's.
+fn main(rt: HostRuntime) {
+    let mut script = Vec::new(rt.alloc());
+    let _ = rt.reader().take(SCRIPT).read_to_end(&mut script);
+    let _ = play_all(&rt, script.as_slice());
 }

@@ -2,24 +2,18 @@
 // slots, and writes what each way comes to and whether it comes to the same as uncut.
 #![tactic(auto)]
 
-ghost use Rattle.std.specs.Prelude.{◌<◌, ◌≤◌};
+ghost use Rattle.std.specs.Prelude.{◌<◌};
 
 use commands::execute::BUFFER_LEAST;
 use feeder::{Fed, Feeder};
-use std::num::wrapping_add_u64;
+use programs::unused;
+use std::io::{self, Read};
 use store::layout::{HEADER_SIZE, SLOT_SIZE};
 
-// The descriptors of the standard streams.
-const STDIN: i32 = 0;
-
-const STDOUT: i32 = 1;
-
-const STREAM: usize = 100000;
+const STREAM: u64 = 100000;
 
 // A store of four slots.
 const STORE: usize = HEADER_SIZE + 4 * SLOT_SIZE;
-
-const REPLY: usize = BUFFER_LEAST;
 
 const MODULUS: u64 = 4294967291;
 
@@ -33,7 +27,7 @@ struct Totals {
 }
 
 // What a stream comes to.
-#[derive(Clone, Copy)]
+#[derive(Clone, Copy, PartialEq)]
 struct Outcome {
     replied: u64,
     replies: u64,
@@ -44,146 +38,96 @@ struct Outcome {
 
 // The checksum of bytes that follow those of another checksum.
 fn checksum(before: u64, s: &[u8]) -> u64 {
-    let mut sum = before % MODULUS;
-    let mut i = 0;
-    while i < s.len() {
-        sum = (sum * 31 + s[i] as u64) % MODULUS;
-        i += 1;
-    }
-    sum
-}
-
-// The smaller of two numbers.
-fn least(a: usize, b: usize) -> usize
-    ensures { (result ≤ a) × (result ≤ b) }
-{
-    if a < b { a } else { b }
+    s.iter().fold(before, |sum, byte| {
+        (sum % MODULUS * 31 + u64::from(*byte)) % MODULUS
+    })
 }
 
 // One call more.
 fn tally(before: Totals, fed: Fed, reply: &[u8]) -> Totals {
-    let n = least(fed.replied, reply.len());
-    let sum = checksum(before.checksum, &reply[..n]);
-    let feeder = fed.feeder;
+    let replied = &reply[..fed.replied.min(reply.len())];
     Totals {
-        replied: wrapping_add_u64(before.replied, fed.replied as u64),
-        checksum: sum,
-        skipped: wrapping_add_u64(before.skipped, fed.skipped as u64),
-        feeder,
+        replied: before.replied.wrapping_add(fed.replied as u64),
+        checksum: checksum(before.checksum, replied),
+        skipped: before.skipped.wrapping_add(fed.skipped as u64),
+        feeder: fed.feeder,
     }
-}
-
-// So many bytes further, but at most to the end; to the end where they are none.
-fn advance(at: usize, end: usize, bytes: usize) -> usize
-    requires { at < end }
-    ensures { (at < result) × (result ≤ end) }
-{
-    if bytes == 0 {
-        return end;
-    }
-    if end - at < bytes {
-        return end;
-    }
-    at + bytes
 }
 
 // Offers a piece until it is used up.
 fn feed_piece(before: Totals, piece: &[u8], store: &mut [u8], reply: &mut [u8]) -> Totals {
     let mut totals = before;
-    let mut at = 0;
-    while at < piece.len() {
-        let feeder = totals.feeder;
-        let fed = feeder.feed(&piece[at..], store, reply);
+    let mut rest = piece;
+    while !rest.is_empty() {
+        let fed = totals.feeder.feed(rest, store, reply);
         totals = tally(totals, fed, reply);
-        at = advance(at, piece.len(), fed.used);
+        rest = unused(rest, fed.used);
     }
     totals
 }
 
-// Feeds a stream in pieces of `cut` bytes, uncut where that is 0.
-fn feed_cut(stream: &[u8], cut: usize, store: &mut [u8], reply: &mut [u8]) -> Totals {
+// Feeds a stream in pieces of `cut` bytes.
+fn feed_cut(stream: &[u8], cut: usize, store: &mut [u8], reply: &mut [u8]) -> Totals
+    requires { 0 < cut }
+{
     let mut totals = Totals {
         replied: 0,
         checksum: 0,
         skipped: 0,
         feeder: Feeder::fresh(),
     };
-    let mut at = 0;
-    while at < stream.len() {
-        let end = advance(at, stream.len(), cut);
-        totals = feed_piece(totals, &stream[at..end], store, reply);
-        at = end;
+    for piece in stream.chunks(cut) {
+        totals = feed_piece(totals, piece, store, reply);
     }
     totals
 }
 
 // What a stream comes to from a fresh feeder and an empty store.
-fn feed_way(stream: &[u8], cut: usize) -> Outcome {
+fn feed_way(stream: &[u8], cut: usize) -> Outcome
+    requires { 0 < cut }
+{
     let mut store = [0u8; STORE];
-    let mut reply = [0u8; REPLY];
+    let mut reply = [0u8; BUFFER_LEAST];
     let totals = feed_cut(stream, cut, &mut store, &mut reply);
-    let feeder = totals.feeder;
-    let sum = checksum(0, &store);
     Outcome {
         replied: totals.replied,
         replies: totals.checksum,
         skipped: totals.skipped,
-        waiting: feeder.count as u64,
-        store: sum,
+        waiting: totals.feeder.count as u64,
+        store: checksum(0, &store),
     }
 }
 
-fn same(a: Outcome, b: Outcome) -> bool {
-    if a.replied != b.replied {
-        return false;
-    }
-    if a.replies != b.replies {
-        return false;
-    }
-    if a.skipped != b.skipped {
-        return false;
-    }
-    if a.waiting != b.waiting {
-        return false;
-    }
-    a.store == b.store
+fn show(rt: &impl Print, o: Outcome) -> io::Result<()> {
+    println!(rt; "replies {}, checksum {}", o.replied, o.replies)?;
+    println!(rt; "skipped {}\nwaiting {}", o.skipped, o.waiting)?;
+    println!(rt; "store's checksum {}", o.store)
 }
 
-fn say(name: &[u8], n: u64, end: &[u8]) {
-    io::write_all(STDOUT, name);
-    io::print_decimal(STDOUT, n);
-    io::write_all(STDOUT, end);
-}
-
-fn show(o: Outcome) {
-    say(b"replies ", o.replied, b", ");
-    say(b"checksum ", o.replies, b"\n");
-    say(b"skipped ", o.skipped, b"\n");
-    say(b"waiting ", o.waiting, b"\n");
-    say(b"store's checksum ", o.store, b"\n");
-}
-
-// Feeds the stream in pieces, and says whether it comes to the same as uncut.
-fn try_cut(stream: &[u8], cut: usize, uncut: Outcome) {
-    let o = feed_way(stream, cut);
-    say(b"in pieces of ", cut as u64, b"\n");
-    show(o);
-    if same(o, uncut) {
-        io::write_all(STDOUT, b"as uncut\n");
-    } else {
-        io::write_all(STDOUT, b"not as uncut\n");
+// Feeds the stream uncut and in pieces, and says whether each way comes to the same.
+fn try_cuts(rt: &impl Print, stream: &[u8]) -> io::Result<()> {
+    let uncut = feed_way(stream, usize::MAX);
+    println!(rt; "uncut")?;
+    show(rt, uncut)?;
+    for cut in [1, 2, 7, 1000] {
+        let o = feed_way(stream, cut);
+        println!(rt; "in pieces of {cut}")?;
+        show(rt, o)?;
+        println!(rt;
+            "{}",
+            if o == uncut {
+                "as uncut"
+            } else {
+                "not as uncut"
+            }
+        )?;
     }
+    Ok(())
 }
 
-fn main() {
-    let mut space = [0u8; STREAM];
-    let n = io::read_full(STDIN, &mut space);
-    let stream = &space[..n];
-    let uncut = feed_way(stream, 0);
-    io::write_all(STDOUT, b"uncut\n");
-    show(uncut);
-    try_cut(stream, 1, uncut);
-    try_cut(stream, 2, uncut);
-    try_cut(stream, 7, uncut);
-    try_cut(stream, 1000, uncut);
+// A failed read is the stream's end, and a failed write the program's.
+fn main(rt: HostRuntime) {
+    let mut stream = Vec::new(rt.alloc());
+    let _ = rt.reader().take(STREAM).read_to_end(&mut stream);
+    let _ = try_cuts(&rt, stream.as_slice());
 }

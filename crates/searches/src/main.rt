@@ -3,102 +3,63 @@
 // bytes are read.
 #![tactic(auto)]
 
-ghost use Rattle.std.specs.Prelude.{◌≤◌, ◌<◌, length};
+ghost use Rattle.std.specs.Prelude.{◌<◌, length, IfSome};
 
+use programs::take_sized;
+use std::io::{self, Read};
+use store::check::well_formed;
+use store::find;
 
-// The descriptors of the standard streams.
-const STDIN: i32 = 0;
+const INPUT: u64 = 400000;
 
-const STDOUT: i32 = 1;
-
-const SIZE: usize = 4;
-
-const LENGTH: usize = 1;
-
-fn put(text: &[u8]) {
-    io::write_all(STDOUT, text);
+#[derive(Clone, Copy)]
+struct Search<'a> {
+    store: &'a [u8],
+    key: &'a [u8],
+    field: &'a [u8],
 }
 
-fn put_slot(found: Option<usize>) {
-    match found {
-        Some(i) => {
-            io::print_decimal(STDOUT, i as u64);
-        }
-        None => {
-            put(b"-");
-        }
-    }
-}
-
-fn show(bytes: &[u8], key: &[u8], field: &[u8]) {
-    if !store::check::well_formed(bytes) {
-        put(b"2\n");
-        return;
-    }
-    let searched = store::find::search(bytes, key, field);
-    let found = searched.found;
-    put_slot(found);
-    put(b" ");
-    io::print_decimal(STDOUT, searched.compared as u64);
-    put(b"\n");
-}
-
-// The end of a part whose length stands in so many bytes at a place, 0 where the input is cut short.
-fn end_of_part(input: &[u8], at: usize, width: usize) -> usize
-    requires { width ≤ 8 }
-    ensures { result ≤ length input.now }
+// The bytes that stand after their length, and what follows them; none where the input is cut short.
+fn take_name(input: &[u8]) -> Option<(&[u8], &[u8])>
+    ensures { IfSome result (λ p. length p.1.now < length input.now) }
 {
-    if input.len() < at {
-        return 0;
-    }
-    if input.len() - at < width {
-        return 0;
-    }
-    let start = at + width;
-    let size = wire::bytes::read_le(&input[at..start]) as usize;
-    if input.len() - start < size {
-        return 0;
-    }
-    start + size
+    let (size, rest) = input.split_first()?;
+    rest.split_at_checked(*size as usize)
 }
 
-// Does the search at a place, and answers the place after it, the end where the input is cut short.
-fn search_at(input: &[u8], at: usize) -> usize
-    requires { at < length input.now }
-    ensures { (at < result) × (result ≤ length input.now) }
+fn take_search(input: &[u8]) -> Option<(Search<'_>, &[u8])>
+    ensures { IfSome result (λ p. length p.1.now < length input.now) }
 {
-    let store_start = at + SIZE;
-    let store_end = end_of_part(input, at, SIZE);
-    if store_end < store_start {
-        return input.len();
-    }
-    let key_start = store_end + LENGTH;
-    let key_end = end_of_part(input, store_end, LENGTH);
-    if key_end < key_start {
-        return input.len();
-    }
-    let field_start = key_end + LENGTH;
-    let field_end = end_of_part(input, key_end, LENGTH);
-    if field_end < field_start {
-        return input.len();
-    }
-    show(
-        &input[store_start..store_end],
-        &input[key_start..key_end],
-        &input[field_start..field_end],
-    );
-    field_end
+    let (store, rest) = take_sized(input)?;
+    let (key, rest) = take_name(rest)?;
+    let (field, rest) = take_name(rest)?;
+    Some((Search { store, key, field }, rest))
 }
 
-fn search_all(input: &[u8]) {
-    let mut at = 0;
-    while at < input.len() {
-        at = search_at(input, at);
+fn show(rt: &impl Print, search: Search<'_>) -> io::Result<()> {
+    if !well_formed(search.store) {
+        return println!(rt; "2");
     }
+    let searched = find::search(search.store, search.key, search.field);
+    match searched.found {
+        Some(i) => print!(rt; "{i}")?,
+        None => print!(rt; "-")?,
+    }
+    println!(rt; " {}", searched.compared)
 }
 
-fn main() {
-    let mut space = [0u8; 400000];
-    let n = io::read_full(STDIN, &mut space);
-    search_all(&space[..n]);
+fn search_all(rt: &impl Print, input: &[u8]) -> io::Result<()> {
+    let mut rest = input;
+    while let Some((search, after)) = take_search(rest) {
+        show(rt, search)?;
+        rest = after;
+    }
+    Ok(())
+}
+
+// A failed read is the input's end, and a failed write the program's.
+fn main(rt: HostRuntime) {
+    let mut input = Vec::new(rt.alloc());
+    let _ = rt.reader().take(INPUT).read_to_end(&mut input);
+    let _ = search_all(&rt, input.as_slice());
 }

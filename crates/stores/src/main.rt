@@ -1,50 +1,25 @@
-// Reads stores from standard input, each after its size in 4 bytes, low first, and writes a line for each: 1 where it is well formed, else 0.
+// Reads stores from standard input, each after its size in 4 bytes, low first, and writes a line for each: 1 where it is well formed, else 0. At most
+// 400,000 bytes are read.
 #![tactic(auto)]
 
-ghost use Rattle.std.specs.Prelude.{◌≤◌, ◌<◌, length};
+use programs::take_sized;
+use std::io::{self, Read};
+use store::check::well_formed;
 
-// The descriptors of the standard streams.
-const STDIN: i32 = 0;
+const INPUT: u64 = 400000;
 
-const STDOUT: i32 = 1;
-
-const SIZE: usize = 4;
-
-fn judge(bytes: &[u8]) {
-    if store::check::well_formed(bytes) {
-        io::write_all(STDOUT, b"1\n");
-    } else {
-        io::write_all(STDOUT, b"0\n");
+fn judge_all(rt: &impl Print, input: &[u8]) -> io::Result<()> {
+    let mut rest = input;
+    while let Some((bytes, after)) = take_sized(rest) {
+        println!(rt; "{}", u8::from(well_formed(bytes)))?;
+        rest = after;
     }
+    Ok(())
 }
 
-// Judges the store whose size stands at a place, and answers the place after it, the end where the input is cut short.
-fn judge_at(input: &[u8], at: usize) -> usize
-    requires { at < length input.now }
-    ensures { (at < result) × (result ≤ length input.now) }
-{
-    if input.len() - at < SIZE {
-        return input.len();
-    }
-    let start = at + SIZE;
-    let size = wire::bytes::read_le(&input[at..start]) as usize;
-    if input.len() - start < size {
-        return input.len();
-    }
-    let end = start + size;
-    judge(&input[start..end]);
-    end
-}
-
-fn judge_all(input: &[u8]) {
-    let mut at = 0;
-    while at < input.len() {
-        at = judge_at(input, at);
-    }
-}
-
-fn main() {
-    let mut space = [0u8; 400000];
-    let n = io::read_full(STDIN, &mut space);
-    judge_all(&space[..n]);
+// A failed read is the input's end, and a failed write the program's.
+fn main(rt: HostRuntime) {
+    let mut input = Vec::new(rt.alloc());
+    let _ = rt.reader().take(INPUT).read_to_end(&mut input);
+    let _ = judge_all(&rt, input.as_slice());
 }

@@ -1,10 +1,6 @@
-use Prim.Native.Nat.{◌-◌, ◌≤◌}
 use lib.ListN.{length}
 use Rattle.searches.proofs.search_all.Given as goal
 
--- Each turn goes on past one search, so what is left of the input falls.
-abbrev pub invariant-loop-at : goal.invariant-loop-at
-invariant-loop-at l = l.at ≤ length l.input
-
-abbrev pub decreases-loop-at : goal.decreases-loop-at
-decreases-loop-at l = length l.input - l.at
+-- Each turn goes on past one search.
+abbrev pub decreases-loop-search : goal.decreases-loop-search
+decreases-loop-search g l = length l.rest

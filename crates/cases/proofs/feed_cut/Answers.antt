@@ -1,8 +1,0 @@
-use Rattle.std.proofs.Common.{arith}
-use Rattle.cases.proofs.feed_cut.Goals as goal
-
-pub loop-at-smaller : goal.loop-at-smaller
-loop-at-smaller c = omega (arith, c.advance-at.ensures)
-
-pub returns : goal.returns
-returns c = tt
