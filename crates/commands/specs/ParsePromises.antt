@@ -27,6 +27,7 @@ use Rattle.commands.specs.declared.operands.Terms.{Terms}
 use Rattle.commands.specs.declared.operands.Terms.TheVariants as terms
 use Rattle.commands.specs.declared.operands.Added.{Added}
 use Rattle.commands.specs.declared.operands.Added.TheVariants as addeds
+use Rattle.commands.specs.declared.table.TimeUnit.{TimeUnit}
 use Rattle.commands.specs.declared.options.OptionFound.{OptionFound}
 use Rattle.commands.specs.declared.options.OptionFound.TheVariants as founds
 use Rattle.commands.specs.declared.options.ScannedOptions.{ScannedOptions}
@@ -38,7 +39,7 @@ use Rattle.commands.specs.Command.Command.{on_field, set_many, get_many, delete,
 use Rattle.commands.specs.Options.{Given, ◌with◌, min_group, max_group, group, group_count, operand_range, scan, conflicting, readable_operand, given_of, lifetime_of, versioning_of}
 use Rattle.commands.specs.Parse as P
 use Rattle.commands.specs.Parse.{Form, pairs_of, beyond, allowed, option_words, build, later_checks, is_zero}
-use Rattle.commands.specs.TablePromises.{unit_of, condition_by, kind_in}
+use Rattle.commands.specs.TablePromises.{unit_meant, condition_by, kind_in}
 
 -- ---- words
 
@@ -93,8 +94,8 @@ pub record Scanned (ws : List Word) (allowed : List ℕ) (from : ℕ) (r : Scann
 -- ---- what the options say
 
 -- the instant of a number in a unit
-unfoldable pub instant_in : ℕ → ℕ → ℕ → ℕ
-instant_in unit n time = cond (unit_of unit).from_now (time + (unit_of unit).ms * n) ((unit_of unit).ms * n)
+unfoldable pub instant_in : TimeUnit → ℕ → ℕ → ℕ
+instant_in unit n time = cond (unit_meant unit).from_now (time + (unit_meant unit).ms * n) ((unit_meant unit).ms * n)
 
 -- what an option of the expiry group says, and what one of the version group says
 unfoldable pub lifetime_by : ℕ → Option Given → Lifetime

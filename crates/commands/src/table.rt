@@ -1,65 +1,53 @@
-// The commands and their options: for each its name, a row of a table, and the numbers that parsing asks of it.
-ghost use Rattle.std.specs.Prelude.{◌≡◌, ◌*◌, ◌/◌, ◌%◌, ◌^◌, ◌<◌, get_or};
+// The commands and their options: for each its name, a row of a table, and what parsing asks of it.
+ghost use Rattle.std.specs.Prelude.{◌≡◌, ◌*◌, ◌/◌, ◌%◌, ◌^◌, ◌<◌, get_or, option_map};
 ghost use Rattle.wire.specs.Bytes.{from_le};
 ghost use Rattle.wire.specs.Promises.{row_named};
 ghost use Rattle.commands.specs.Options.{option_count};
-ghost use Rattle.commands.specs.Parse.{command_count};
-ghost use Rattle.commands.specs.TablePromises.{data_size, command_table, command_data, command_of, option_table, option_data, option_of};
+ghost use Rattle.commands.specs.Parse.{command_count, command_named, commands};
+ghost use Rattle.commands.specs.TablePromises.{data_size, command_of, row_parts, row_meant, option_table, option_data, option_of};
 
+use crate::{Listing, Question};
 use wire::names::{ROW_SIZE, find};
 
-// The numbers of a command's row: its family; its unit, question or listing; the least number of its words; whether more may follow; which of them are a field or a value.
-pub const FAMILY_AT: usize = 0;
+// The unit of a time, that of EX, EXAT, PX and PXAT; from now, or else since 1970.
+#[derive(Clone, Copy)]
+pub enum TimeUnit {
+    SecondsFromNow,
+    Seconds,
+    MillisecondsFromNow,
+    Milliseconds,
+}
 
-pub const ARGUMENT_AT: usize = 1;
+// What a command does and how its words are read; commands of one form differ in a unit, a question or a listing.
+#[derive(Clone, Copy)]
+pub enum Form {
+    Set,
+    SetMany,
+    Increment,
+    Expire(TimeUnit),
+    Persist,
+    Renumber,
+    Ask(Question),
+    GetMany(Question),
+    Delete,
+    Count,
+    List(Listing),
+}
 
-pub const LEAST_AT: usize = 2;
+// How many words a command has, its name counted.
+#[derive(Clone, Copy)]
+pub enum WordCount {
+    Exactly(usize),
+    AtLeast(usize),
+    EvenFrom(usize),
+}
 
-pub const MORE_AT: usize = 3;
-
-pub const NAMES_AT: usize = 4;
-
-// The families of commands.
-pub const SET_FAMILY: usize = 0;
-
-pub const SET_MANY_FAMILY: usize = 1;
-
-pub const INCREMENT_FAMILY: usize = 2;
-
-pub const EXPIRE_FAMILY: usize = 3;
-
-pub const PERSIST_FAMILY: usize = 4;
-
-pub const RENUMBER_FAMILY: usize = 5;
-
-pub const ASK_FAMILY: usize = 6;
-
-pub const GET_MANY_FAMILY: usize = 7;
-
-pub const DELETE_FAMILY: usize = 8;
-
-pub const COUNT_FAMILY: usize = 9;
-
-// The units of times: those of EX, EXAT and PX; any other is that of PXAT.
-pub const SECONDS_FROM_NOW: usize = 0;
-
-pub const SECONDS_SINCE: usize = 1;
-
-pub const MS_FROM_NOW: usize = 2;
-
-// What may follow the least number of words: nothing, more words; else more words in pairs.
-pub const NO_MORE: usize = 0;
-
-pub const ANY_MORE: usize = 1;
-
-// The words after the key that are a field or a value: none, each a field, each pair a field and a value, one field; else a field and a value.
-pub const NONE_NAMED: usize = 0;
-
-pub const EACH_FIELD: usize = 1;
-
-pub const EACH_PAIR: usize = 2;
-
-pub const ONE_FIELD: usize = 3;
+// What the table says of a command.
+#[derive(Clone, Copy)]
+pub struct CommandRow {
+    pub form: Form,
+    pub count: WordCount,
+}
 
 // The commands. Small letters fill a row: a run of equal bytes would be stored by itself wherever the table is lent.
 const COMMAND_COUNT: usize = 23;
@@ -138,13 +126,6 @@ const OPTIONS: [u8; ROW_SIZE * OPTION_COUNT] = *b"\x02EXcdefghijklmno\
     \x03MAXdefghijklmno\
     \x05NOEXPfghijklmno";
 
-// The number of the command that a word names.
-pub fn command_named(word: &[u8]) -> Option<usize>
-    ensures { result ≡ row_named command_table word.now }
-{
-    find(&COMMANDS, word)
-}
-
 // The number at a place among the numbers of a row.
 fn number_at(numbers: u64, place: usize) -> usize
     requires { place < data_size }
@@ -153,44 +134,58 @@ fn number_at(numbers: u64, place: usize) -> usize
     ((numbers >> (8 * place)) % 256) as usize
 }
 
-// The numbers of a command's row, a byte each, the first lowest.
-fn command_numbers(row: usize) -> u64
-    requires { row < command_count }
-    ensures { result ≡ from_le (command_data (command_of row)) }
+// A row of a form and a count of words.
+fn row(form: Form, count: WordCount) -> CommandRow
+    ensures { result ≡ record { form = form; count = count } }
 {
-    match row {
-        0 => 0x04_01_04_00_00,
-        1 => 0x02_02_04_00_01,
-        2 => 0x03_01_04_00_02,
-        3 => 0x03_01_04_00_03,
-        4 => 0x03_01_04_01_03,
-        5 => 0x03_01_04_02_03,
-        6 => 0x03_01_04_03_03,
-        7 => 0x03_00_03_00_04,
-        8 => 0x03_00_04_00_05,
-        9 => 0x03_00_03_06_06,
-        10 => 0x03_00_03_05_06,
-        11 => 0x03_00_03_04_06,
-        12 => 0x03_00_03_00_06,
-        13 => 0x03_00_03_01_06,
-        14 => 0x03_00_03_02_06,
-        15 => 0x03_00_03_03_06,
-        16 => 0x01_01_03_00_07,
-        17 => 0x01_01_03_03_07,
-        18 => 0x01_01_03_00_08,
-        19 => 0x00_01_02_00_09,
-        20 => 0x00_00_02_00_0a,
-        21 => 0x00_00_02_01_0a,
-        _ => 0x00_00_02_02_0a,
+    CommandRow { form, count }
+}
+
+// The row of a command by its place among the names.
+#[tactic(auto, unfolding(crate::proofs::TableRows::tables))]
+fn command_row(i: usize) -> CommandRow
+    requires { i < command_count }
+    ensures { row_meant result ≡ row_parts (command_of i) }
+{
+    match i {
+        0 => row(Form::Set, WordCount::AtLeast(4)),
+        1 => row(Form::SetMany, WordCount::EvenFrom(4)),
+        2 => row(Form::Increment, WordCount::AtLeast(4)),
+        3 => row(
+            Form::Expire(TimeUnit::SecondsFromNow),
+            WordCount::AtLeast(4),
+        ),
+        4 => row(Form::Expire(TimeUnit::Seconds), WordCount::AtLeast(4)),
+        5 => row(
+            Form::Expire(TimeUnit::MillisecondsFromNow),
+            WordCount::AtLeast(4),
+        ),
+        6 => row(Form::Expire(TimeUnit::Milliseconds), WordCount::AtLeast(4)),
+        7 => row(Form::Persist, WordCount::Exactly(3)),
+        8 => row(Form::Renumber, WordCount::Exactly(4)),
+        9 => row(Form::Ask(Question::Milliseconds), WordCount::Exactly(3)),
+        10 => row(Form::Ask(Question::Seconds), WordCount::Exactly(3)),
+        11 => row(Form::Ask(Question::Version), WordCount::Exactly(3)),
+        12 => row(Form::Ask(Question::Value), WordCount::Exactly(3)),
+        13 => row(Form::Ask(Question::Length), WordCount::Exactly(3)),
+        14 => row(Form::Ask(Question::Exists), WordCount::Exactly(3)),
+        15 => row(Form::Ask(Question::Versioned), WordCount::Exactly(3)),
+        16 => row(Form::GetMany(Question::Value), WordCount::AtLeast(3)),
+        17 => row(Form::GetMany(Question::Versioned), WordCount::AtLeast(3)),
+        18 => row(Form::Delete, WordCount::AtLeast(3)),
+        19 => row(Form::Count, WordCount::AtLeast(2)),
+        20 => row(Form::List(Listing::Fields), WordCount::Exactly(2)),
+        21 => row(Form::List(Listing::Values), WordCount::Exactly(2)),
+        _ => row(Form::List(Listing::Both), WordCount::Exactly(2)),
     }
 }
 
-// A number of a command's row.
-pub fn command_datum(row: usize, place: usize) -> usize
-    requires { (row < command_count) × (place < data_size) }
-    ensures { result ≡ get_or (command_data (command_of row)) place 0 }
+// The row of the command that a word names.
+pub fn command_named(word: &[u8]) -> Option<CommandRow>
+    ensures { option_map row_meant result ≡ option_map row_parts (command_named commands word.now) }
 {
-    number_at(command_numbers(row), place)
+    let i = find(&COMMANDS, word)?;
+    Some(command_row(i))
 }
 
 // The number of the option that a word names.

@@ -17,4 +17,4 @@ instant-requires c = ((natural_value time_limit c.word.ensures c.read_natural-re
 
 pub returns : goal.returns
 returns c =
-    lifetime_until _ c.args.said c.args.operand c.args.time c.if-said-ge-NOT_GIVEN.false c.if-said-eq-KEPT.false c.in-Some.n (natural_value time_limit c.word.ensures c.read_natural-read.ensures c.in-Some.n c.in-Some.is).0 c.instant.ensures
+    lifetime_until _ c.args.said c.args.operand c.args.time c.if-said-ge-NOT_GIVEN.false c.if-said-eq-KEPT.false c.in-Some.n (natural_value time_limit c.word.ensures c.read_natural-read.ensures c.in-Some.n c.in-Some.is).0 _ c.unit_said.ensures c.instant.ensures
