@@ -3,7 +3,7 @@ use Rattle.std.specs.Prelude.{is_some}
 use mathlib.Core.Path.{◌≡◌, refl, ◌∙◌}
 use mathlib.Core.Bool.{Bool, true, false, cond, ◌||◌, or-false, or_assoc}
 use mathlib.Core.List.{List, [], ◌∷◌, map}
-use Prim.Native.Nat.{ℕ, suc, ◌+◌, ◌≤◌, ◌<◌}
+use Prim.Native.Nat.{ℕ, suc, ◌+◌, ◌*◌, ◌/◌, ◌≤◌, ◌<◌}
 use native.Mathlib.Numerals.{add-one}
 use native.Mathlib.Omega.{arith}
 use borrow.Author.Tests.{lt-ltb, le-ltb}
@@ -112,7 +112,7 @@ pub ruleset key_lengths = (key_long, key_fits)
 
 -- ---- the loops
 
--- the words from i on do the same as those from 2 on; v is word i, and u the word after it
+-- what is left does the same as all from word 2 on; v is the next word, and u the one after it
 module _ (ws : List Word) {count : ℕ} (size : length ws ≡ count) (i : ℕ) where
   here : i < count → drop i ws ≡ word_at i ws ∷ drop (suc i) ws
   unfolding word_at
@@ -135,11 +135,12 @@ module _ (ws : List Word) {count : ℕ} (size : length ws ≡ count) (i : ℕ) w
   abbrev pair_long : Pair → Bool
   pair_long = λ p. ltb field_most (length p.field) || ltb value_most (length p.value)
 
-  two_here : i + 1 < count → drop i ws ≡ word_at i ws ∷ word_at (i + 1) ws ∷ drop (i + 2) ws
+  -- a pair is two words
+  two_here : i < count / 2 → drop (2 * i) ws ≡ word_at (2 * i) ws ∷ word_at (2 * i + 1) ws ∷ drop (2 * (i + 1)) ws
   unfolding word_at
   two_here l =
-      let n : i + 2 ≡ suc (suc i) = omega arith in
-      here (omega arith) ∙ rw (add-one i, n, drop-cons ws (suc i) [] (omega arith))
+      let n : 2 * (i + 1) ≡ suc (suc (2 * i)) = omega arith in
+      drop-cons ws (2 * i) [] (omega arith) ∙ rw (add-one (2 * i), n, drop-cons ws (suc (2 * i)) [] (omega arith))
 
   one_left : (vs : List Word) → length vs ≤ 1 → pairs_of vs ≡ []
   unfolding pairs_of
@@ -147,21 +148,21 @@ module _ (ws : List Word) {count : ℕ} (size : length ws ≡ count) (i : ℕ) w
   one_left (v ∷ []) l = refl
   one_left (v ∷ w ∷ vs) l = absurd (omega arith)
 
-  module _ (h : pair_over ws ≡ any pair_long (pairs_of (drop i ws))) where
-    pub pair_ends : count ≤ i + 1 → false ≡ pair_over ws
+  module _ (h : pair_over ws ≡ any pair_long (pairs_of (drop (2 * i) ws))) where
+    pub pair_ends : count / 2 ≤ i → false ≡ pair_over ws
     unfolding any
-    pair_ends l = rw (h, one_left (drop i ws) (rw length-drop (omega arith)))
+    pair_ends l = rw (h, one_left (drop (2 * i) ws) (rw length-drop (omega arith)))
 
-    module _ (l : i + 1 < count) {v : Word} (ev : v ≡ word_at i ws) where
+    module _ (l : i < count / 2) {v : Word} (ev : v ≡ word_at (2 * i) ws) where
       pub pair_field : field_most < length v → true ≡ pair_over ws
       unfolding any pairs_of
       pair_field m = rw (h, two_here l, ← ev, lt-ltb field_most (length v) m)
 
-      module _ (s : length v ≤ field_most) {u : Word} (eu : u ≡ word_at (i + 1) ws) where
+      module _ (s : length v ≤ field_most) {u : Word} (eu : u ≡ word_at (2 * i + 1) ws) where
         pub pair_value : value_most < length u → true ≡ pair_over ws
         unfolding any pairs_of
         pair_value m = rw (h, two_here l, ← ev, ← eu, le-ltb field_most (length v) s, lt-ltb value_most (length u) m)
 
-        pub pair_on : length u ≤ value_most → pair_over ws ≡ any pair_long (pairs_of (drop (i + 2) ws))
+        pub pair_on : length u ≤ value_most → pair_over ws ≡ any pair_long (pairs_of (drop (2 * (i + 1)) ws))
         unfolding any pairs_of
         pair_on m = h ∙ rw (two_here l, ← ev, ← eu, le-ltb field_most (length v) s, le-ltb value_most (length u) m)

@@ -27,12 +27,10 @@ fn any_over(command: &[u8], places: &[[usize; 2]]) -> bool
     requires { Inside command.now places.now }
     ensures { result ≡ any_over (words_in command.now places.now) }
 {
-    let mut i = 2;
-    while i < places.len() {
+    for i in 2..places.len() {
         if FIELD_MOST < word(command, places, i).len() {
             return true;
         }
-        i += 1;
     }
     false
 }
@@ -42,15 +40,13 @@ fn pair_over(command: &[u8], places: &[[usize; 2]]) -> bool
     requires { Inside command.now places.now }
     ensures { result ≡ pair_over (words_in command.now places.now) }
 {
-    let mut i = 2;
-    while i + 1 < places.len() {
-        if FIELD_MOST < word(command, places, i).len() {
+    for i in 1..places.len() / 2 {
+        if FIELD_MOST < word(command, places, 2 * i).len() {
             return true;
         }
-        if VALUE_MOST < word(command, places, i + 1).len() {
+        if VALUE_MOST < word(command, places, 2 * i + 1).len() {
             return true;
         }
-        i += 2;
     }
     false
 }
