@@ -4,35 +4,33 @@ use mathlib.Core.Path.{◌≡◌, refl, sym, ap, ◌∙◌}
 use mathlib.Core.Bool.{Bool, true, false, cond, not, ◌&&◌}
 use mathlib.Core.List.{List, [], ◌∷◌, ◌++◌, map, flat_map, append_assoc}
 use Rattle.std.proofs.lemmas.Option.{none-some}
-use Prim.Native.Nat.{ℕ, zero, suc, ◌+◌, ◌-◌, ◌*◌, ◌/◌, ◌%◌, ◌^◌, ◌≤◌, ◌<◌}
+use Prim.Native.Nat.{ℕ, zero, suc, ◌+◌, ◌-◌, ◌*◌, ◌/◌, ◌≤◌, ◌<◌}
 use Prim.Native.String.{String}
 use native.Mathlib.Omega.{arith}
 use borrow.Author.Tests.{ltb-true, not-true}
 use lib.Dec.{ltb, eqb}
 use lib.ListN.{length, get_or, drop, length-append, length-drop, get_or-map}
-use lib.Pow.{are_bytes}
 use lib.Seq.{get_or_at, get_or-append-add, drop_at, take-append_seam}
 use Rattle.wire.specs.Lists.{all, any, only_if, or_else}
-use Rattle.wire.specs.Bytes.{from_le, part, same, text, upper, spells}
+use Rattle.wire.specs.Bytes.{part, same, text, upper, spells}
 use Rattle.wire.specs.Words.{Word}
 use Rattle.wire.specs.Promises.{row_size, name_in, row_from, row_named, Table}
 use Rattle.wire.proofs.Lists.{and_left, and_right, all_at}
 use Rattle.wire.proofs.NameRows.{row_at}
 use Rattle.wire.proofs.ByteLaws.{same_true}
-use Rattle.wire.proofs.ByteLoops.{from_le_at}
 use Rattle.commands.specs.Options.{OptionRow, OptionKind, ◌means◌, options, option_count, group_count, group, option_named}
 use Rattle.commands.specs.Options.OptionKind.{no_exp}
 use Rattle.commands.specs.Parse.{CommandRow, row, commands, command_count, command_named}
 use Rattle.commands.specs.Parse.Count.{at_least}
 use Rattle.commands.specs.Parse.Form.{set_form}
-use Rattle.commands.specs.TablePromises.{filler, name_row, unit_meant, form_meant, count_meant, row_parts, row_meant, command_table, command_of, unit_number, unit_of, condition_number, versioning_number, said_of, expiry_kind, condition_by, versioning_by, kind_in, size_of, option_data, option_table, option_of}
+use Rattle.commands.specs.TablePromises.{filler, name_row, unit_meant, form_meant, count_meant, row_parts, row_meant, command_table, command_of, unit_number, unit_of, condition_number, versioning_number, said_of, expiry_kind, condition_by, versioning_by, kind_in, option_said, option_table, option_of}
 use Rattle.commands.specs.declared.table.CommandRow as code
 use Rattle.commands.specs.ParsePromises.{not_given}
 use Rattle.commands.proofs.Computing.{computing}
 
 -- to compute with the tables
 unfoldable pub tables : Unit {0}
-unfolding computing name_row unit_meant form_meant count_meant command_of unit_number unit_of condition_number versioning_number said_of size_of option_data expiry_kind condition_by versioning_by kind_in
+unfolding computing name_row unit_meant form_meant count_meant command_of option_of unit_number unit_of condition_number versioning_number said_of option_said expiry_kind condition_by versioning_by kind_in
 tables = tt
 
 -- a number that is none of the first k is beyond them
@@ -221,20 +219,6 @@ command_table_lem = table_of_lem (λ r. r.name) commands commands_fit
 pub option_table_lem : Table option_table
 unfolding table_of option_table
 option_table_lem = table_of_lem (λ r. r.name) options options_fit
-
--- ---- the numbers of a row
-
--- they are bytes, computed at each row
-option_bytes : all (λ r. are_bytes (option_data r)) options ≡ true
-unfolding tables
-option_bytes = refl
-
--- so each is a byte of the number that they spell
-pub option_number_at : (i k : ℕ) → i < option_count → from_le (option_data (option_of i)) / 2 ^ (8 * k) % 256 ≡ get_or (option_data (option_of i)) k 0
-unfolding option_of
-option_number_at i k l =
-    let last : OptionRow = "NOEXP" means no_exp in
-    from_le_at k (option_data (option_of i)) (all_at (λ r. are_bytes (option_data r)) options last option_bytes i (omega (arith, options_counted)))
 
 -- ---- what a row's numbers mean
 

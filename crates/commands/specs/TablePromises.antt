@@ -15,8 +15,9 @@ use Rattle.commands.specs.declared.table.Form.TheVariants as forms
 use Rattle.commands.specs.declared.table.WordCount.{WordCount}
 use Rattle.commands.specs.declared.table.WordCount.TheVariants as counts
 use Rattle.commands.specs.declared.table.CommandRow.{CommandRow}
+use Rattle.commands.specs.declared.table.OptionRow.{OptionRow}
 use Rattle.commands.specs.Options as O
-use Rattle.commands.specs.Options.{in_seconds, in_ms, OptionKind, OptionRow, ◌means◌, options, min_group, max_group, group, operand_range}
+use Rattle.commands.specs.Options.{in_seconds, in_ms, OptionKind, ◌means◌, options, min_group, max_group, group, operand_range}
 use Rattle.commands.specs.Options.OptionKind.{expires, keep_ttl, only, versioned, bound, no_exp}
 use Rattle.commands.specs.Parse as P
 use Rattle.commands.specs.Parse.{row, commands}
@@ -29,10 +30,6 @@ filler = "abcdefghijklmno"
 
 unfoldable pub name_row : String → List ℕ
 name_row t = length (text t) ∷ (text t ++ drop (length (text t)) (text filler))
-
--- no more numbers than this belong to a row
-abbrev pub data_size : ℕ
-data_size = 5
 
 -- ---- the table of commands
 
@@ -162,26 +159,13 @@ kind_in g n =
     g
     no_exp
 
--- how many words an option is, its operand counted
-unfoldable pub size_of : OptionKind → ℕ
-size_of m = cond (is_some (operand_range m)) 2 1
-
--- the numbers of an option, and the place of each among them
-unfoldable pub option_data : OptionRow → List ℕ
-option_data r = group r.kind ∷ said_of r.kind ∷ size_of r.kind ∷ []
-
-abbrev pub group_at : ℕ
-group_at = 0
-
-abbrev pub said_at : ℕ
-said_at = 1
-
-abbrev pub size_at : ℕ
-size_at = 2
+-- what the code's row of an option says
+unfoldable pub option_said : O.OptionRow → OptionRow
+option_said r = record { group = group r.kind; said = said_of r.kind; operand = is_some (operand_range r.kind) }
 
 unfoldable pub option_table : List ℕ
 option_table = flat_map (λ r. name_row r.name) options
 
 -- an option by its number in the table; past its end NOEXP
-unfoldable pub option_of : ℕ → OptionRow
+unfoldable pub option_of : ℕ → O.OptionRow
 option_of i = get_or options i ("NOEXP" means no_exp)

@@ -10,7 +10,8 @@ ghost use Rattle.commands.specs.ParsePromises.{option_at, given_at, terms_for, i
 
 use crate::options::{NOT_GIVEN, ScannedOptions};
 use crate::table::{
-    EXACT, EXPIRY_GROUP, IF_MISSING, KEPT, MATCHED, MAX_GROUP, MIN_GROUP, TimeUnit, VERSION_GROUP,
+    EXACT, EXPIRY_GROUP, IF_MISSING, KEPT, MATCHED, MAX_GROUP, MIN_GROUP, MS_FROM_NOW,
+    SECONDS_FROM_NOW, SECONDS_SINCE, TimeUnit, VERSION_GROUP,
 };
 use crate::{Condition, Lifetime, Sum, Versioning};
 use store::layout::{TIME_LIMIT, VERSION_MOST};
@@ -68,9 +69,9 @@ fn unit_said(said: usize) -> TimeUnit
     ensures { unit_meant result ≡ unit_of said }
 {
     match said {
-        0 => TimeUnit::SecondsFromNow,
-        1 => TimeUnit::Seconds,
-        2 => TimeUnit::MillisecondsFromNow,
+        SECONDS_FROM_NOW => TimeUnit::SecondsFromNow,
+        SECONDS_SINCE => TimeUnit::Seconds,
+        MS_FROM_NOW => TimeUnit::MillisecondsFromNow,
         _ => TimeUnit::Milliseconds,
     }
 }

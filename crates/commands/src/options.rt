@@ -4,14 +4,11 @@ ghost use Rattle.wire.specs.Lists.{any};
 ghost use Rattle.wire.specs.Promises.{words_in, Inside};
 ghost use Rattle.commands.specs.ParsePromises.{FoundBy, Scanned};
 
-use crate::table::{GROUP_AT, GROUP_COUNT, SAID_AT, SIZE_AT, option_datum, option_named};
+use crate::table::{GROUP_COUNT, option_named};
 use wire::words::{next_word, word};
 
 // Where this stands as what the option of a group says, none was given; no row of the table says it.
 pub const NOT_GIVEN: usize = 256;
-
-// How many words an option is that takes an operand.
-const WITH_OPERAND: usize = 2;
 
 // The options that were given, by group: what the option says, and the number of its last word, its operand if it takes one.
 // The refusal is 0 where there is none.
@@ -52,19 +49,17 @@ fn option_at(command: &[u8], places: &[[usize; 2]], i: usize, allowed: &[usize])
     let Some(option) = found else {
         return OptionFound::Refused(15);
     };
-    let g = option_datum(option, GROUP_AT);
-    if !takes(allowed, g) {
+    if !takes(allowed, option.group) {
         return OptionFound::Refused(15);
     }
-    let said = option_datum(option, SAID_AT);
-    if option_datum(option, SIZE_AT) < WITH_OPERAND {
-        return OptionFound::At(g, said, i);
+    if !option.operand {
+        return OptionFound::At(option.group, option.said, i);
     }
     let next = next_word(places.len(), i + 1);
     let Some(operand) = next else {
         return OptionFound::Refused(15);
     };
-    OptionFound::At(g, said, operand)
+    OptionFound::At(option.group, option.said, operand)
 }
 
 // The options among the words from a word on. They are refused where one is unknown, repeated or conflicting, or its operand is missing.

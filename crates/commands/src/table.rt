@@ -1,10 +1,9 @@
 // The commands and their options: for each its name, a row of a table, and what parsing asks of it.
-ghost use Rattle.std.specs.Prelude.{◌≡◌, ◌*◌, ◌/◌, ◌%◌, ◌^◌, ◌<◌, get_or, option_map};
-ghost use Rattle.wire.specs.Bytes.{from_le};
+ghost use Rattle.std.specs.Prelude.{◌≡◌, ◌<◌, option_map};
 ghost use Rattle.wire.specs.Promises.{row_named};
 ghost use Rattle.commands.specs.Options.{option_count};
 ghost use Rattle.commands.specs.Parse.{command_count, command_named, commands};
-ghost use Rattle.commands.specs.TablePromises.{data_size, command_of, row_parts, row_meant, option_table, option_data, option_of};
+ghost use Rattle.commands.specs.TablePromises.{command_of, row_parts, row_meant, option_table, option_of, option_said};
 
 use crate::{Listing, Question};
 use wire::names::{ROW_SIZE, find};
@@ -76,12 +75,13 @@ const COMMANDS: [u8; ROW_SIZE * COMMAND_COUNT] = *b"\x06EXHSETghijklmno\
     \x07EXHVALShijklmno\
     \x09EXHGETALLjklmno";
 
-// The numbers of an option's row: its group, what it says in its group, and how many words it is.
-pub const GROUP_AT: usize = 0;
-
-pub const SAID_AT: usize = 1;
-
-pub const SIZE_AT: usize = 2;
+// What the table says of an option: its group, what it says there, and whether the next word is its operand.
+#[derive(Clone, Copy)]
+pub struct OptionRow {
+    pub group: usize,
+    pub said: usize,
+    pub operand: bool,
+}
 
 // The groups of options: at most one of each is given.
 pub const EXPIRY_GROUP: usize = 0;
@@ -98,16 +98,28 @@ pub const NO_EXP_GROUP: usize = 5;
 
 pub const GROUP_COUNT: usize = 6;
 
-// What an option of the expiry group says: that the expiry is kept, or a unit.
+// What an option of the expiry group says: a unit, or that the expiry is kept.
+pub const SECONDS_FROM_NOW: usize = 0;
+
+pub const SECONDS_SINCE: usize = 1;
+
+pub const MS_FROM_NOW: usize = 2;
+
+pub const MS_SINCE: usize = 3;
+
 pub const KEPT: usize = 4;
 
-// What an option of the condition group says: NX; else XX.
+// What an option of the condition group says: NX, XX.
 pub const IF_MISSING: usize = 0;
 
-// What an option of the version group says: VER, ABS; else GT.
+pub const IF_LIVE: usize = 1;
+
+// What an option of the version group says: VER, ABS, GT.
 pub const MATCHED: usize = 0;
 
 pub const EXACT: usize = 1;
+
+pub const ABOVE: usize = 2;
 
 // The options.
 const OPTION_COUNT: usize = 13;
@@ -125,14 +137,6 @@ const OPTIONS: [u8; ROW_SIZE * OPTION_COUNT] = *b"\x02EXcdefghijklmno\
     \x03MINdefghijklmno\
     \x03MAXdefghijklmno\
     \x05NOEXPfghijklmno";
-
-// The number at a place among the numbers of a row.
-fn number_at(numbers: u64, place: usize) -> usize
-    requires { place < data_size }
-    ensures { result ≡ numbers / 2 ^ (8 * place) % 256 }
-{
-    ((numbers >> (8 * place)) % 256) as usize
-}
 
 // A row of a form and a count of words.
 fn row(form: Form, count: WordCount) -> CommandRow
@@ -188,39 +192,44 @@ pub fn command_named(word: &[u8]) -> Option<CommandRow>
     Some(command_row(i))
 }
 
-// The number of the option that a word names.
-pub fn option_named(word: &[u8]) -> Option<usize>
-    ensures { result ≡ row_named option_table word.now }
+// A row of a group, what is said there, and whether an operand follows.
+fn option(group: usize, said: usize, operand: bool) -> OptionRow
+    ensures { result ≡ record { group = group; said = said; operand = operand } }
 {
-    find(&OPTIONS, word)
-}
-
-// The numbers of an option's row, a byte each, the first lowest.
-fn option_numbers(row: usize) -> u64
-    requires { row < option_count }
-    ensures { result ≡ from_le (option_data (option_of row)) }
-{
-    match row {
-        0 => 0x02_00_00,
-        1 => 0x02_01_00,
-        2 => 0x02_02_00,
-        3 => 0x02_03_00,
-        4 => 0x01_04_00,
-        5 => 0x01_00_01,
-        6 => 0x01_01_01,
-        7 => 0x02_00_02,
-        8 => 0x02_01_02,
-        9 => 0x02_02_02,
-        10 => 0x02_00_03,
-        11 => 0x02_00_04,
-        _ => 0x01_00_05,
+    OptionRow {
+        group,
+        said,
+        operand,
     }
 }
 
-// A number of an option's row.
-pub fn option_datum(row: usize, place: usize) -> usize
-    requires { (row < option_count) × (place < data_size) }
-    ensures { result ≡ get_or (option_data (option_of row)) place 0 }
+// The row of an option by its place among the names.
+#[tactic(auto, unfolding(crate::proofs::TableRows::tables))]
+fn option_row(i: usize) -> OptionRow
+    requires { i < option_count }
+    ensures { result ≡ option_said (option_of i) }
 {
-    number_at(option_numbers(row), place)
+    match i {
+        0 => option(EXPIRY_GROUP, SECONDS_FROM_NOW, true),
+        1 => option(EXPIRY_GROUP, SECONDS_SINCE, true),
+        2 => option(EXPIRY_GROUP, MS_FROM_NOW, true),
+        3 => option(EXPIRY_GROUP, MS_SINCE, true),
+        4 => option(EXPIRY_GROUP, KEPT, false),
+        5 => option(CONDITION_GROUP, IF_MISSING, false),
+        6 => option(CONDITION_GROUP, IF_LIVE, false),
+        7 => option(VERSION_GROUP, MATCHED, true),
+        8 => option(VERSION_GROUP, EXACT, true),
+        9 => option(VERSION_GROUP, ABOVE, true),
+        10 => option(MIN_GROUP, 0, true),
+        11 => option(MAX_GROUP, 0, true),
+        _ => option(NO_EXP_GROUP, 0, false),
+    }
+}
+
+// The row of the option that a word names.
+pub fn option_named(word: &[u8]) -> Option<OptionRow>
+    ensures { result ≡ option_map (λ i. option_said (option_of i)) (row_named option_table word.now) }
+{
+    let i = find(&OPTIONS, word)?;
+    Some(option_row(i))
 }
