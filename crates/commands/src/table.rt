@@ -5,6 +5,7 @@ ghost use Rattle.commands.specs.Options.{option_count};
 ghost use Rattle.commands.specs.Parse.{command_count, command_named, commands};
 ghost use Rattle.commands.specs.TablePromises.{command_of, row_parts, row_meant, option_table, option_of, option_said};
 
+use self::WordCount::{AtLeast, EvenFrom, Exactly};
 use crate::{Listing, Question};
 use wire::names::{ROW_SIZE, find};
 
@@ -152,35 +153,29 @@ fn command_row(i: usize) -> CommandRow
     ensures { row_meant result ≡ row_parts (command_of i) }
 {
     match i {
-        0 => row(Form::Set, WordCount::AtLeast(4)),
-        1 => row(Form::SetMany, WordCount::EvenFrom(4)),
-        2 => row(Form::Increment, WordCount::AtLeast(4)),
-        3 => row(
-            Form::Expire(TimeUnit::SecondsFromNow),
-            WordCount::AtLeast(4),
-        ),
-        4 => row(Form::Expire(TimeUnit::Seconds), WordCount::AtLeast(4)),
-        5 => row(
-            Form::Expire(TimeUnit::MillisecondsFromNow),
-            WordCount::AtLeast(4),
-        ),
-        6 => row(Form::Expire(TimeUnit::Milliseconds), WordCount::AtLeast(4)),
-        7 => row(Form::Persist, WordCount::Exactly(3)),
-        8 => row(Form::Renumber, WordCount::Exactly(4)),
-        9 => row(Form::Ask(Question::Milliseconds), WordCount::Exactly(3)),
-        10 => row(Form::Ask(Question::Seconds), WordCount::Exactly(3)),
-        11 => row(Form::Ask(Question::Version), WordCount::Exactly(3)),
-        12 => row(Form::Ask(Question::Value), WordCount::Exactly(3)),
-        13 => row(Form::Ask(Question::Length), WordCount::Exactly(3)),
-        14 => row(Form::Ask(Question::Exists), WordCount::Exactly(3)),
-        15 => row(Form::Ask(Question::Versioned), WordCount::Exactly(3)),
-        16 => row(Form::GetMany(Question::Value), WordCount::AtLeast(3)),
-        17 => row(Form::GetMany(Question::Versioned), WordCount::AtLeast(3)),
-        18 => row(Form::Delete, WordCount::AtLeast(3)),
-        19 => row(Form::Count, WordCount::AtLeast(2)),
-        20 => row(Form::List(Listing::Fields), WordCount::Exactly(2)),
-        21 => row(Form::List(Listing::Values), WordCount::Exactly(2)),
-        _ => row(Form::List(Listing::Both), WordCount::Exactly(2)),
+        0 => row(Form::Set, AtLeast(4)),
+        1 => row(Form::SetMany, EvenFrom(4)),
+        2 => row(Form::Increment, AtLeast(4)),
+        3 => row(Form::Expire(TimeUnit::SecondsFromNow), AtLeast(4)),
+        4 => row(Form::Expire(TimeUnit::Seconds), AtLeast(4)),
+        5 => row(Form::Expire(TimeUnit::MillisecondsFromNow), AtLeast(4)),
+        6 => row(Form::Expire(TimeUnit::Milliseconds), AtLeast(4)),
+        7 => row(Form::Persist, Exactly(3)),
+        8 => row(Form::Renumber, Exactly(4)),
+        9 => row(Form::Ask(Question::Milliseconds), Exactly(3)),
+        10 => row(Form::Ask(Question::Seconds), Exactly(3)),
+        11 => row(Form::Ask(Question::Version), Exactly(3)),
+        12 => row(Form::Ask(Question::Value), Exactly(3)),
+        13 => row(Form::Ask(Question::Length), Exactly(3)),
+        14 => row(Form::Ask(Question::Exists), Exactly(3)),
+        15 => row(Form::Ask(Question::Versioned), Exactly(3)),
+        16 => row(Form::GetMany(Question::Value), AtLeast(3)),
+        17 => row(Form::GetMany(Question::Versioned), AtLeast(3)),
+        18 => row(Form::Delete, AtLeast(3)),
+        19 => row(Form::Count, AtLeast(2)),
+        20 => row(Form::List(Listing::Fields), Exactly(2)),
+        21 => row(Form::List(Listing::Values), Exactly(2)),
+        _ => row(Form::List(Listing::Both), Exactly(2)),
     }
 }
 
