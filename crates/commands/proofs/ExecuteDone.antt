@@ -1,5 +1,5 @@
 -- From what a command's function does to what `exec_bytes` says.
-use Rattle.std.specs.Prelude.{None, Some}
+use Rattle.std.specs.Prelude.{None, Some, Result, Ok, Err}
 use mathlib.Core.Path.{◌≡◌, refl, sym, ap, subst, ◌∙◌}
 use mathlib.Core.Bool.{Bool, true, false, cond}
 use mathlib.Core.List.{List, [], ◌∷◌}
@@ -22,6 +22,7 @@ use Rattle.store.specs.Promises.{Holds}
 use Rattle.store.proofs.Encode.{encode_decode, decode_valid}
 use Rattle.commands.specs.declared.FieldDeed.{FieldDeed}
 use Rattle.commands.specs.declared.KeyDeed.{KeyDeed}
+use Rattle.commands.specs.declared.refusal.Refusal.{Refusal}
 use Rattle.commands.specs.declared.Parsed.{Parsed}
 use Rattle.commands.specs.declared.Parsed.TheVariants as parses
 use Rattle.commands.specs.Refusal.{buffer_least, error_line}
@@ -32,10 +33,10 @@ use Rattle.commands.specs.Parse.{commands, command_named, count_fits, parse, sca
 use Rattle.commands.specs.Parse.Parsed.{refused, accepted}
 use Rattle.commands.specs.Execute.{run_on, run, perform, exec, exec_bytes}
 use Rattle.commands.specs.TablePromises.{least_of}
-use Rattle.commands.specs.ParsePromises.{Divided, meant, deed_of, command_for, is_refusal}
+use Rattle.commands.specs.ParsePromises.{Divided, refusal_number, meant, deed_of, command_for}
 use Rattle.commands.specs.Promises.{Does, Replied, Opened, WithinLimits}
 use Rattle.commands.proofs.Acts.{holds_self}
-use Rattle.commands.proofs.ParseChecks.{checks_clear, parse_known, parse_accepted}
+use Rattle.commands.proofs.ParseChecks.{checks_clear, parse_accepted}
 use Rattle.commands.proofs.Sound.{parse_clock}
 use Rattle.commands.proofs.Keeps.{now_early}
 
@@ -121,20 +122,17 @@ module _ (clock : ℕ) (command b : List ℕ) (w : well_formed b ≡ true) {time
   unfolding exec perform
   accepted_done x = rw (← t, e) x
 
-module _ (clock : ℕ) (command b : List ℕ) (w : well_formed b ≡ true) (ws : List Word) {time : ℕ} (t : time ≡ now_at clock (decode b)) {p : Parsed} (m : meant ws p ≡ parse time clock command) where
+module _ (clock : ℕ) (command b : List ℕ) (w : well_formed b ≡ true) (ws : List Word) {time : ℕ} (t : time ≡ now_at clock (decode b)) {p : Result Parsed Refusal} (m : meant ws p ≡ parse time clock command) where
   -- its refusal
-  said_refused : {n : ℕ} → p ≡ parses.Refused n → parse time clock command ≡ refused n
+  said_refused : {n : Refusal} → p ≡ Err n → parse time clock command ≡ refused (refusal_number n)
   unfolding meant
   said_refused q = sym m ∙ ap (meant ws) q
 
-  pub refusal_known : {n : ℕ} → p ≡ parses.Refused n → is_refusal n ≡ true
-  refusal_known {n} q = parse_known time clock command n (said_refused q)
-
-  pub refusal_done : {n : ℕ} {d x : List ℕ} {r : ℕ} → p ≡ parses.Refused n → Laid (error_line n) d x r → Does (exec clock command (decode b)) b d x r
+  pub refusal_done : {n : Refusal} {d x : List ℕ} {r : ℕ} → p ≡ Err n → Laid (error_line (refusal_number n)) d x r → Does (exec clock command (decode b)) b d x r
   unfolding exec perform
   refusal_done {n} q l = rw (← t, said_refused q) (record { laid = l; holds = holds_self w })
 
-  module _ {d : FieldDeed} (q : p ≡ parses.OnField d) where
+  module _ {d : FieldDeed} (q : p ≡ Ok (parses.OnField d)) where
     abbrev field_command : Command
     field_command = on_field (word_at 1 ws) (word_at 2 ws) (deed_of (word_at 3 ws) d)
 
@@ -151,7 +149,7 @@ module _ (clock : ℕ) (command b : List ℕ) (w : well_formed b ≡ true) (ws :
     pub field_done : {after o x : List ℕ} {r : ℕ} → Does (run time field_command (decode b)) after o x r → Does (exec clock command (decode b)) after o x r
     field_done h = accepted_done clock command b w t field_command on_field_lem h
 
-  module _ {d : KeyDeed} (q : p ≡ parses.OnKey d) where
+  module _ {d : KeyDeed} (q : p ≡ Ok (parses.OnKey d)) where
     abbrev key_command : Command
     key_command = command_for (word_at 1 ws) (drop 2 ws) d
 

@@ -1,5 +1,5 @@
 -- What is done with one field that was looked for: each way in which its code goes, and the effect that it has.
-use Rattle.std.specs.Prelude.{Option, None, Some, option_map}
+use Rattle.std.specs.Prelude.{Option, None, Some, option_map, Result, Ok, Err, ⊤}
 use mathlib.Core.Path.{◌≡◌, refl, sym, ap, ◌∙◌}
 use mathlib.Core.Bool.{Bool, true, false, not, ◌&&◌, and-false}
 use mathlib.Core.List.{List, []}
@@ -33,26 +33,25 @@ use Rattle.commands.specs.declared.Lifetime.{Lifetime}
 use Rattle.commands.specs.declared.Condition.TheVariants.{Always}
 use Rattle.commands.specs.declared.Sum.{Sum}
 use Rattle.commands.specs.declared.Stamping.{Stamping}
-use Rattle.commands.specs.declared.field.WriteOutcome.{WriteOutcome}
-use Rattle.commands.specs.declared.field.WriteOutcome.TheVariants as writes
+use Rattle.commands.specs.declared.refusal.Refusal.{Refusal}
+use Rattle.commands.specs.declared.refusal.Refusal.TheVariants.{StaleVersion, HashNotInteger, SumOverflow, VersionOverflow, StoreFull}
 use Rattle.commands.specs.declared.field.Settled.{Settled}
 use Rattle.commands.specs.declared.field.Settled.TheVariants as settleds
 use Rattle.commands.specs.Refusal.{error_line}
 use Rattle.commands.specs.Effect.{writing, is_stale, next_version, setter_version, next_expiry, barred, written, counted, has_expiry, set_effect, increment_effect, expire_effect, persist_effect, renumber_effect}
-use Rattle.commands.specs.ParsePromises.{is_refusal}
-use Rattle.commands.specs.Promises.{HeldAt, FoundIn, Sought, Storable, Wrote, Changes, answer_most, entry_for, look_for, slot_after, held_version, held_expiry, versioned, expiring, bounded_sum, incremented, fields_added, write_settled}
+use Rattle.commands.specs.Promises.{HeldAt, FoundIn, Sought, Storable, Wrote, Changes, answer_most, entry_for, look_for, slot_after, held_version, held_expiry, versioned, expiring, bounded_sum, incremented, fields_added}
 use Rattle.commands.proofs.Replies.{error_short, few_short}
 use Rattle.commands.proofs.Answers.{held_fits, looked_held, looked_entry, looked_missing}
 use Rattle.commands.proofs.Writes.{next_expiry_lem}
 use Rattle.commands.proofs.Acts.{after_look, may_place}
 use Rattle.commands.proofs.VersionPlans.{stale_is, version_is, expiry_is, setter_held}
-use Rattle.commands.proofs.Settling.{changes_as, changes_stale, changes_unread, changes_overflow, changes_answer, wrote_passes, wrote_full, wrote_done, wrote_settles}
+use Rattle.commands.proofs.Settling.{changes_as, changes_stale, changes_unread, changes_overflow, changes_answer, wrote_passes, wrote_full, wrote_done, wrote_replied, wrote_refused}
 
 -- ---- room for a reply
 
 -- A refusal's line may be written,
-pub may_refuse : (n : ℕ) {m : ℕ} → is_refusal n ≡ true → answer_most ≤ m → (is_refusal n ≡ true) × (length (error_line n) ≤ m)
-may_refuse n h l = (h, omega (arith, (error_short n).short))
+pub may_refuse : (n : ℕ) {m : ℕ} → answer_most ≤ m → length (error_line n) ≤ m
+may_refuse n l = omega (arith, (error_short n).short)
 
 -- a small number,
 pub may_count : (n : ℕ) {m : ℕ} → n ≤ 999 → answer_most ≤ m → length (number n) ≤ m
@@ -122,13 +121,13 @@ module _ (time : ℕ) (stamping : Stamping) (v : List ℕ) {b k f : List ℕ} {f
     version_next = version_is (entry_for (decode b).slots found) stamping.versioning hv nv
 
     -- Its version passes the largest.
-    pub write_passes : version_most < version → Wrote time written_entry b b (writes.Refused 23)
+    pub write_passes : version_most < version → Wrote time written_entry b b (Err VersionOverflow)
     unfolding written
     write_passes l = wrote_passes time written_entry s.well (rw (← version_next) l)
 
     module _ (l : version ≤ version_most) {slot : Option ℕ} (q : slot ≡ slot_after time found (decode b).slots) where
       -- There is no place for it.
-      pub write_full : slot ≡ None → Wrote time written_entry b b (writes.Refused 24)
+      pub write_full : slot ≡ None → Wrote time written_entry b b (Err StoreFull)
       unfolding written
       write_full h = wrote_full time written_entry s.well (rw (← version_next) l) (after_look time b k f s.looked (sym h ∙ q))
 
@@ -152,7 +151,7 @@ module _ (time : ℕ) (stamping : Stamping) (v : List ℕ) {b k f : List ℕ} {f
             })
 
         -- and is then written.
-        pub write_done : {d : List ℕ} → Holds d (with_slot i (Some (entry k f v version expiry)) (decode b)) → Wrote time written_entry b d writes.Done
+        pub write_done : {d : List ℕ} → Holds d (with_slot i (Some (entry k f v version expiry)) (decode b)) → {x : ⊤} → Wrote time written_entry b d (Ok x)
         unfolding written
         write_done x =
             rw (← version_next, ← expiry_next)
@@ -174,20 +173,27 @@ module _ (time : ℕ) (k f v : List ℕ) (stamping : Stamping) (b : List ℕ) (f
   entry_here = entry_for (decode b).slots found
 
   pub assign_stale : well_formed b ≡ true → p ≡ true
-      → Changes time (set_effect k f v Always stamping.versioning stamping.lifetime entry_here) b b (settleds.Refused 20)
+      → Changes time (set_effect k f v Always stamping.versioning stamping.lifetime entry_here) b b (Err StaleVersion)
   unfolding set_effect barred
   assign_stale w y =
       changes_stale time (set_effect k f v Always stamping.versioning stamping.lifetime entry_here) w
       (sym hs ∙ y)
 
-  pub assign_done : {after : List ℕ} {w : WriteOutcome} {z : Signed} {r : Settled} → p ≡ false
-      → Wrote time (written k f v stamping.versioning stamping.lifetime entry_here) b after w → z ≡ fields_added found → r ≡ write_settled w z
-      → Changes time (set_effect k f v Always stamping.versioning stamping.lifetime entry_here) b after r
-  unfolding set_effect barred
-  assign_done {z = z} fresh wr hz q =
-      let a = added_reply (decode b).slots found in
-      changes_as time (rw (← hs, fresh, a.0, ← hz) refl)
-      (wrote_settles time (written k f v stamping.versioning stamping.lifetime entry_here) z (rw hz a.1) wr q)
+  module _ (fresh : p ≡ false) {after : List ℕ} where
+    assign_as : {r : Result Settled Refusal}
+        → Changes time (writing false (written k f v stamping.versioning stamping.lifetime entry_here) (integer (integer_of (fields_added found)))) b after r
+        → Changes time (set_effect k f v Always stamping.versioning stamping.lifetime entry_here) b after r
+    unfolding set_effect barred
+    assign_as = changes_as time (rw (← hs, fresh, (added_reply (decode b).slots found).0) refl)
+
+    pub assign_refused : {r : Refusal} → Wrote time (written k f v stamping.versioning stamping.lifetime entry_here) b after (Err r)
+        → Changes time (set_effect k f v Always stamping.versioning stamping.lifetime entry_here) b after (Err r)
+    assign_refused wr = assign_as (wrote_refused time (written k f v stamping.versioning stamping.lifetime entry_here) (fields_added found) b wr)
+
+    pub assign_done : {x : ⊤} {z : Signed} → Wrote time (written k f v stamping.versioning stamping.lifetime entry_here) b after (Ok x) → z ≡ fields_added found
+        → Changes time (set_effect k f v Always stamping.versioning stamping.lifetime entry_here) b after (Ok (settleds.Replied z))
+    assign_done wr hz =
+        rw hz (assign_as (wrote_replied time (written k f v stamping.versioning stamping.lifetime entry_here) (fields_added found) b (added_reply (decode b).slots found).1 wr))
 
 -- ---- a slot's version and expiry
 
@@ -227,22 +233,20 @@ module _ {b : List ℕ} {i : ℕ} (h : Held b i) where
   pub held_expiry_most : {x : Option ℕ} → x ≡ slot_entry.expiry → instant_of x ≤ time_limit
   held_expiry_most e = rw e (held_fits h).expiry
 
-  stamped_one : (v : ℕ) (x : Option ℕ) {after : List ℕ} {w : WriteOutcome} (time : ℕ) → Wrote time (stamped v x slot_entry) b after w
-      → Changes time (writing false (stamped v x slot_entry) (number 1)) b after (write_settled w (record { negative = false; magnitude = 1 }))
-  unfolding integer_of within
-  stamped_one v x time wr = wrote_settles time (stamped v x slot_entry) (record { negative = false; magnitude = 1 }) refl wr refl
+  abbrev one : Signed
+  one = record { negative = false; magnitude = 1 }
 
   -- Its version passes the largest.
   pub stamp_passes : {v : ℕ} (x : Option ℕ) → version_most < v → (time : ℕ)
-      → Changes time (writing false (stamped v x slot_entry) (number 1)) b b (settleds.Refused 23)
-  unfolding write_settled
-  stamp_passes {v} x l time = stamped_one v x time (wrote_passes time (stamped v x slot_entry) h.well l)
+      → Changes time (writing false (stamped v x slot_entry) (number 1)) b b (Err VersionOverflow)
+  unfolding integer_of
+  stamp_passes {v} x l time = wrote_refused time (stamped v x slot_entry) one b (wrote_passes time (stamped v x slot_entry) h.well l)
 
   -- It is written.
   pub stamp_done : {v : ℕ} (x : Option ℕ) {after : List ℕ} → v ≤ version_most → Holds after (with_slot i (Some (stamped v x slot_entry)) (decode b))
-      → (time : ℕ) → Changes time (writing false (stamped v x slot_entry) (number 1)) b after (settleds.Replied (record { negative = false; magnitude = 1 }))
-  unfolding write_settled
-  stamp_done {v} x l s time = stamped_one v x time (wrote_done time (stamped v x slot_entry) h.well l (own_place time) s)
+      → (time : ℕ) → Changes time (writing false (stamped v x slot_entry) (number 1)) b after (Ok (settleds.Replied one))
+  unfolding integer_of within
+  stamp_done {v} x l s time = wrote_replied time (stamped v x slot_entry) one b refl {x = tt} (wrote_done time (stamped v x slot_entry) h.well l (own_place time) s)
 
 -- An instant within the limit, and none.
 pub at_most : {t : ℕ} → t ≤ time_limit → instant_of (Some t) ≤ time_limit
@@ -256,12 +260,12 @@ never_most = omega arith
 -- ---- EXHEXPIRE and the like, EXHPERSIST, EXHSETVER
 
 -- what a deed that stamps an entry answers
-abbrev Stamps : List ℕ → List ℕ → Settled → ℕ → Option ℕ → ℕ → Type 0
+abbrev Stamps : List ℕ → List ℕ → Result Settled Refusal → ℕ → Option ℕ → ℕ → Type 0
 Stamps b after r i x v = (u : ℕ) → Changes u (writing false (stamped v x (entry_at (decode b).slots i)) (number 1)) b after r
 
 module _ {b : List ℕ} {found : Option ℕ} (s : FoundIn b found) where
-  abbrev nothing : Settled
-  nothing = settleds.Replied (record { negative = false; magnitude = 0 })
+  abbrev nothing : Result Settled Refusal
+  nothing = Ok (settleds.Replied (record { negative = false; magnitude = 0 }))
 
   -- Nothing is done, and 0 replied.
   replies_zero : (time : ℕ) → Changes time (record { stale = false; not_integer = false; overflows = false; changes = []; reply = number 0 }) b b nothing
@@ -289,10 +293,10 @@ module _ {b : List ℕ} {found : Option ℕ} (s : FoundIn b found) where
       unfolding expire_effect entry_for or_else held_version
       expire_as = rw (h, ← stale_is found_entry n hv hs) refl
 
-      pub expire_stale : q ≡ true → (time : ℕ) → Changes time (expire_effect t n (entry_for (decode b).slots found)) b b (settleds.Refused 20)
+      pub expire_stale : q ≡ true → (time : ℕ) → Changes time (expire_effect t n (entry_for (decode b).slots found)) b b (Err StaleVersion)
       expire_stale y time = changes_as time expire_as (changes_stale time _ s.well y)
 
-      pub expire_done : {m : ℕ} {after : List ℕ} {r : Settled} → q ≡ false → m ≡ setter_version n (versioned held) → Stamps b after r i (Some t) m
+      pub expire_done : {m : ℕ} {after : List ℕ} {r : Result Settled Refusal} → q ≡ false → m ≡ setter_version n (versioned held) → Stamps b after r i (Some t) m
           → (time : ℕ) → Changes time (expire_effect t n (entry_for (decode b).slots found)) b after r
       expire_done {m} y hm a time = changes_as time (expire_as ∙ rw (y, ← same_version) refl) (a time)
         where
@@ -304,12 +308,12 @@ module _ {b : List ℕ} {found : Option ℕ} (s : FoundIn b found) where
       unfolding persist_effect entry_for or_else has_expiry
       persist_never e time = changes_as time (rw (h, ← hx, e) refl) (replies_zero time)
 
-      pub persist_done : {t v : ℕ} {after : List ℕ} {r : Settled} → until ≡ Some t → v ≡ found_entry.version → Stamps b after r i None v
+      pub persist_done : {t v : ℕ} {after : List ℕ} {r : Result Settled Refusal} → until ≡ Some t → v ≡ found_entry.version → Stamps b after r i None v
           → (time : ℕ) → Changes time (persist_effect (entry_for (decode b).slots found)) b after r
       unfolding persist_effect entry_for or_else has_expiry
       persist_done e hv a time = changes_as time (rw (h, ← hx, e, ← hv) refl) (a time)
 
-    pub renumber_done : (v : ℕ) {x : Option ℕ} {after : List ℕ} {r : Settled} → x ≡ found_entry.expiry → Stamps b after r i x v
+    pub renumber_done : (v : ℕ) {x : Option ℕ} {after : List ℕ} {r : Result Settled Refusal} → x ≡ found_entry.expiry → Stamps b after r i x v
         → (time : ℕ) → Changes time (renumber_effect v (entry_for (decode b).slots found)) b after r
     unfolding renumber_effect entry_for or_else
     renumber_done v hx a time = changes_as time (rw (h, ← hx) refl) (a time)
@@ -410,25 +414,17 @@ module _ (z : ℤ) (h : within lowest64 highest64 z ≡ true) where
         lifetime = s.lifetime;
       }
 
--- A sum's text was written.
-pub sum_settles : (time : ℕ) (k f : List ℕ) (stamping : Stamping) (o : Option Entry) (z : Signed) {v b after : List ℕ} {w : WriteOutcome} {r : Settled}
-    → within lowest64 highest64 (integer_of z) ≡ true → v ≡ integer_text (integer_of z)
-    → Wrote time (written k f v stamping.versioning stamping.lifetime o) b after w → r ≡ write_settled w z
-    → Changes time (writing false (written k f (integer_text (integer_of z)) stamping.versioning stamping.lifetime o) (integer (integer_of z))) b after r
-sum_settles time k f stamping o z h e wr q =
-    wrote_settles time (written k f (integer_text (integer_of z)) stamping.versioning stamping.lifetime o) z h (rw e at wr) q
-
 module _ (time : ℕ) (sum : Sum) (stamping : Stamping) (k f b : List ℕ) (well : well_formed b ≡ true) (found : Option ℕ) {p : Bool}
     (hs : p ≡ is_stale stamping.versioning (entry_for (decode b).slots found)) where
   abbrev found_here : Option Entry
   found_here = entry_for (decode b).slots found
 
-  pub increment_stale : p ≡ true → Changes time (incremented sum stamping k f found_here) b b (settleds.Refused 20)
+  pub increment_stale : p ≡ true → Changes time (incremented sum stamping k f found_here) b b (Err StaleVersion)
   unfolding increment_effect
   increment_stale y = changes_stale time (incremented sum stamping k f found_here) well (sym hs ∙ y)
 
   module _ (fresh : p ≡ false) {stored : Option Signed} (hc : stored ≡ option_map signed_for (counted found_here)) where
-    pub increment_unread : stored ≡ None → Changes time (incremented sum stamping k f found_here) b b (settleds.Refused 21)
+    pub increment_unread : stored ≡ None → Changes time (incremented sum stamping k f found_here) b b (Err HashNotInteger)
     unfolding increment_effect
     increment_unread q =
         changes_unread time (incremented sum stamping k f found_here) well (sym hs ∙ fresh) (rw (read_not (counted found_here) (sym q ∙ hc)) refl)
@@ -437,7 +433,7 @@ module _ (time : ℕ) (sum : Sum) (stamping : Stamping) (k f b : List ℕ) (well
       start_is : counted found_here ≡ Some (integer_of start)
       start_is = read_as (counted found_here) (sym q ∙ hc)
 
-      pub increment_overflow : whole ≡ None → Changes time (incremented sum stamping k f found_here) b b (settleds.Refused 22)
+      pub increment_overflow : whole ≡ None → Changes time (incremented sum stamping k f found_here) b b (Err SumOverflow)
       unfolding increment_effect bounded_sum
       increment_overflow e =
           changes_overflow time (incremented sum stamping k f found_here) well (sym hs ∙ fresh) (rw start_is refl)
@@ -453,7 +449,7 @@ module _ (time : ℕ) (sum : Sum) (stamping : Stamping) (k f b : List ℕ) (well
         pub increment_within : within lowest64 highest64 (integer_of z) ≡ true
         increment_within = rw (← total_is.1) (and_left _ _ total_is.0)
 
-        pub increment_done : {after : List ℕ} {r : Settled}
+        pub increment_done : {after : List ℕ} {r : Result Settled Refusal}
             → Changes time (writing false (written k f (integer_text (integer_of z)) stamping.versioning stamping.lifetime found_here) (integer (integer_of z))) b after r
             → Changes time (incremented sum stamping k f found_here) b after r
         unfolding increment_effect

@@ -25,10 +25,10 @@ pub mod VersionOption
 pub mod GivenVersion
 pub mod Forward
 pub mod VersionCheck
--- ---- tables and lines: the code's rows are the definitions' own
+-- ---- tables: the code's rows are the definitions' own
 pub mod TableRows
-pub mod RefusalLines
 -- ---- reading a command: its checks, the options one after the other, the families
+pub mod Handing
 pub mod ParseChecks
 pub mod Sound
 pub mod OptionScanning

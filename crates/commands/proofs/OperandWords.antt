@@ -1,5 +1,5 @@
 -- What the options of a command say, by what they say in their groups and the numbers of their operands' words.
-use Rattle.std.specs.Prelude.{Option, None, Some, option_map}
+use Rattle.std.specs.Prelude.{Option, None, Some, option_map, Ok, Err}
 use mathlib.Core.Path.{◌≡◌, refl, sym, ◌∙◌}
 use mathlib.Core.List.{List}
 use Prim.Native.Nat.{ℕ, ◌≤◌, ◌<◌}
@@ -14,8 +14,7 @@ use Rattle.wire.proofs.Lists.{impossible}
 use Rattle.wire.proofs.IntegerLaws.{natural_read, read_natural_most}
 use Rattle.wire.proofs.IntegerSigns.{read_value, read_refused}
 use Rattle.store.specs.Layout.{time_limit, version_most}
-use Rattle.commands.specs.declared.operands.Timed.TheVariants as timeds
-use Rattle.commands.specs.declared.operands.Versioned.TheVariants as versioneds
+use Rattle.commands.specs.declared.refusal.Refusal.TheVariants.{NotInteger}
 use Rattle.commands.specs.declared.table.TimeUnit.{TimeUnit}
 use Rattle.commands.specs.declared.Condition.TheVariants as conditions
 use Rattle.commands.specs.declared.Lifetime.TheVariants as lifetimes
@@ -53,11 +52,11 @@ unfolding instant instant_in natural_in number_in read_in
 instant_read time unit w n e = rw e
 
 module _ (ws : List Word) (said operand time : ℕ) where
-  pub lifetime_none : not_given ≤ said → timeds.Value lifetimes.Clear ≡ timed_for time (option_at ws expiry_group said operand)
+  pub lifetime_none : not_given ≤ said → Ok lifetimes.Clear ≡ timed_for time (option_at ws expiry_group said operand)
   unfolding timed_for read_of lifetime_by or_else
   lifetime_none l = rw (option_none ws expiry_group said operand l)
 
-  pub lifetime_keep : said ≡ kept → timeds.Value lifetimes.Keep ≡ timed_for time (option_at ws expiry_group said operand)
+  pub lifetime_keep : said ≡ kept → Ok lifetimes.Keep ≡ timed_for time (option_at ws expiry_group said operand)
   unfolding timed_for read_of lifetime_by or_else option_at numbered kind_in expiry_kind readable_operand operand_range lifetime_of
   lifetime_keep e = rw e
 
@@ -66,19 +65,19 @@ module _ (ws : List Word) (said operand time : ℕ) where
     unfolding numbered kind_in expiry_kind operand_range
     given_expiry = option_some ws expiry_group said operand l ∙ rw (ne_eqb said kept k)
 
-    pub lifetime_refused : read_integer (pos 0) (pos time_limit) (word_at operand ws) ≡ None → timeds.Refused ≡ timed_for time (option_at ws expiry_group said operand)
+    pub lifetime_refused : read_integer (pos 0) (pos time_limit) (word_at operand ws) ≡ None → Err NotInteger ≡ timed_for time (option_at ws expiry_group said operand)
     unfolding timed_for read_of or_else readable_operand operand_range readable read_in
     lifetime_refused e = rw (given_expiry, e)
 
     pub lifetime_until : (n : ℕ) {t : ℕ} → read_integer (pos 0) (pos time_limit) (word_at operand ws) ≡ Some (pos n) → (unit : TimeUnit) → unit_meant unit ≡ unit_of said → t ≡ instant_in unit n time
-        → timeds.Value (lifetimes.Until t) ≡ timed_for time (option_at ws expiry_group said operand)
+        → Ok (lifetimes.Until t) ≡ timed_for time (option_at ws expiry_group said operand)
     unfolding timed_for read_of lifetime_by or_else readable_operand operand_range readable read_in lifetime_of
     lifetime_until n q unit u e = rw (given_expiry, e, ← instant_read time unit (word_at operand ws) n q, u, q)
 
 -- ---- the version
 
 module _ (ws : List Word) (said operand : ℕ) where
-  pub versioning_none : not_given ≤ said → versioneds.Value versionings.Next ≡ versioned_for (option_at ws version_group said operand)
+  pub versioning_none : not_given ≤ said → Ok versionings.Next ≡ versioned_for (option_at ws version_group said operand)
   unfolding versioned_for read_of version_by or_else
   versioning_none l = rw (option_none ws version_group said operand l)
 
@@ -87,24 +86,24 @@ module _ (ws : List Word) (said operand : ℕ) where
     unfolding numbered kind_in operand_range
     given_version = option_some ws version_group said operand l
 
-    pub versioning_refused : read_integer (pos 0) (pos version_most) (word_at operand ws) ≡ None → versioneds.Refused ≡ versioned_for (option_at ws version_group said operand)
+    pub versioning_refused : read_integer (pos 0) (pos version_most) (word_at operand ws) ≡ None → Err NotInteger ≡ versioned_for (option_at ws version_group said operand)
     unfolding versioned_for read_of or_else readable_operand operand_range readable read_in
     versioning_refused e = rw (given_version, e)
 
     module _ (n : ℕ) (q : read_integer (pos 0) (pos version_most) (word_at operand ws) ≡ Some (pos n)) where
-      versioning_read : versioned_for (option_at ws version_group said operand) ≡ versioneds.Value (versioning_by said n)
+      versioning_read : versioned_for (option_at ws version_group said operand) ≡ Ok (versioning_by said n)
       unfolding versioned_for read_of version_by or_else readable_operand operand_range readable read_in versioning_of natural_in number_in
       versioning_read = rw (given_version, q)
 
-      pub versioning_match : said ≡ matched → versioneds.Value (versionings.Match n) ≡ versioned_for (option_at ws version_group said operand)
+      pub versioning_match : said ≡ matched → Ok (versionings.Match n) ≡ versioned_for (option_at ws version_group said operand)
       unfolding versioning_by
       versioning_match e = sym (versioning_read ∙ rw (eq-eqb said matched e))
 
-      pub versioning_exactly : said ≡ exact → versioneds.Value (versionings.Exactly n) ≡ versioned_for (option_at ws version_group said operand)
+      pub versioning_exactly : said ≡ exact → Ok (versionings.Exactly n) ≡ versioned_for (option_at ws version_group said operand)
       unfolding versioning_by
       versioning_exactly e = sym (versioning_read ∙ rw e)
 
-      pub versioning_above : (said ≡ matched → ⊥) → (said ≡ exact → ⊥) → versioneds.Value (versionings.Above n) ≡ versioned_for (option_at ws version_group said operand)
+      pub versioning_above : (said ≡ matched → ⊥) → (said ≡ exact → ⊥) → Ok (versionings.Above n) ≡ versioned_for (option_at ws version_group said operand)
       unfolding versioning_by
       versioning_above d e = sym (versioning_read ∙ rw (ne_eqb said matched d, ne_eqb said exact e))
 

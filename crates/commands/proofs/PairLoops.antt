@@ -1,5 +1,5 @@
 -- Loops over the pairs that the words of a command say: what is left does the same.
-use Rattle.std.specs.Prelude.{Option, None, Some, is_some}
+use Rattle.std.specs.Prelude.{Option, None, Some, is_some, Ok, Err}
 use mathlib.Core.Path.{◌≡◌, refl, sym, ap, subst, ◌∙◌}
 use mathlib.Core.Bool.{Bool, true, false, cond, not, ◌||◌}
 use mathlib.Core.List.{List, [], ◌∷◌, map}
@@ -19,7 +19,7 @@ use Rattle.store.specs.Time.{lowest_slot, put}
 use Rattle.store.specs.Promises.{Holds}
 use Rattle.store.specs.Valid.{Short}
 use Rattle.store.proofs.Finding.{any_lowest}
-use Rattle.commands.specs.declared.pairs.Survey.TheVariants as surveys
+use Rattle.commands.specs.declared.refusal.Refusal.TheVariants.{VersionOverflow}
 use Rattle.commands.specs.Command.{Pair, key_of, fields_of, values_of}
 use Rattle.commands.specs.Command.Command.{set_many}
 use Rattle.commands.specs.Parse.{pairs_of, too_long}
@@ -198,7 +198,7 @@ module _ {k : Word} {fields rest : List Word} {ss : List Slot} {n : ℕ} (s : Su
   pub surveying_few : n ≤ length fields
   surveying_few = omega (arith, s.sum, missing_most k fields ss)
 
-  pub surveying_ends : rest ≡ [] → surveys.Added n ≡ survey_of k fields ss
+  pub surveying_ends : rest ≡ [] → Ok n ≡ survey_of k fields ss
   unfolding survey_of overflowing missing
   surveying_ends q =
       let m : n ≡ missing k fields ss = omega (arith, s.sum, ap (λ (fs : List Word). missing k fs ss) q) in
@@ -213,7 +213,7 @@ module _ {k : Word} {fields rest : List Word} {ss : List Slot} {n : ℕ} (s : Su
         rw (a.passes, e, v) (ap (overflowing (version_in k ss)) (sym q) ∙ s.same)
 
     -- the field passes the largest version
-    pub surveying_over : version_most < held + (again + 1) → surveys.Overflow ≡ survey_of k fields ss
+    pub surveying_over : version_most < held + (again + 1) → Err VersionOverflow ≡ survey_of k fields ss
     unfolding survey_of
     surveying_over h = rw (← passes_here, lt-ltb version_most (held + (again + 1)) h)
 
@@ -338,7 +338,7 @@ abbrev pub Passing : List ℕ → List (List ℕ) → List ℕ → Word → ℕ 
 Passing s places b k i = (f : Word) (found : Option ℕ) (held again : ℕ) → i + 1 < length places → f ≡ word_at i (words_in s places)
     → found ≡ (lowest_slot (holds k f) (decode b).slots) → held ≡ held_version (entry_for (decode b).slots found)
     → Telling found held (times_in (word_at i (words_in s places)) (fields_in (drop (i + 2) (words_in s places)))) again → version_most < held + (again + 1)
-    → surveys.Overflow ≡ survey_of k (fields_in (words_in s places)) (decode b).slots
+    → Err VersionOverflow ≡ survey_of k (fields_in (words_in s places)) (decode b).slots
 
 pub survey_passes : (s : List ℕ) (places : List (List ℕ)) (b : List ℕ) (k : Word) (i : ℕ) {n : ℕ} → well_formed b ≡ true
     → Surveying k (fields_in (words_in s places)) (named_from s places i) (decode b).slots n → Passing s places b k i

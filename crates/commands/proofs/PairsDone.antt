@@ -1,5 +1,5 @@
 -- What an EXHMSET comes to.
-use Rattle.std.specs.Prelude.{Some}
+use Rattle.std.specs.Prelude.{Some, Result, Ok, Err}
 use mathlib.Core.Path.{◌≡◌, refl, sym, ap, ◌∙◌}
 use mathlib.Core.Bool.{Bool, true, false, cond}
 use mathlib.Core.List.{List}
@@ -15,8 +15,8 @@ use Rattle.store.specs.Store.{Entry, Slot, Store, decode}
 use Rattle.store.specs.Time.{live, entry_of}
 use Rattle.store.specs.Promises.{Holds}
 use Rattle.store.proofs.Encode.{decode_valid}
-use Rattle.commands.specs.declared.pairs.Survey.{Survey}
-use Rattle.commands.specs.declared.pairs.Survey.TheVariants as surveys
+use Rattle.commands.specs.declared.refusal.Refusal.{Refusal}
+use Rattle.commands.specs.declared.refusal.Refusal.TheVariants.{VersionOverflow, StoreFull}
 use Rattle.commands.specs.Command.{Pair, key_of, fields_of}
 use Rattle.commands.specs.Command.Command.{set_many}
 use Rattle.commands.specs.Parse.{pairs_of}
@@ -24,6 +24,7 @@ use Rattle.commands.specs.Effect.{Change, writes_of, effect}
 use Rattle.commands.specs.Refusal.{error_line}
 use Rattle.wire.specs.Checks.{first_applying}
 use Rattle.commands.specs.Execute.{swept, passes, room, added, late_checks, settle, run_on}
+use Rattle.commands.specs.ParsePromises.{refusal_number}
 use Rattle.commands.specs.Promises.{Does, WithinLimits, fields_in, version_in, overflowing, missing, survey_of, Placing, with_all}
 use Rattle.commands.proofs.Acts.{holds_self}
 use Rattle.commands.proofs.Sound.{pair_count}
@@ -56,29 +57,30 @@ module _ (now : ℕ) (k : Word) (ws : List Word) (s : Store) {b : List ℕ} (h :
   unfolding key_of fields_of fields_in
   settles = swept_does now (set_many k pairs) s h
 
-  module _ (few : length ws ≤ words_most) {v : Survey} (survey : v ≡ survey_of k (fields_in ws) slots) where
+  module _ (few : length ws ≤ words_most) {v : Result ℕ Refusal} (survey : v ≡ survey_of k (fields_in ws) slots) where
     -- 23 applies where the survey says so
     passing_is : any passes changes ≡ overflowing (version_in k slots) (fields_in ws)
     unfolding fields_in
     passing_is = pairs_overflow now k pairs slots (omega (arith, pair_count ws)) (decode_valid b h.well).apart alive
 
     -- 23
-    pub many_over : v ≡ surveys.Overflow → {d x : List ℕ} {r : ℕ} → Laid (error_line 23) d x r → Does (run_on now (set_many k pairs) s) b d x r
-    unfolding settle or_else late_checks first_applying effect survey_of
-    many_over q l =
-        settles (rw (passing_is ∙ go (overflowing (version_in k slots) (fields_in ws)) (sym q ∙ survey)) (record { laid = l; holds = holds_self h.well }))
+    pub many_over : {n : Refusal} → v ≡ Err n → {d x : List ℕ} {r : ℕ} → Laid (error_line (refusal_number n)) d x r → Does (run_on now (set_many k pairs) s) b d x r
+    unfolding settle or_else late_checks first_applying effect survey_of refusal_number
+    many_over {n} q {d} {x} {r} l =
+        let over = go (overflowing (version_in k slots) (fields_in ws)) (sym q ∙ survey) in
+        settles (rw (passing_is ∙ over.0) (record { laid = rw over.1 at l; holds = holds_self h.well }))
       where
-        go : (t : Bool) → surveys.Overflow ≡ cond t surveys.Overflow (surveys.Added (missing k (fields_in ws) slots)) → t ≡ true
-        go true e = refl
-        go false e = cc
+        go : (t : Bool) → Err n ≡ cond t (Err VersionOverflow) (Ok (missing k (fields_in ws) slots)) → (t ≡ true) × (n ≡ VersionOverflow)
+        go true e = (refl, cc)
+        go false e = (cc, cc)
 
-    module _ {n : ℕ} (q : v ≡ surveys.Added n) where
+    module _ {n : ℕ} (q : v ≡ Ok n) where
       told : (any passes changes ≡ false) × (added changes slots ≡ n)
       unfolding survey_of fields_in
       told = go (overflowing (version_in k slots) (fields_in ws)) refl (sym q ∙ survey)
         where
           go : (t : Bool) → overflowing (version_in k slots) (fields_in ws) ≡ t
-              → surveys.Added n ≡ cond t surveys.Overflow (surveys.Added (missing k (fields_in ws) slots))
+              → Ok n ≡ cond t (Err VersionOverflow) (Ok (missing k (fields_in ws) slots))
               → (any passes changes ≡ false) × (added changes slots ≡ n)
           go true w e = (cc, cc)
           go false w e = let m : missing k (fields_in ws) slots ≡ n = cc in (passing_is ∙ w, added_missing now k pairs slots slots ∙ m)
@@ -89,8 +91,8 @@ module _ (now : ℕ) (k : Word) (ws : List Word) (s : Store) {b : List ℕ} (h :
 
       module _ {full : Bool} (e : full ≡ ltb (room now slots) n) where
         -- 24
-        pub many_full : full ≡ true → {d x : List ℕ} {r : ℕ} → Laid (error_line 24) d x r → Does (run_on now (set_many k pairs) s) b d x r
-        unfolding settle or_else late_checks first_applying effect
+        pub many_full : full ≡ true → {d x : List ℕ} {r : ℕ} → Laid (error_line (refusal_number StoreFull)) d x r → Does (run_on now (set_many k pairs) s) b d x r
+        unfolding settle or_else late_checks first_applying effect refusal_number
         many_full g l = settles (rw (told.0, told.1, ← e, g) (record { laid = l; holds = holds_self h.well }))
 
         -- +OK

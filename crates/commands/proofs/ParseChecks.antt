@@ -4,7 +4,7 @@ use mathlib.Core.Path.{◌≡◌, refl}
 use mathlib.Core.Bool.{Bool, true, false, cond, not, ◌&&◌}
 use mathlib.Core.List.{List, []}
 use Prim.Native.Nat.{ℕ, ◌≤◌, ◌<◌}
-use lib.Dec.{leb}
+use lib.Dec.{leb, eqb}
 use lib.ListN.{length}
 use native.Mathlib.Omega.{arith}
 use borrow.Author.Tests.{leb-true, leb-false}
@@ -19,7 +19,6 @@ use Rattle.commands.specs.Command.{Command}
 use Rattle.commands.specs.Options.{Given, conflicting, readable, readable_operand}
 use Rattle.commands.specs.Parse.{Form, Count, CommandRow, Parsed, commands, command_named, count_fits, number_range, too_long, is_zero, deed_versioning, beyond, deed_lifetime, on_deed, later_checks, checks, scanned_of, said_by, checks_of, parse_words, parse}
 use Rattle.commands.specs.Parse.Parsed.{refused, accepted}
-use Rattle.commands.specs.ParsePromises.{is_refusal}
 
 -- ---- the checks of a command
 
@@ -114,6 +113,10 @@ reads_refused n (passed ws r w k m l) e = impossible cc
 -- A command that is refused when it is read is refused with one of 10 to 18.
 pub parse_refused : (now clock : ℕ) (s : List ℕ) (n : ℕ) → parse now clock s ≡ refused n → (early_least ≤ n) × (n ≤ early_most)
 parse_refused now clock s n e = reads_refused n (reads now clock s) e
+
+-- a number that has a line
+unfoldable pub is_refusal : ℕ → Bool
+is_refusal n = any (λ r. eqb r.number n) table
 
 reads_known : {now clock : ℕ} {s : List ℕ} {p : Parsed} (n : ℕ) → Reads now clock s p → p ≡ refused n → is_refusal n ≡ true
 unfolding is_refusal any table checks later_checks all

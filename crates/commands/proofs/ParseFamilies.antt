@@ -1,5 +1,5 @@
 -- Each family of commands, from the scan of its options to what it says.
-use Rattle.std.specs.Prelude.{Option, None, Some, option_map, is_some}
+use Rattle.std.specs.Prelude.{Result, Ok, Err, Option, None, Some, option_map, is_some}
 use mathlib.Core.Path.{◌≡◌, refl, sym, ap, ◌∙◌}
 use mathlib.Core.Bool.{Bool, true, false, cond, ◌&&◌, and-true, and-false}
 use mathlib.Core.List.{List, [], ◌∷◌}
@@ -16,7 +16,6 @@ use Rattle.wire.specs.Promises.{integer_of, signed_for}
 use Rattle.wire.proofs.Lists.{impossible}
 use Rattle.store.specs.Layout.{time_limit, version_most}
 use Rattle.commands.specs.declared.Condition.{Condition}
-use Rattle.commands.specs.declared.Lifetime.{Lifetime}
 use Rattle.commands.specs.declared.Versioning.{Versioning}
 use Rattle.commands.specs.declared.Question.{Question}
 use Rattle.commands.specs.declared.Listing.{Listing}
@@ -24,12 +23,9 @@ use Rattle.commands.specs.declared.Sum.{Sum}
 use Rattle.commands.specs.declared.FieldDeed.TheVariants as fieldDeeds
 use Rattle.commands.specs.declared.KeyDeed.TheVariants as keyDeeds
 use Rattle.commands.specs.declared.Parsed.TheVariants as parses
-use Rattle.commands.specs.declared.operands.Terms.{Terms}
-use Rattle.commands.specs.declared.operands.Terms.TheVariants as terms
-use Rattle.commands.specs.declared.operands.Versioned.{Versioned}
-use Rattle.commands.specs.declared.operands.Versioned.TheVariants as versioneds
-use Rattle.commands.specs.declared.operands.Added.{Added}
-use Rattle.commands.specs.declared.operands.Added.TheVariants as addeds
+use Rattle.commands.specs.declared.Stamping.{Stamping}
+use Rattle.commands.specs.declared.refusal.Refusal.{Refusal}
+use Rattle.commands.specs.declared.refusal.Refusal.TheVariants.{NotInteger, InvalidVersion, InvalidExpireTime}
 use Rattle.commands.specs.declared.options.ScannedOptions.{ScannedOptions}
 use Rattle.commands.specs.declared.table.TimeUnit.{TimeUnit}
 use Rattle.commands.specs.Command.{Deed, Command}
@@ -40,7 +36,7 @@ use Rattle.commands.specs.Parse.{Form, allowed, option_words, number_range, pair
 use Rattle.commands.specs.Parse.Form.{set_form, set_many_form, increment_form, expire_form, persist_form, renumber_form, ask_form, get_many_form, delete_form, count_form, list_form}
 use Rattle.commands.specs.Parse.Parsed.{accepted}
 use Rattle.commands.specs.TablePromises.{unit_meant, kind_in}
-use Rattle.commands.specs.ParsePromises.{not_given, given_at, instant_in, read_of, versioned_for, terms_for, condition_for, on_integer, sum_for, lowest_signed, highest_signed, bound_given, sum_of, parse_rest, deed_of, command_for, meant}
+use Rattle.commands.specs.ParsePromises.{not_given, given_at, instant_in, read_of, by_number, versioned_for, terms_for, condition_for, on_integer, sum_for, lowest_signed, highest_signed, bound_given, sum_of, parse_rest, deed_of, command_for, meant}
 use Rattle.commands.proofs.OperandWords.{instant_read}
 use Rattle.commands.proofs.OptionScanning.{option_some, option_none}
 use Rattle.commands.proofs.Parsing.{given_in, unclean, all_read, rest_16, rest_17, rest_18, rest_said, Takes, Ready, version_said, version_refused, terms_refused, terms_said, condition_said, bare_read, has_read, integer_read, integer_value, bound_readable, bound_said}
@@ -56,32 +52,32 @@ unfolding allowed option_words
 set_takes = record { groups = refl; words = λ ws. refl }
 
 module _ (time : ℕ) {ws : List Word} {r : ScannedOptions} (y : Ready set_form ws r)
-    {m : Terms} (em : m ≡ terms_for time (given_at ws r expiry_group) (given_at ws r version_group)) where
+    (m : Result Stamping Refusal) (em : by_number m ≡ terms_for time (given_at ws r expiry_group) (given_at ws r version_group)) where
   set_left : all_read set_form ws ≡ given_option set_form expiry_group ws && given_option set_form version_group ws
   unfolding allowed number_range or_else all kind_in operand_range
   set_left = y.read ∙ rw (bare_read y condition_group (omega arith) (λ s. refl), and-true (given_option set_form version_group ws))
 
-  pub set_refused : (n : ℕ) → m ≡ terms.Refused n → meant ws (parses.Refused n) ≡ parse_rest time set_form ws
+  pub set_refused : {n : Refusal} → m ≡ Err n → meant ws (Err n) ≡ parse_rest time set_form ws
   unfolding build on_deed deed_versioning deed_lifetime
-  set_refused n q = terms_refused y time em set_left refl refl n q
+  set_refused q = terms_refused y time m em set_left refl refl q
 
-  pub set_done : {v : Versioning} {l : Lifetime} → m ≡ terms.Value v l → {c : Condition} → c ≡ condition_for (get_or r.said condition_group 0)
-      → meant ws (parses.OnField (fieldDeeds.Assign c v l)) ≡ parse_rest time set_form ws
+  pub set_done : {s : Stamping} → m ≡ Ok s → {c : Condition} → c ≡ condition_for (get_or r.said condition_group 0)
+      → meant ws (Ok (parses.OnField (fieldDeeds.Assign c s))) ≡ parse_rest time set_form ws
   unfolding build on_deed deed_versioning deed_lifetime meant deed_of
   set_done q ec =
-      let (said, ev, el) = terms_said y time em set_left refl refl q in
-      rw (ec, ← condition_said y, ← ev, ← el) said
+      let (said, e) = terms_said y time m em set_left refl refl q in
+      rw (ec, ← condition_said y, ← e) said
 
 -- ---- EXHINCRBY
 
-sum_refused : (a l g : Option Signed) → sum_for a l g ≡ addeds.Refused → has_read a && (has_read l && has_read g) ≡ false
+sum_refused : (a l g : Option Signed) {n : Refusal} → sum_for a l g ≡ Err n → (has_read a && (has_read l && has_read g) ≡ false) × (n ≡ NotInteger)
 unfolding sum_for on_integer has_read
 sum_refused (Some x) (Some y) (Some z) e = impossible cc
-sum_refused (Some x) (Some y) None e = refl
-sum_refused (Some x) None g e = refl
-sum_refused None l g e = refl
+sum_refused (Some x) (Some y) None e = (refl, cc)
+sum_refused (Some x) None g e = (refl, cc)
+sum_refused None l g e = (refl, cc)
 
-pub sum_value : (a l g : Option Signed) (s : Sum) → sum_for a l g ≡ addeds.Value s
+pub sum_value : (a l g : Option Signed) (s : Sum) → sum_for a l g ≡ Ok s
     → (a ≡ Some s.amount) × (l ≡ Some s.least) × (g ≡ Some s.greatest)
 unfolding sum_for on_integer
 sum_value (Some x) (Some y) (Some z) s e =
@@ -92,20 +88,20 @@ sum_value (Some x) None g s e = impossible cc
 sum_value None l g s e = impossible cc
 
 -- what the code answers at each of the three
-pub sum_0 : (a l g : Option Signed) → a ≡ None → addeds.Refused ≡ sum_for a l g
+pub sum_0 : (a l g : Option Signed) → a ≡ None → Err NotInteger ≡ sum_for a l g
 unfolding sum_for on_integer
 sum_0 a l g e = rw e
 
-pub sum_1 : (a l g : Option Signed) (x : Signed) → a ≡ Some x → l ≡ None → addeds.Refused ≡ sum_for a l g
+pub sum_1 : (a l g : Option Signed) (x : Signed) → a ≡ Some x → l ≡ None → Err NotInteger ≡ sum_for a l g
 unfolding sum_for on_integer
 sum_1 a l g x e f = rw (e, f)
 
-pub sum_2 : (a l g : Option Signed) (x y : Signed) → a ≡ Some x → l ≡ Some y → g ≡ None → addeds.Refused ≡ sum_for a l g
+pub sum_2 : (a l g : Option Signed) (x y : Signed) → a ≡ Some x → l ≡ Some y → g ≡ None → Err NotInteger ≡ sum_for a l g
 unfolding sum_for on_integer
 sum_2 a l g x y e f h = rw (e, f, h)
 
 pub sum_3 : (a l g : Option Signed) (x y z : Signed) → a ≡ Some x → l ≡ Some y → g ≡ Some z
-    → addeds.Value (record { amount = x; least = y; greatest = z }) ≡ sum_for a l g
+    → Ok (record { amount = x; least = y; greatest = z }) ≡ sum_for a l g
 unfolding sum_for on_integer
 sum_3 a l g x y z e f h = rw (e, f, h)
 
@@ -146,17 +142,18 @@ module _ (time : ℕ) {ws : List Word} {r : ScannedOptions} (y : Ready increment
   unfolding kind_in
   high_read = bound_readable y max_group (omega arith) (λ s. refl) highest_signed
 
-  module _ {x : Added} (ex : x ≡ sum_of ws r) where
-    pub increment_unread : x ≡ addeds.Refused → meant ws (parses.Refused 16) ≡ parse_rest time increment_form ws
+  module _ {x : Result Sum Refusal} (ex : x ≡ sum_of ws r) where
+    pub increment_unread : {n : Refusal} → x ≡ Err n → meant ws (Err n) ≡ parse_rest time increment_form ws
     unfolding sum_of
     increment_unread q =
-        let no-sum : has_read (option_map signed_for amount) && (has_read low && has_read high) ≡ false = sum_refused (option_map signed_for amount) low high (sym ex ∙ q) in
-        rest_16 time increment_form ws y.clean
+        let no-sum = sum_refused (option_map signed_for amount) low high (sym ex ∙ q) in
+        rw no-sum.1
+        (rest_16 time increment_form ws y.clean
         (increment_all
         ∙ one_fails (is_some amount) (number_read expiry_group) (number_read version_group) (number_read min_group) (number_read max_group)
-        (rw (integer_read amount, low_read, high_read) at no-sum))
+        (rw (integer_read amount, low_read, high_read) at no-sum.0)))
 
-    module _ {sum : Sum} (es : x ≡ addeds.Value sum) {m : Terms} (em : m ≡ terms_for time (given_at ws r expiry_group) (given_at ws r version_group)) where
+    module _ {sum : Sum} (es : x ≡ Ok sum) (m : Result Stamping Refusal) (em : by_number m ≡ terms_for time (given_at ws r expiry_group) (given_at ws r version_group)) where
       parts : (option_map signed_for amount ≡ Some sum.amount) × (low ≡ Some sum.least) × (high ≡ Some sum.greatest)
       unfolding sum_of
       parts = sum_value (option_map signed_for amount) low high sum (sym ex ∙ es)
@@ -169,9 +166,9 @@ module _ (time : ℕ) {ws : List Word} {r : ScannedOptions} (y : Ready increment
           let c : number_read max_group ≡ true = sym high_read ∙ rw parts.2 in
           increment_all ∙ rw (a, b, c, and-true (number_read version_group))
 
-      pub increment_refused : (n : ℕ) → m ≡ terms.Refused n → meant ws (parses.Refused n) ≡ parse_rest time increment_form ws
+      pub increment_refused : {n : Refusal} → m ≡ Err n → meant ws (Err n) ≡ parse_rest time increment_form ws
       unfolding build on_deed deed_versioning deed_lifetime
-      increment_refused n q = terms_refused y time em increment_left refl refl n q
+      increment_refused q = terms_refused y time m em increment_left refl refl q
 
       amount_said : number_in signed64 (word_at 3 ws) ≡ integer_of sum.amount
       unfolding number_in read_in
@@ -185,11 +182,11 @@ module _ (time : ℕ) {ws : List Word} {r : ScannedOptions} (y : Ready increment
       unfolding integer_of kind_in
       high_said = bound_said y max_group (omega arith) (λ s. refl) highest_signed parts.2
 
-      pub increment_done : {v : Versioning} {l : Lifetime} → m ≡ terms.Value v l → meant ws (parses.OnField (fieldDeeds.Increment sum v l)) ≡ parse_rest time increment_form ws
+      pub increment_done : {s : Stamping} → m ≡ Ok s → meant ws (Ok (parses.OnField (fieldDeeds.Increment sum s))) ≡ parse_rest time increment_form ws
       unfolding build on_deed deed_versioning deed_lifetime meant deed_of
       increment_done q =
-          let (said, ev, el) = terms_said y time em increment_left refl refl q in
-          rw (← amount_said, ← low_said, ← high_said, ← ev, ← el) said
+          let (said, e) = terms_said y time m em increment_left refl refl q in
+          rw (← amount_said, ← low_said, ← high_said, ← e) said
 
 -- ---- EXHEXPIRE, EXHEXPIREAT, EXHPEXPIRE, EXHPEXPIREAT
 
@@ -208,18 +205,20 @@ module _ (time : ℕ) (unit : TimeUnit) {ws : List Word} {r : ScannedOptions} (y
   unfolding allowed number_range or_else all readable read_in
   expire_all = ap (λ b. is_some number && b) y.read
 
-  pub expire_unread : number ≡ None → meant ws (parses.Refused 16) ≡ parse_rest time (expiring unit) ws
+  pub expire_unread : number ≡ None → meant ws (Err NotInteger) ≡ parse_rest time (expiring unit) ws
   expire_unread e = rest_16 time (expiring unit) ws y.clean (expire_all ∙ rw e)
 
-  module _ {v : Versioned} (ev : v ≡ versioned_for (given_at ws r version_group)) where
-    pub expire_unversioned : v ≡ versioneds.Refused → meant ws (parses.Refused 16) ≡ parse_rest time (expiring unit) ws
-    expire_unversioned q = rest_16 time (expiring unit) ws y.clean (expire_all ∙ rw (version_refused y ev q, and-false (is_some number)))
+  module _ {v : Result Versioning Refusal} (ev : v ≡ versioned_for (given_at ws r version_group)) where
+    pub expire_unversioned : {n : Refusal} → v ≡ Err n → meant ws (Err n) ≡ parse_rest time (expiring unit) ws
+    expire_unversioned q =
+        let no = version_refused y ev q in
+        rw no.1 (rest_16 time (expiring unit) ws y.clean (expire_all ∙ rw (no.0, and-false (is_some number))))
 
-    module _ {k : ℕ} (ek : number ≡ Some (pos k)) {n : Versioning} (en : v ≡ versioneds.Value n) where
+    module _ {k : ℕ} (ek : number ≡ Some (pos k)) {n : Versioning} (en : v ≡ Ok n) where
       expire_read : all_read (expiring unit) ws ≡ true
       expire_read = expire_all ∙ rw (ek, (version_said y ev en).0)
 
-      pub expire_zero : {b : Bool} → b ≡ is_zero n → b ≡ true → meant ws (parses.Refused 17) ≡ parse_rest time (expiring unit) ws
+      pub expire_zero : {b : Bool} → b ≡ is_zero n → b ≡ true → meant ws (Err InvalidVersion) ≡ parse_rest time (expiring unit) ws
       unfolding build on_deed deed_versioning
       expire_zero e q = rest_17 time (expiring unit) ws y.clean expire_read (rw (version_said y ev en).1 (sym e ∙ q))
 
@@ -231,11 +230,11 @@ module _ (time : ℕ) (unit : TimeUnit) {ws : List Word} {r : ScannedOptions} (y
         expire_instant : instant time (unit_meant unit) (word_at 3 ws) ≡ t
         expire_instant = instant_read time unit (word_at 3 ws) k ek ∙ sym et
 
-        pub expire_beyond : time_limit < t → meant ws (parses.Refused 18) ≡ parse_rest time (expiring unit) ws
+        pub expire_beyond : time_limit < t → meant ws (Err InvalidExpireTime) ≡ parse_rest time (expiring unit) ws
         unfolding build on_deed deed_lifetime beyond
         expire_beyond l = rest_18 time (expiring unit) ws y.clean expire_read expire_nonzero (rw expire_instant (lt-ltb time_limit t l))
 
-        pub expire_done : t ≤ time_limit → meant ws (parses.OnField (fieldDeeds.Expire t n)) ≡ parse_rest time (expiring unit) ws
+        pub expire_done : t ≤ time_limit → meant ws (Ok (parses.OnField (fieldDeeds.Expire t n))) ≡ parse_rest time (expiring unit) ws
         unfolding build on_deed deed_lifetime beyond meant deed_of
         expire_done l =
             rw (← expire_instant, ← (version_said y ev en).1)
@@ -248,11 +247,11 @@ module _ (time : ℕ) (ws : List Word) where
   unfolding allowed option_words scan or_else conflicting
   renumber_clean = refl
 
-  pub renumber_unread : read_integer (pos 0) (pos version_most) (word_at 3 ws) ≡ None → meant ws (parses.Refused 16) ≡ parse_rest time renumber_form ws
+  pub renumber_unread : read_integer (pos 0) (pos version_most) (word_at 3 ws) ≡ None → meant ws (Err NotInteger) ≡ parse_rest time renumber_form ws
   unfolding number_range or_else readable read_in
   renumber_unread e = rest_16 time renumber_form ws renumber_clean (rw e)
 
-  pub renumber_done : (n : ℕ) → read_integer (pos 0) (pos version_most) (word_at 3 ws) ≡ Some (pos n) → meant ws (parses.OnField (fieldDeeds.Renumber n)) ≡ parse_rest time renumber_form ws
+  pub renumber_done : (n : ℕ) → read_integer (pos 0) (pos version_most) (word_at 3 ws) ≡ Some (pos n) → meant ws (Ok (parses.OnField (fieldDeeds.Renumber n))) ≡ parse_rest time renumber_form ws
   unfolding allowed option_words scan number_range or_else readable read_in all build meant deed_of natural_in number_in on_deed deed_versioning is_zero deed_lifetime beyond
   renumber_done n e = rw e at (rest_said time renumber_form ws renumber_clean (rw e) refl refl)
 
@@ -282,11 +281,11 @@ module _ (time : ℕ) {ws : List Word} {r : ScannedOptions} (y : Ready count_for
       no_deed test true = refl
       no_deed test false = refl
 
-  pub count_live_lem : get_or r.said no_exp_group 0 < not_given → meant ws (parses.OnKey keyDeeds.CountLive) ≡ parse_rest time count_form ws
+  pub count_live_lem : get_or r.said no_exp_group 0 < not_given → meant ws (Ok (parses.OnKey keyDeeds.CountLive)) ≡ parse_rest time count_form ws
   unfolding meant command_for
   count_live_lem l = count_said true (rw (y.given no_exp_group (omega arith), option_some ws no_exp_group _ _ l))
 
-  pub count_held_lem : not_given ≤ get_or r.said no_exp_group 0 → meant ws (parses.OnKey keyDeeds.CountHeld) ≡ parse_rest time count_form ws
+  pub count_held_lem : not_given ≤ get_or r.said no_exp_group 0 → meant ws (Ok (parses.OnKey keyDeeds.CountHeld)) ≡ parse_rest time count_form ws
   unfolding meant command_for
   count_held_lem l = count_said false (rw (y.given no_exp_group (omega arith), option_none ws no_exp_group _ _ l))
 
@@ -302,27 +301,27 @@ module _ (time : ℕ) (ws : List Word) where
       let said : said_by time f ws ≡ c = rw scanned ec in
       rw (← said) (rest_said time f ws (rw scanned) (rw (scanned, number)) (rw said z) (rw said b))
 
-  pub fixed_pairs : meant ws (parses.OnKey keyDeeds.SetMany) ≡ parse_rest time set_many_form ws
+  pub fixed_pairs : meant ws (Ok (parses.OnKey keyDeeds.SetMany)) ≡ parse_rest time set_many_form ws
   unfolding option_words number_range build on_deed meant command_for
   fixed_pairs = fixed set_many_form refl refl (set_many (word_at 1 ws) (pairs_of (drop 2 ws))) refl refl refl
 
-  pub fixed_persist : meant ws (parses.OnField fieldDeeds.Persist) ≡ parse_rest time persist_form ws
+  pub fixed_persist : meant ws (Ok (parses.OnField fieldDeeds.Persist)) ≡ parse_rest time persist_form ws
   unfolding option_words number_range build on_deed deed_versioning is_zero deed_lifetime beyond meant deed_of
   fixed_persist = fixed persist_form refl refl (on_field (word_at 1 ws) (word_at 2 ws) persist) refl refl refl
 
-  pub fixed_ask : (q : Question) → meant ws (parses.OnField (fieldDeeds.Ask q)) ≡ parse_rest time (ask_form q) ws
+  pub fixed_ask : (q : Question) → meant ws (Ok (parses.OnField (fieldDeeds.Ask q))) ≡ parse_rest time (ask_form q) ws
   unfolding option_words number_range build on_deed deed_versioning is_zero deed_lifetime beyond meant deed_of
   fixed_ask q = fixed (ask_form q) refl refl (on_field (word_at 1 ws) (word_at 2 ws) (ask q)) refl refl refl
 
-  pub fixed_many : (q : Question) → meant ws (parses.OnKey (keyDeeds.GetMany q)) ≡ parse_rest time (get_many_form q) ws
+  pub fixed_many : (q : Question) → meant ws (Ok (parses.OnKey (keyDeeds.GetMany q))) ≡ parse_rest time (get_many_form q) ws
   unfolding option_words number_range build on_deed meant command_for
   fixed_many q = fixed (get_many_form q) refl refl (get_many (word_at 1 ws) (drop 2 ws) q) refl refl refl
 
-  pub fixed_delete : meant ws (parses.OnKey keyDeeds.Delete) ≡ parse_rest time delete_form ws
+  pub fixed_delete : meant ws (Ok (parses.OnKey keyDeeds.Delete)) ≡ parse_rest time delete_form ws
   unfolding option_words number_range build on_deed meant command_for
   fixed_delete = fixed delete_form refl refl (delete (word_at 1 ws) (drop 2 ws)) refl refl refl
 
-  pub fixed_list : (l : Listing) → meant ws (parses.OnKey (keyDeeds.List l)) ≡ parse_rest time (list_form l) ws
+  pub fixed_list : (l : Listing) → meant ws (Ok (parses.OnKey (keyDeeds.List l))) ≡ parse_rest time (list_form l) ws
   unfolding option_words number_range build on_deed meant command_for
   fixed_list l = fixed (list_form l) refl refl (list (word_at 1 ws) l) refl refl refl
 

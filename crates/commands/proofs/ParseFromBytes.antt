@@ -1,5 +1,5 @@
 -- From a command's bytes to the checks of its row.
-use Rattle.std.specs.Prelude.{Option, None, Some, option_map}
+use Rattle.std.specs.Prelude.{Option, None, Some, option_map, Result, Err}
 use mathlib.Core.Path.{◌≡◌, refl, sym, ap, ◌∙◌}
 use mathlib.Core.Bool.{Bool, true, false, not}
 use mathlib.Core.List.{List}
@@ -13,7 +13,8 @@ use Rattle.wire.proofs.WordPlaces.{length_words}
 use Rattle.store.specs.Layout.{time_limit}
 use Rattle.commands.specs.declared.table.CommandRow.{CommandRow}
 use Rattle.commands.specs.declared.Parsed.{Parsed}
-use Rattle.commands.specs.declared.Parsed.TheVariants as parses
+use Rattle.commands.specs.declared.refusal.Refusal.{Refusal}
+use Rattle.commands.specs.declared.refusal.Refusal.TheVariants.{Protocol, ClockOutOfRange, UnknownCommand, WrongArgumentCount, TooLong}
 use Rattle.wire.specs.Checks.{first_applying}
 use Rattle.commands.specs.Command.{Command}
 use Rattle.commands.specs.Options.{Given}
@@ -21,7 +22,7 @@ use Rattle.commands.specs.Parse as P
 use Rattle.commands.specs.Parse.{Form, Count, commands, command_named, count_fits, build, too_long, later_checks, checks, parse_words, scanned_of, said_by}
 use Rattle.commands.specs.Parse.Parsed.{refused, accepted}
 use Rattle.commands.specs.TablePromises.{form_meant, count_meant, row_parts, row_meant}
-use Rattle.commands.specs.ParsePromises.{Divided, parse_rest, meant}
+use Rattle.commands.specs.ParsePromises.{Divided, refusal_number, parse_rest, meant}
 use Rattle.wire.proofs.Checks.{check_applies, check_passed}
 use Rattle.commands.proofs.Parsing.{given_in}
 
@@ -69,8 +70,8 @@ module _ {s : List ℕ} {places : List (List ℕ)} (p : Divided s places) (time 
   abbrev words : List Word
   words = words_in s places
 
-  pub parse_10 : length places ≡ 0 → meant words (parses.Refused 10) ≡ P.parse time clock s
-  unfolding meant P.parse or_else
+  pub parse_10 : length places ≡ 0 → meant words (Err Protocol) ≡ P.parse time clock s
+  unfolding meant refusal_number P.parse or_else
   parse_10 e =
       let damaged : words_of s ≡ None = p.words ∙ rw e in
       rw damaged
@@ -79,8 +80,8 @@ module _ {s : List ℕ} {places : List (List ℕ)} (p : Divided s places) (time 
     whole : words_of s ≡ Some words
     whole = p.words ∙ rw (ne_eqb (length places) 0 n)
 
-    pub parse_11 : time_limit ≤ clock → meant words (parses.Refused 11) ≡ P.parse time clock s
-    unfolding meant P.parse or_else
+    pub parse_11 : time_limit ≤ clock → meant words (Err ClockOutOfRange) ≡ P.parse time clock s
+    unfolding meant refusal_number P.parse or_else
     parse_11 l = rw (whole, le-leb time_limit clock l)
 
     module _ (l : clock < time_limit) {w : Word} (ew : w ≡ word_at 0 words) (r : Option CommandRow) (er : option_map row_meant r ≡ option_map row_parts (command_named commands w)) where
@@ -88,8 +89,8 @@ module _ {s : List ℕ} {places : List (List ℕ)} (p : Divided s places) (time 
       unfolding P.parse or_else
       named = rw (whole, lt-leb time_limit clock l, er, ew) (parsed_parts time words (command_named commands (word_at 0 words)))
 
-      pub parse_12 : r ≡ None → meant words (parses.Refused 12) ≡ P.parse time clock s
-      unfolding meant or_else
+      pub parse_12 : r ≡ None → meant words (Err UnknownCommand) ≡ P.parse time clock s
+      unfolding meant refusal_number or_else
       parse_12 h = sym (named ∙ rw h)
 
       module _ (row : CommandRow) (h : r ≡ Some row) where
@@ -97,8 +98,8 @@ module _ {s : List ℕ} {places : List (List ℕ)} (p : Divided s places) (time 
         unfolding or_else
         known = named ∙ rw h
 
-        pub parse_13 : {b : Bool} → b ≡ count_fits (count_meant row.count) (length places) → not b ≡ true → meant words (parses.Refused 13) ≡ P.parse time clock s
-        unfolding meant
+        pub parse_13 : {b : Bool} → b ≡ count_fits (count_meant row.count) (length places) → not b ≡ true → meant words (Err WrongArgumentCount) ≡ P.parse time clock s
+        unfolding meant refusal_number
         parse_13 {b} e q = sym (known ∙ words_13 time (form_meant row.form) (count_meant row.count) words (rw length_words (sym e ∙ not-true b q)))
 
         module _ {b : Bool} (eb : b ≡ count_fits (count_meant row.count) (length places)) (qb : not b ≡ false)
@@ -106,9 +107,9 @@ module _ {s : List ℕ} {places : List (List ℕ)} (p : Divided s places) (time 
           fits : count_fits (count_meant row.count) (length words) ≡ true
           fits = rw length_words (sym eb ∙ not-false b qb)
 
-          pub parse_14 : d ≡ true → meant words (parses.Refused 14) ≡ P.parse time clock s
-          unfolding meant
+          pub parse_14 : d ≡ true → meant words (Err TooLong) ≡ P.parse time clock s
+          unfolding meant refusal_number
           parse_14 q = sym (known ∙ words_14 time (form_meant row.form) (count_meant row.count) words fits (sym (ed time (given_in (form_meant row.form) words)) ∙ q))
 
-          pub parse_rest_lem : d ≡ false → (x : Parsed) → meant words x ≡ parse_rest time (form_meant row.form) words → meant words x ≡ P.parse time clock s
+          pub parse_rest_lem : d ≡ false → (x : Result Parsed Refusal) → meant words x ≡ parse_rest time (form_meant row.form) words → meant words x ≡ P.parse time clock s
           parse_rest_lem q x e = e ∙ sym (known ∙ words_rest time (form_meant row.form) (count_meant row.count) words fits (sym (ed time (given_in (form_meant row.form) words)) ∙ q))

@@ -1,5 +1,5 @@
 -- From the words of a command to what it says: checks 15 to 18, and what the options that were given say.
-use Rattle.std.specs.Prelude.{Option, None, Some, option_map, unwrap_or, is_some}
+use Rattle.std.specs.Prelude.{Option, None, Some, option_map, unwrap_or, is_some, Result, Ok, Err}
 use mathlib.Core.Path.{◌≡◌, refl, sym, ap, ◌∙◌}
 use mathlib.Core.Bool.{Bool, true, false, cond, not, ◌&&◌}
 use mathlib.Core.List.{List, []}
@@ -19,21 +19,17 @@ use Rattle.wire.proofs.IntegerSigns.{sign_said}
 use Rattle.commands.specs.declared.Condition.TheVariants as conditions
 use Rattle.commands.specs.declared.Lifetime.{Lifetime}
 use Rattle.commands.specs.declared.Versioning.{Versioning}
-use Rattle.commands.specs.declared.operands.Timed.{Timed}
-use Rattle.commands.specs.declared.operands.Timed.TheVariants as timeds
-use Rattle.commands.specs.declared.operands.Versioned.{Versioned}
-use Rattle.commands.specs.declared.operands.Versioned.TheVariants as versioneds
-use Rattle.commands.specs.declared.operands.Terms.{Terms}
-use Rattle.commands.specs.declared.operands.Terms.TheVariants as terms
+use Rattle.commands.specs.declared.Stamping.{Stamping}
+use Rattle.commands.specs.declared.refusal.Refusal.{Refusal}
+use Rattle.commands.specs.declared.refusal.Refusal.TheVariants.{Syntax, NotInteger, InvalidVersion, InvalidExpireTime}
 use Rattle.commands.specs.declared.options.ScannedOptions.{ScannedOptions}
-use Rattle.commands.specs.declared.Parsed.TheVariants as parses
 use Rattle.wire.specs.Checks.{first_applying}
 use Rattle.commands.specs.Options.{Given, ◌with◌, signed64, expiry_group, condition_group, version_group, group_count, operand_range, scan, conflicting, given_of, read_in, readable, number_in, readable_operand, condition_of, lifetime, versioning, condition, bound_in}
 use Rattle.commands.specs.Options.OptionKind.{bound}
 use Rattle.commands.specs.Parse.{Form, allowed, option_words, number_range, is_zero, deed_versioning, beyond, deed_lifetime, on_deed, later_checks, scanned_of, said_by}
 use Rattle.commands.specs.Parse.Parsed.{refused, accepted}
 use Rattle.commands.specs.TablePromises.{kind_in}
-use Rattle.commands.specs.ParsePromises.{not_given, numbered, option_at, given_at, Scanned, lifetime_by, version_by, read_of, timed_for, versioned_for, term_checks, terms_for, condition_for, bound_for, bound_given, parse_rest, meant}
+use Rattle.commands.specs.ParsePromises.{not_given, refusal_number, by_number, numbered, option_at, given_at, Scanned, lifetime_by, version_by, read_of, timed_for, versioned_for, term_checks, terms_for, condition_for, bound_for, bound_given, parse_rest, meant}
 use Rattle.wire.proofs.Checks.{check_applies, check_passed, checks_end}
 use Rattle.commands.proofs.OptionScanning.{option_some, option_none}
 use Rattle.commands.proofs.OptionsOneEach.{scan_allowed, all_groups}
@@ -62,7 +58,7 @@ module _ (time : ℕ) (f : Form) (ws : List Word) where
   abbrev refusal : Option ℕ
   refusal = first_applying (later_checks f ws (scanned_of f ws) (said_by time f ws))
 
-  rest_refused : (n : ℕ) → refusal ≡ Some n → meant ws (parses.Refused n) ≡ parse_rest time f ws
+  rest_refused : (n : Refusal) → refusal ≡ Some (refusal_number n) → meant ws (Err n) ≡ parse_rest time f ws
   unfolding meant parse_rest or_else
   rest_refused n e = rw e
 
@@ -70,27 +66,27 @@ module _ (time : ℕ) (f : Form) (ws : List Word) where
   unfolding parse_rest or_else
   rest_passed e = rw e
 
-  pub rest_15 : unclean f ws ≡ true → meant ws (parses.Refused 15) ≡ parse_rest time f ws
-  unfolding later_checks
-  rest_15 a = rest_refused 15 (check_applies _ _ a)
+  pub rest_15 : unclean f ws ≡ true → meant ws (Err Syntax) ≡ parse_rest time f ws
+  unfolding later_checks refusal_number
+  rest_15 a = rest_refused Syntax (check_applies _ _ a)
 
   module _ (a : unclean f ws ≡ false) where
-    pub rest_16 : all_read f ws ≡ false → meant ws (parses.Refused 16) ≡ parse_rest time f ws
-    unfolding later_checks
-    rest_16 b = rest_refused 16 (check_passed _ _ a ∙ check_applies _ _ (ap not b))
+    pub rest_16 : all_read f ws ≡ false → meant ws (Err NotInteger) ≡ parse_rest time f ws
+    unfolding later_checks refusal_number
+    rest_16 b = rest_refused NotInteger (check_passed _ _ a ∙ check_applies _ _ (ap not b))
 
     module _ (b : all_read f ws ≡ true) where
-      pub rest_17 : zero_version time f ws ≡ true → meant ws (parses.Refused 17) ≡ parse_rest time f ws
-      unfolding later_checks
-      rest_17 c = rest_refused 17 (check_passed _ _ a ∙ check_passed _ _ (ap not b) ∙ check_applies _ _ c)
+      pub rest_17 : zero_version time f ws ≡ true → meant ws (Err InvalidVersion) ≡ parse_rest time f ws
+      unfolding later_checks refusal_number
+      rest_17 c = rest_refused InvalidVersion (check_passed _ _ a ∙ check_passed _ _ (ap not b) ∙ check_applies _ _ c)
 
       module _ (c : zero_version time f ws ≡ false) where
-        pub rest_18 : too_late time f ws ≡ true → meant ws (parses.Refused 18) ≡ parse_rest time f ws
-        unfolding later_checks
-        rest_18 d = rest_refused 18 (check_passed _ _ a ∙ check_passed _ _ (ap not b) ∙ check_passed _ _ c ∙ check_applies _ _ d)
+        pub rest_18 : too_late time f ws ≡ true → meant ws (Err InvalidExpireTime) ≡ parse_rest time f ws
+        unfolding later_checks refusal_number
+        rest_18 d = rest_refused InvalidExpireTime (check_passed _ _ a ∙ check_passed _ _ (ap not b) ∙ check_passed _ _ c ∙ check_applies _ _ d)
 
         pub rest_said : too_late time f ws ≡ false → accepted (said_by time f ws) ≡ parse_rest time f ws
-        unfolding later_checks
+        unfolding later_checks refusal_number
         rest_said d = rest_passed (check_passed _ _ a ∙ check_passed _ _ (ap not b) ∙ check_passed _ _ c ∙ check_passed _ _ d ∙ checks_end)
 
 -- ---- what a scan found
@@ -113,11 +109,11 @@ module _ {f : Form} {al : List ℕ} {from : ℕ} (k : Takes f al from) {ws : Lis
   refusal_so : r.refusal ≡ cond (unclean f ws) 15 0
   refusal_so = rw same_scan at s.refusal
 
-  pub not_clean : (time : ℕ) → (r.refusal ≡ 0 → ⊥) → meant ws (parses.Refused r.refusal) ≡ parse_rest time f ws
+  pub not_clean : (time : ℕ) → (r.refusal ≡ 0 → ⊥) → meant ws (Err Syntax) ≡ parse_rest time f ws
   not_clean time h = go (unclean f ws) refl refusal_so
     where
-      go : (t : Bool) → unclean f ws ≡ t → r.refusal ≡ cond t 15 0 → meant ws (parses.Refused r.refusal) ≡ parse_rest time f ws
-      go true q e = rw e (rest_15 time f ws q)
+      go : (t : Bool) → unclean f ws ≡ t → r.refusal ≡ cond t 15 0 → meant ws (Err Syntax) ≡ parse_rest time f ws
+      go true q e = rest_15 time f ws q
       go false q e = absurd (h e)
 
   pub ready : r.refusal ≡ 0 → Ready f ws r
@@ -137,54 +133,57 @@ module _ {f : Form} {al : List ℕ} {from : ℕ} (k : Takes f al from) {ws : Lis
 -- ---- what the code read
 
 -- an answer is a value where the numbers are read, and a refusal where they are not
-module _ {A T : Type 0} (value : A → T) (no_value : T) (same : (a b : A) → value a ≡ value b → a ≡ b) (apart : (a : A) → value a ≡ no_value → ⊥) where
-  answer_value : (b : Bool) (a l : A) → cond b (value a) no_value ≡ value l → (b ≡ true) × (a ≡ l)
-  answer_value true a l k = (refl, same a l k)
-  answer_value false a l k = absurd (apart l (sym k))
+answer_value : {T : Type 0} (b : Bool) (a l : T) → cond b (Ok a) (Err NotInteger) ≡ Ok l → (b ≡ true) × (a ≡ l)
+answer_value true a l k = (refl, cc)
+answer_value false a l k = impossible cc
 
-  answer_refused : (b : Bool) (a : A) → cond b (value a) no_value ≡ no_value → b ≡ false
-  answer_refused true a k = absurd (apart a k)
-  answer_refused false a k = refl
+answer_refused : {T : Type 0} (b : Bool) (a : T) {n : Refusal} → cond b (Ok a) (Err NotInteger) ≡ Err n → (b ≡ false) × (n ≡ NotInteger)
+answer_refused true a k = impossible cc
+answer_refused false a k = (refl, cc)
 
-module _ (time : ℕ) (x : Option Given) {t : Timed} (e : t ≡ timed_for time x) where
-  timed_value : {l : Lifetime} → t ≡ timeds.Value l → (read_of x ≡ true) × (lifetime_by time x ≡ l)
+module _ (time : ℕ) (x : Option Given) {t : Result Lifetime Refusal} (e : t ≡ timed_for time x) where
+  timed_value : {l : Lifetime} → t ≡ Ok l → (read_of x ≡ true) × (lifetime_by time x ≡ l)
   unfolding timed_for
-  timed_value {l} h = answer_value timeds.Value timeds.Refused (λ a b q. cc) (λ a q. impossible cc) (read_of x) (lifetime_by time x) l (sym e ∙ h)
+  timed_value {l} h = answer_value (read_of x) (lifetime_by time x) l (sym e ∙ h)
 
-  timed_refused : t ≡ timeds.Refused → read_of x ≡ false
+  timed_refused : {n : Refusal} → t ≡ Err n → (read_of x ≡ false) × (n ≡ NotInteger)
   unfolding timed_for
-  timed_refused h = answer_refused timeds.Value timeds.Refused (λ a b q. cc) (λ a q. impossible cc) (read_of x) (lifetime_by time x) (sym e ∙ h)
+  timed_refused h = answer_refused (read_of x) (lifetime_by time x) (sym e ∙ h)
 
-module _ (x : Option Given) {v : Versioned} (e : v ≡ versioned_for x) where
-  versioned_value : {n : Versioning} → v ≡ versioneds.Value n → (read_of x ≡ true) × (version_by x ≡ n)
+module _ (x : Option Given) {v : Result Versioning Refusal} (e : v ≡ versioned_for x) where
+  versioned_value : {n : Versioning} → v ≡ Ok n → (read_of x ≡ true) × (version_by x ≡ n)
   unfolding versioned_for
-  versioned_value {n} h = answer_value versioneds.Value versioneds.Refused (λ a b q. cc) (λ a q. impossible cc) (read_of x) (version_by x) n (sym e ∙ h)
+  versioned_value {n} h = answer_value (read_of x) (version_by x) n (sym e ∙ h)
 
-  versioned_refused : v ≡ versioneds.Refused → read_of x ≡ false
+  versioned_refused : {n : Refusal} → v ≡ Err n → (read_of x ≡ false) × (n ≡ NotInteger)
   unfolding versioned_for
-  versioned_refused h = answer_refused versioneds.Value versioneds.Refused (λ a b q. cc) (λ a q. impossible cc) (read_of x) (version_by x) (sym e ∙ h)
+  versioned_refused h = answer_refused (read_of x) (version_by x) (sym e ∙ h)
 
 -- what the code answers of both, x of the expiry and y of the version
 module _ (time : ℕ) (x y : Option Given) where
-  terms_given : (n : ℕ) → first_applying (term_checks time x y) ≡ Some n → terms.Refused n ≡ terms_for time x y
-  unfolding terms_for or_else
+  terms_given : (n : Refusal) → first_applying (term_checks time x y) ≡ Some (refusal_number n) → by_number (Err n) ≡ terms_for time x y
+  unfolding terms_for or_else by_number
   terms_given n e = rw e
 
-  terms_passed : first_applying (term_checks time x y) ≡ None → terms.Value (version_by y) (lifetime_by time x) ≡ terms_for time x y
-  unfolding terms_for or_else
+  terms_passed : first_applying (term_checks time x y) ≡ None → by_number (Ok (record { versioning = version_by y; lifetime = lifetime_by time x })) ≡ terms_for time x y
+  unfolding terms_for or_else by_number
   terms_passed e = rw e
 
-  module _ {t : Timed} (et : t ≡ timed_for time x) where
-    pub terms_untimed : t ≡ timeds.Refused → terms.Refused 16 ≡ terms_for time x y
-    unfolding term_checks
-    terms_untimed q = terms_given 16 (check_applies _ _ (rw (timed_refused time x et q)))
+  module _ {t : Result Lifetime Refusal} (et : t ≡ timed_for time x) where
+    pub terms_untimed : {n : Refusal} → t ≡ Err n → by_number (Err n) ≡ terms_for time x y
+    unfolding term_checks refusal_number
+    terms_untimed q =
+        let no = timed_refused time x et q in
+        rw no.1 (terms_given NotInteger (check_applies _ _ (rw no.0)))
 
-    module _ {v : Versioned} (ev : v ≡ versioned_for y) {l : Lifetime} (el : t ≡ timeds.Value l) where
-      pub terms_unversioned : v ≡ versioneds.Refused → terms.Refused 16 ≡ terms_for time x y
-      unfolding term_checks
-      terms_unversioned q = terms_given 16 (check_applies _ _ (rw ((timed_value time x et el).0, versioned_refused y ev q)))
+    module _ {v : Result Versioning Refusal} (ev : v ≡ versioned_for y) {l : Lifetime} (el : t ≡ Ok l) where
+      pub terms_unversioned : {n : Refusal} → v ≡ Err n → by_number (Err n) ≡ terms_for time x y
+      unfolding term_checks refusal_number
+      terms_unversioned q =
+          let no = versioned_refused y ev q in
+          rw no.1 (terms_given NotInteger (check_applies _ _ (rw ((timed_value time x et el).0, no.0))))
 
-      module _ {n : Versioning} (en : v ≡ versioneds.Value n) where
+      module _ {n : Versioning} (en : v ≡ Ok n) where
         both_read : not (read_of x && read_of y) ≡ false
         both_read = rw ((timed_value time x et el).0, (versioned_value y ev en).0)
 
@@ -194,17 +193,17 @@ module _ (time : ℕ) (x y : Option Given) where
         late_so : {b : Bool} (t : Bool) → b ≡ beyond l → b ≡ t → beyond (lifetime_by time x) ≡ t
         late_so t e q = rw (timed_value time x et el).1 (sym e ∙ q)
 
-        pub terms_zero : {b : Bool} → b ≡ is_zero n → b ≡ true → terms.Refused 17 ≡ terms_for time x y
-        unfolding term_checks
-        terms_zero e q = terms_given 17 (check_passed _ _ both_read ∙ check_applies _ _ (zero_so true e q))
+        pub terms_zero : {b : Bool} → b ≡ is_zero n → b ≡ true → by_number (Err InvalidVersion) ≡ terms_for time x y
+        unfolding term_checks refusal_number
+        terms_zero e q = terms_given InvalidVersion (check_passed _ _ both_read ∙ check_applies _ _ (zero_so true e q))
 
         module _ {b : Bool} (eb : b ≡ is_zero n) (qb : b ≡ false) where
-          pub terms_beyond : {d : Bool} → d ≡ beyond l → d ≡ true → terms.Refused 18 ≡ terms_for time x y
-          unfolding term_checks
-          terms_beyond e q = terms_given 18 (check_passed _ _ both_read ∙ check_passed _ _ (zero_so false eb qb) ∙ check_applies _ _ (late_so true e q))
+          pub terms_beyond : {d : Bool} → d ≡ beyond l → d ≡ true → by_number (Err InvalidExpireTime) ≡ terms_for time x y
+          unfolding term_checks refusal_number
+          terms_beyond e q = terms_given InvalidExpireTime (check_passed _ _ both_read ∙ check_passed _ _ (zero_so false eb qb) ∙ check_applies _ _ (late_so true e q))
 
-          pub terms_both : {d : Bool} → d ≡ beyond l → d ≡ false → terms.Value n l ≡ terms_for time x y
-          unfolding term_checks
+          pub terms_both : {d : Bool} → d ≡ beyond l → d ≡ false → by_number (Ok (record { versioning = n; lifetime = l })) ≡ terms_for time x y
+          unfolding term_checks refusal_number
           terms_both e q =
               rw (← (timed_value time x et el).1, ← (versioned_value y ev en).1)
               (terms_passed (check_passed _ _ both_read ∙ check_passed _ _ (zero_so false eb qb) ∙ check_passed _ _ (late_so false e q) ∙ checks_end))
@@ -238,12 +237,12 @@ module _ {f : Form} {ws : List Word} {r : ScannedOptions} (y : Ready f ws r) whe
   abbrev operand : ℕ → ℕ
   operand n = get_or r.operands n 0
 
-  module _ {v : Versioned} (e : v ≡ versioned_for (given_at ws r version_group)) where
-    pub version_said : {n : Versioning} → v ≡ versioneds.Value n → (read_of (found version_group) ≡ true) × (versioning (given_in f ws) ≡ n)
+  module _ {v : Result Versioning Refusal} (e : v ≡ versioned_for (given_at ws r version_group)) where
+    pub version_said : {n : Versioning} → v ≡ Ok n → (read_of (found version_group) ≡ true) × (versioning (given_in f ws) ≡ n)
     unfolding versioning version_by
     version_said h = versioned_value (found version_group) (rw (y.given version_group (omega arith)) e) h
 
-    pub version_refused : v ≡ versioneds.Refused → read_of (found version_group) ≡ false
+    pub version_refused : {n : Refusal} → v ≡ Err n → (read_of (found version_group) ≡ false) × (n ≡ NotInteger)
     version_refused h = versioned_refused (found version_group) (rw (y.given version_group (omega arith)) e) h
 
   pub condition_said : condition (given_in f ws) ≡ condition_for (said condition_group)
@@ -297,7 +296,7 @@ module _ {f : Form} {ws : List Word} {r : ScannedOptions} (y : Ready f ws r) whe
             rw (given_none (ltb-false (said n) not_given q), same)
 
   -- what the options say of the version and the expiry, where these two are what is left to be read
-  module _ (time : ℕ) {m : Terms} (e : m ≡ terms_for time (given_at ws r expiry_group) (given_at ws r version_group))
+  module _ (time : ℕ) (m : Result Stamping Refusal) (e : by_number m ≡ terms_for time (given_at ws r expiry_group) (given_at ws r version_group))
       (left : all_read f ws ≡ read_of (found expiry_group) && read_of (found version_group))
       (zero : zero_version time f ws ≡ is_zero (versioning (given_in f ws))) (late : too_late time f ws ≡ beyond (lifetime time (given_in f ws))) where
     abbrev outcome : Option ℕ
@@ -310,25 +309,26 @@ module _ {f : Form} {ws : List Word} {r : ScannedOptions} (y : Ready f ws r) whe
         let same : refusal time f ws ≡ outcome = check_passed _ _ y.clean ∙ rw (left, zero, late) in
         rw same
 
-    terms_so : m ≡ or_else outcome (terms.Value (versioning (given_in f ws)) (lifetime time (given_in f ws))) terms.Refused
+    abbrev stamping : Stamping
+    stamping = record { versioning = versioning (given_in f ws); lifetime = lifetime time (given_in f ws) }
+
+    terms_so : by_number m ≡ or_else outcome (Ok stamping) Err
     unfolding terms_for versioning version_by lifetime lifetime_by
     terms_so = rw (y.given expiry_group (omega arith), y.given version_group (omega arith)) e
 
-    pub terms_refused : (n : ℕ) → m ≡ terms.Refused n → meant ws (parses.Refused n) ≡ parse_rest time f ws
-    unfolding or_else meant
-    terms_refused n h = rw rest_terms (go outcome (sym terms_so ∙ h))
+    pub terms_refused : {n : Refusal} → m ≡ Err n → meant ws (Err n) ≡ parse_rest time f ws
+    unfolding or_else meant by_number
+    terms_refused {n} h = rw rest_terms (go outcome (sym terms_so ∙ ap by_number h))
       where
-        go : (o : Option ℕ) → or_else o (terms.Value (versioning (given_in f ws)) (lifetime time (given_in f ws))) terms.Refused ≡ terms.Refused n
-            → refused n ≡ or_else o (accepted (said_by time f ws)) refused
+        go : (o : Option ℕ) → or_else o (Ok stamping) Err ≡ Err (refusal_number n)
+            → refused (refusal_number n) ≡ or_else o (accepted (said_by time f ws)) refused
         go None k = impossible cc
         go (Some j) k = cc
 
-    pub terms_said : {v : Versioning} {l : Lifetime} → m ≡ terms.Value v l
-        → (accepted (said_by time f ws) ≡ parse_rest time f ws) × (versioning (given_in f ws) ≡ v) × (lifetime time (given_in f ws) ≡ l)
-    unfolding or_else
-    terms_said {v} {l} h = rw rest_terms (go outcome (sym terms_so ∙ h))
+    pub terms_said : {s : Stamping} → m ≡ Ok s → (accepted (said_by time f ws) ≡ parse_rest time f ws) × (stamping ≡ s)
+    unfolding or_else by_number
+    terms_said {s} h = rw rest_terms (go outcome (sym terms_so ∙ ap by_number h))
       where
-        go : (o : Option ℕ) → or_else o (terms.Value (versioning (given_in f ws)) (lifetime time (given_in f ws))) terms.Refused ≡ terms.Value v l
-            → (accepted (said_by time f ws) ≡ or_else o (accepted (said_by time f ws)) refused) × (versioning (given_in f ws) ≡ v) × (lifetime time (given_in f ws) ≡ l)
-        go None k = (refl, cc, cc)
+        go : (o : Option ℕ) → or_else o (Ok stamping) Err ≡ Ok s → (accepted (said_by time f ws) ≡ or_else o (accepted (said_by time f ws)) refused) × (stamping ≡ s)
+        go None k = (refl, cc)
         go (Some j) k = impossible cc

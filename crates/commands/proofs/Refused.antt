@@ -22,8 +22,7 @@ use Rattle.commands.specs.Parse.{Parsed, parse, scanned_of, said_by}
 use Rattle.commands.specs.Parse.Parsed.{refused, accepted}
 use Rattle.commands.specs.Effect.{Effect}
 use Rattle.commands.specs.Execute.{late_checks, Outcome, perform, exec}
-use Rattle.commands.specs.ParsePromises.{is_refusal}
-use Rattle.commands.proofs.ParseChecks.{checks_number, Reads, reads, parse_refused, parse_known}
+use Rattle.commands.proofs.ParseChecks.{is_refusal, checks_number, Reads, reads, parse_refused, parse_known}
 use Rattle.wire.proofs.Checks.{first_number, first_between}
 use Rattle.commands.proofs.ParseChecks.Reads.{damaged, clock_out, unknown, checked, passed}
 use Rattle.commands.proofs.Sweep.{sweep_keeps_live}

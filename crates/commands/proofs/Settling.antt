@@ -1,6 +1,6 @@
 -- How an effect settles: what is replied and what the store then holds, by the first of 20 to 24 that applies.
-use Rattle.std.specs.Prelude.{Option, None, Some}
-use mathlib.Core.Path.{◌≡◌, refl, ◌∙◌}
+use Rattle.std.specs.Prelude.{Option, None, Some, Result, Ok, Err, ⊤}
+use mathlib.Core.Path.{◌≡◌, refl, ap, ◌∙◌}
 use mathlib.Core.Bool.{Bool, true, false, cond, not, ◌||◌}
 use mathlib.Core.List.{List, [], ◌∷◌}
 use Prim.Native.Nat.{ℕ, ◌≤◌, ◌<◌}
@@ -13,7 +13,7 @@ use Rattle.wire.specs.Integers.{lowest64, highest64, within}
 use Rattle.wire.specs.Replies.{integer}
 use Rattle.wire.specs.declared.integers.Signed.{Signed}
 use Rattle.wire.specs.Promises.{integer_of, Laid}
-use Rattle.wire.proofs.Lists.{any_at, both_ways}
+use Rattle.wire.proofs.Lists.{impossible, any_at, both_ways}
 use Rattle.store.specs.Layout.{version_most}
 use Rattle.store.specs.Store.{Entry, Slot, Store, with_slots, decode, well_formed, holds}
 use Rattle.store.specs.Time.{before, live, live_slot, room_slot, slot_for, put}
@@ -21,18 +21,18 @@ use Rattle.store.specs.Promises.{Holds, with_slot}
 use Rattle.store.proofs.Put.{Place, slot_place}
 use Rattle.store.proofs.Finding.{found_at, found_nothing}
 use Rattle.commands.specs.declared.Question.{Question}
-use Rattle.commands.specs.declared.field.WriteOutcome.{WriteOutcome}
-use Rattle.commands.specs.declared.field.WriteOutcome.TheVariants as writes
+use Rattle.commands.specs.declared.refusal.Refusal.{Refusal}
+use Rattle.commands.specs.declared.refusal.Refusal.TheVariants.{StaleVersion, HashNotInteger, SumOverflow, VersionOverflow, StoreFull}
 use Rattle.commands.specs.declared.field.Settled.{Settled}
 use Rattle.commands.specs.declared.field.Settled.TheVariants as settleds
 use Rattle.wire.specs.Checks.{◌when◌, first_applying}
 use Rattle.commands.specs.Effect.{Effect, answer, writing, change, change_all}
 use Rattle.commands.specs.Effect.Change.{write}
 use Rattle.commands.specs.Execute.{Outcome, refused_with, done_with, settle, passes, adds, added, room, late_checks}
-use Rattle.commands.specs.ParsePromises.{is_refusal}
-use Rattle.commands.specs.Promises.{Does, Wrote, Settles, Changes, settled_reply, tellable, write_settled, look_for, versioned, outcome_for}
+use Rattle.commands.specs.Refusal.{error_line}
+use Rattle.commands.specs.ParsePromises.{refusal_number}
+use Rattle.commands.specs.Promises.{Does, Wrote, Settles, Changes, settled_reply, tellable, look_for, versioned, refused_as}
 use Rattle.wire.proofs.Checks.{check_applies, check_passed}
-use Rattle.commands.proofs.Refused.{late_known}
 use Rattle.commands.proofs.Room.{keep_set_less, slot_none}
 use Rattle.commands.proofs.Acts.{holds_self}
 
@@ -40,43 +40,42 @@ use Rattle.commands.proofs.Acts.{holds_self}
 
 -- a reply that is no question
 module _ {o : Outcome} {before after : List ℕ} (h : Holds after o.store) where
-  refused_settles : (n : ℕ) → is_refusal n ≡ true → (about : Question → List ℕ) → o.reply ≡ settled_reply about (settleds.Refused n)
-      → Settles about o before after (settleds.Refused n)
-  unfolding tellable
-  refused_settles n k about e = record { reply = e; told = k; holds = h; asked = λ q x. cc }
+  refused_settles : (r : Refusal) (about : Question → List ℕ) → o.reply ≡ error_line (refusal_number r) → Settles about o before after (Err r)
+  unfolding tellable settled_reply
+  refused_settles r about e = record { reply = e; told = refl; holds = h; asked = λ q x. cc }
 
   replied_settles : (z : Signed) → within lowest64 highest64 (integer_of z) ≡ true → (about : Question → List ℕ)
-      → o.reply ≡ settled_reply about (settleds.Replied z) → Settles about o before after (settleds.Replied z)
+      → o.reply ≡ settled_reply about (Ok (settleds.Replied z)) → Settles about o before after (Ok (settleds.Replied z))
   unfolding tellable
   replied_settles z k about e = record { reply = e; told = k; holds = h; asked = λ q x. cc }
 
 -- Equal effects settle alike.
-pub changes_as : (time : ℕ) {E D : Effect} {b after : List ℕ} {r : Settled} → E ≡ D → Changes time D b after r → Changes time E b after r
+pub changes_as : (time : ℕ) {E D : Effect} {b after : List ℕ} {r : Result Settled Refusal} → E ≡ D → Changes time D b after r → Changes time E b after r
 changes_as time h w = rw h w
 
 -- ---- refused, or nothing to change
 
 module _ (time : ℕ) (E : Effect) {b : List ℕ} (w : well_formed b ≡ true) where
-  changes_refused : (n : ℕ) → first_applying (late_checks time E (decode b).slots) ≡ Some n → Changes time E b b (settleds.Refused n)
-  unfolding settle or_else settled_reply
-  changes_refused n h about = rw h (refused_settles (holds_self w) n (late_known time E (decode b).slots n h) about refl)
+  changes_refused : (r : Refusal) → first_applying (late_checks time E (decode b).slots) ≡ Some (refusal_number r) → Changes time E b b (Err r)
+  unfolding settle or_else
+  changes_refused r h about = rw h (refused_settles (holds_self w) r about refl)
 
   -- 20 applies
-  pub changes_stale : E.stale ≡ true → Changes time E b b (settleds.Refused 20)
-  unfolding late_checks
-  changes_stale h = changes_refused 20 (check_applies 20 _ h)
+  pub changes_stale : E.stale ≡ true → Changes time E b b (Err StaleVersion)
+  unfolding late_checks refusal_number
+  changes_stale h = changes_refused StaleVersion (check_applies 20 _ h)
 
   module _ (f : E.stale ≡ false) where
     -- 21 is the first
-    pub changes_unread : E.not_integer ≡ true → Changes time E b b (settleds.Refused 21)
-    unfolding late_checks
-    changes_unread h = changes_refused 21 (check_passed 20 _ f ∙ check_applies 21 _ h)
+    pub changes_unread : E.not_integer ≡ true → Changes time E b b (Err HashNotInteger)
+    unfolding late_checks refusal_number
+    changes_unread h = changes_refused HashNotInteger (check_passed 20 _ f ∙ check_applies 21 _ h)
 
     -- 22 is the first
-    pub changes_overflow : E.not_integer ≡ false → E.overflows ≡ true → Changes time E b b (settleds.Refused 22)
-    unfolding late_checks
+    pub changes_overflow : E.not_integer ≡ false → E.overflows ≡ true → Changes time E b b (Err SumOverflow)
+    unfolding late_checks refusal_number
     changes_overflow g h =
-        changes_refused 22 (check_passed 20 _ f ∙ check_passed 21 _ g ∙ check_applies 22 _ h)
+        changes_refused SumOverflow (check_passed 20 _ f ∙ check_passed 21 _ g ∙ check_applies 22 _ h)
 
 answer_clear : (time : ℕ) (y : List ℕ) (ss : List Slot) → first_applying (late_checks time (answer y) ss) ≡ None
 unfolding late_checks first_applying any added
@@ -91,7 +90,7 @@ pub does_answer : (time : ℕ) {b y d x : List ℕ} {r : ℕ} → well_formed b 
 does_answer time {b} {y} w l = rw (answer_settle time y (decode b)) (record { laid = l; holds = holds_self w })
 
 pub changes_answer : (time : ℕ) (z : Signed) {b : List ℕ} → well_formed b ≡ true → within lowest64 highest64 (integer_of z) ≡ true
-    → Changes time (answer (integer (integer_of z))) b b (settleds.Replied z)
+    → Changes time (answer (integer (integer_of z))) b b (Ok (settleds.Replied z))
 unfolding settled_reply
 changes_answer time z {b} w k about = rw (answer_settle time (integer (integer_of z)) (decode b)) (replied_settles (holds_self w) z k about refl)
 
@@ -141,46 +140,57 @@ module _ (time : ℕ) (e : Entry) (y : List ℕ) (ss : List Slot) where
         go false q = le-ltb (room time ss) 1 (slot_room time e.key e.field ss i h q)
 
 -- what a write comes to, by its outcome
-wrote : (time : ℕ) (e : Entry) (b : List ℕ) (o : Outcome) {after : List ℕ} {r : WriteOutcome} → settle time (writing false e []) (decode b) ≡ o
-    → r ≡ outcome_for o.refusal → Holds after o.store → Wrote time e b after r
+wrote : (time : ℕ) (e : Entry) (b : List ℕ) (o : Outcome) {after : List ℕ} {r : Result ⊤ Refusal} → settle time (writing false e []) (decode b) ≡ o
+    → refused_as r ≡ o.refusal → Holds after o.store → Wrote time e b after r
 wrote time e b o h q x = record { answer = rw h q; holds = rw h x }
 
 module _ (time : ℕ) (e : Entry) {b : List ℕ} (w : well_formed b ≡ true) where
   -- Its version passes the largest.
-  pub wrote_passes : version_most < e.version → Wrote time e b b (writes.Refused 23)
-  unfolding settle or_else late_of outcome_for
+  pub wrote_passes : version_most < e.version → Wrote time e b b (Err VersionOverflow)
+  unfolding settle or_else late_of refused_as refusal_number
   wrote_passes h = wrote time e b (refused_with 23 (decode b)) (rw (passing time e [] (decode b).slots h) refl) refl (holds_self w)
 
   module _ (l : e.version ≤ version_most) where
     -- There is no place for it.
-    pub wrote_full : None ≡ look_for time e.key e.field (decode b).slots → Wrote time e b b (writes.Refused 24)
-    unfolding settle or_else late_of outcome_for look_for
+    pub wrote_full : None ≡ look_for time e.key e.field (decode b).slots → Wrote time e b b (Err StoreFull)
+    unfolding settle or_else late_of refused_as refusal_number look_for
     wrote_full h =
         let given = found_nothing (slot_for time e.key e.field (decode b).slots) h in
         wrote time e b (refused_with 24 (decode b)) (rw (full time e [] (decode b).slots l given) refl) refl (holds_self w)
 
     -- It stands in its place.
     pub wrote_done : {i : ℕ} {d : List ℕ} → Some i ≡ look_for time e.key e.field (decode b).slots
-        → Holds d (with_slot i (Some e) (decode b)) → Wrote time e b d writes.Done
-    unfolding settle or_else late_of outcome_for look_for change_all change put
+        → Holds d (with_slot i (Some e) (decode b)) → {x : ⊤} → Wrote time e b d (Ok x)
+    unfolding settle or_else late_of refused_as look_for change_all change put
     wrote_done {i} h x =
         let given = found_at (slot_for time e.key e.field (decode b).slots) i h in
         wrote time e b (done_with [] (with_slot i (Some e) (decode b))) (rw (clear time e [] (decode b).slots l i given, given) refl) refl x
 
--- A write that is replied with an integer settles by its outcome.
-pub wrote_settles : (time : ℕ) (e : Entry) (z : Signed) {b after : List ℕ} {w : WriteOutcome} {r : Settled}
-    → within lowest64 highest64 (integer_of z) ≡ true → Wrote time e b after w → r ≡ write_settled w z
-    → Changes time (writing false e (integer (integer_of z))) b after r
-unfolding settle or_else outcome_for late_checks write_settled settled_reply
-wrote_settles time e z {b} {after} {w} {r} k h q about =
-    go (first_applying (late_checks time (writing false e []) (decode b).slots)) refl h.answer h.holds
-  where
-    done : List ℕ → Outcome
-    done y = done_with y (with_slots (change_all time (write e ∷ []) (decode b).slots) (decode b))
+-- A write that is replied with an integer settles as it went.
+module _ (time : ℕ) (e : Entry) (z : Signed) (b : List ℕ) where
+  abbrev late : Option ℕ
+  late = first_applying (late_checks time (writing false e []) (decode b).slots)
 
-    go : (o : Option ℕ) → first_applying (late_checks time (writing false e []) (decode b).slots) ≡ o
-        → w ≡ outcome_for (or_else o (done []) (λ m. refused_with m (decode b))).refusal
-        → Holds after (or_else o (done []) (λ m. refused_with m (decode b))).store
-        → Settles about (or_else o (done (integer (integer_of z))) (λ m. refused_with m (decode b))) b after r
-    go None p a s = rw (q, a) (replied_settles s z k about refl)
-    go (Some m) p a s = rw (q, a) (refused_settles s m (late_known time (writing false e []) (decode b).slots m p) about refl)
+  abbrev done : List ℕ → Outcome
+  done y = done_with y (with_slots (change_all time (write e ∷ []) (decode b).slots) (decode b))
+
+  pub wrote_replied : within lowest64 highest64 (integer_of z) ≡ true → {after : List ℕ} {x : ⊤} → Wrote time e b after (Ok x)
+      → Changes time (writing false e (integer (integer_of z))) b after (Ok (settleds.Replied z))
+  unfolding settle or_else refused_as late_checks settled_reply
+  wrote_replied k {after} h about = go late h.answer h.holds
+    where
+      go : (o : Option ℕ) → None ≡ (or_else o (done []) (λ m. refused_with m (decode b))).refusal
+          → Holds after (or_else o (done []) (λ m. refused_with m (decode b))).store
+          → Settles about (or_else o (done (integer (integer_of z))) (λ m. refused_with m (decode b))) b after (Ok (settleds.Replied z))
+      go None a s = replied_settles s z k about refl
+      go (Some m) a s = impossible cc
+
+  pub wrote_refused : {after : List ℕ} {r : Refusal} → Wrote time e b after (Err r) → Changes time (writing false e (integer (integer_of z))) b after (Err r)
+  unfolding settle or_else refused_as late_checks settled_reply
+  wrote_refused {after} {r} h about = go late h.answer h.holds
+    where
+      go : (o : Option ℕ) → Some (refusal_number r) ≡ (or_else o (done []) (λ m. refused_with m (decode b))).refusal
+          → Holds after (or_else o (done []) (λ m. refused_with m (decode b))).store
+          → Settles about (or_else o (done (integer (integer_of z))) (λ m. refused_with m (decode b))) b after (Err r)
+      go None a s = impossible cc
+      go (Some m) a s = let n : m ≡ refusal_number r = cc in refused_settles s r about (ap error_line n)

@@ -25,7 +25,7 @@ use Rattle.commands.specs.Command.Deed.{assign, increment, expire, persist, renu
 use Rattle.commands.specs.Command.Command.{on_field, set_many, get_many, delete, count_held, count_live, list}
 use Rattle.commands.specs.Effect.{Effect, barred, set_effect, increment_effect, has_expiry, expire_effect, persist_effect, renumber_effect, reply, deed_effect, effect}
 use Rattle.commands.specs.Execute.{Outcome, exec}
-use Rattle.commands.specs.ParsePromises.{is_refusal}
+use Rattle.commands.proofs.ParseChecks.{is_refusal}
 use Rattle.commands.proofs.Went.{Went, went, swept_by}
 use Rattle.commands.proofs.Went.Went.{early, late, done}
 use Rattle.commands.proofs.Refused.{refusal_known, refused_reply}

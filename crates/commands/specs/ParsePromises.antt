@@ -1,5 +1,5 @@
 -- What the functions that parse a command ask and answer, in the terms of the other definitions.
-use Rattle.std.specs.Prelude.{Option, None, Some, option_map, unwrap_or, is_some}
+use Rattle.std.specs.Prelude.{Option, None, Some, option_map, unwrap_or, is_some, Result, Ok, Err}
 use Rattle.std.specs.Prelude.{◌≡◌, Bool, true, false, cond, not, ◌&&◌, ◌||◌, List, [], ◌∷◌, ℕ, ◌+◌, ◌*◌, ◌≤◌, ◌<◌, ltb, eqb, length, drop, get_or}
 use Rattle.wire.specs.Lists.{any, or_else}
 use Rattle.wire.specs.Integers.{read_integer, lowest64, highest64}
@@ -11,6 +11,8 @@ use Rattle.commands.specs.declared.FieldDeed.{FieldDeed}
 use Rattle.commands.specs.declared.FieldDeed.TheVariants as fieldDeeds
 use Rattle.commands.specs.declared.KeyDeed.{KeyDeed}
 use Rattle.commands.specs.declared.KeyDeed.TheVariants as keyDeeds
+use Rattle.commands.specs.declared.refusal.Refusal.{Refusal}
+use Rattle.commands.specs.declared.refusal.Refusal.TheVariants as refusals
 use Rattle.commands.specs.declared.Parsed.{Parsed}
 use Rattle.commands.specs.declared.Parsed.TheVariants as parses
 use Rattle.commands.specs.declared.Lifetime.{Lifetime}
@@ -19,19 +21,12 @@ use Rattle.commands.specs.declared.Condition.{Condition}
 use Rattle.commands.specs.declared.Condition.TheVariants as conditions
 use Rattle.commands.specs.declared.Versioning.{Versioning}
 use Rattle.commands.specs.declared.Versioning.TheVariants as versionings
-use Rattle.commands.specs.declared.operands.Timed.{Timed}
-use Rattle.commands.specs.declared.operands.Timed.TheVariants as timeds
-use Rattle.commands.specs.declared.operands.Versioned.{Versioned}
-use Rattle.commands.specs.declared.operands.Versioned.TheVariants as versioneds
-use Rattle.commands.specs.declared.operands.Terms.{Terms}
-use Rattle.commands.specs.declared.operands.Terms.TheVariants as terms
-use Rattle.commands.specs.declared.operands.Added.{Added}
-use Rattle.commands.specs.declared.operands.Added.TheVariants as addeds
+use Rattle.commands.specs.declared.Stamping.{Stamping}
+use Rattle.commands.specs.declared.Sum.{Sum}
 use Rattle.commands.specs.declared.table.TimeUnit.{TimeUnit}
 use Rattle.commands.specs.declared.options.OptionFound.{OptionFound}
 use Rattle.commands.specs.declared.options.OptionFound.TheVariants as founds
 use Rattle.commands.specs.declared.options.ScannedOptions.{ScannedOptions}
-use Rattle.commands.specs.Refusal.{table}
 use Rattle.wire.specs.Checks.{Check, ◌when◌, first_applying}
 use Rattle.commands.specs.Command.{Deed, Command}
 use Rattle.commands.specs.Command.Deed.{assign, increment, expire, persist, renumber, ask}
@@ -50,8 +45,27 @@ pub record Divided (s : List ℕ) (places : List (List ℕ)) : Type 0 where
 
 -- ---- the lines of refusals
 
-unfoldable pub is_refusal : ℕ → Bool
-is_refusal n = any (λ r. eqb r.number n) table
+-- the number of each refusal
+unfoldable pub refusal_number : Refusal → ℕ
+refusal_number refusals.Protocol = 10
+refusal_number refusals.ClockOutOfRange = 11
+refusal_number refusals.UnknownCommand = 12
+refusal_number refusals.WrongArgumentCount = 13
+refusal_number refusals.TooLong = 14
+refusal_number refusals.Syntax = 15
+refusal_number refusals.NotInteger = 16
+refusal_number refusals.InvalidVersion = 17
+refusal_number refusals.InvalidExpireTime = 18
+refusal_number refusals.StaleVersion = 20
+refusal_number refusals.HashNotInteger = 21
+refusal_number refusals.SumOverflow = 22
+refusal_number refusals.VersionOverflow = 23
+refusal_number refusals.StoreFull = 24
+
+-- an answer with the number of its refusal
+unfoldable pub by_number : {T : Type 0} → Result T Refusal → Result T ℕ
+by_number (Ok x) = Ok x
+by_number (Err r) = Err (refusal_number r)
 
 -- ---- options that were given
 
@@ -109,11 +123,11 @@ unfoldable pub read_of : Option Given → Bool
 read_of x = or_else x true readable_operand
 
 -- what they say where their numbers are read
-unfoldable pub timed_for : ℕ → Option Given → Timed
-timed_for time x = cond (read_of x) (timeds.Value (lifetime_by time x)) timeds.Refused
+unfoldable pub timed_for : ℕ → Option Given → Result Lifetime Refusal
+timed_for time x = cond (read_of x) (Ok (lifetime_by time x)) (Err refusals.NotInteger)
 
-unfoldable pub versioned_for : Option Given → Versioned
-versioned_for x = cond (read_of x) (versioneds.Value (version_by x)) versioneds.Refused
+unfoldable pub versioned_for : Option Given → Result Versioning Refusal
+versioned_for x = cond (read_of x) (Ok (version_by x)) (Err refusals.NotInteger)
 
 -- what the options of the expiry and of the version group say, or the lowest of 16 to 18 that they are refused with
 unfoldable pub term_checks : ℕ → Option Given → Option Given → List Check
@@ -123,8 +137,8 @@ term_checks time x y =
     ∷ 18 when beyond (lifetime_by time x)
     ∷ []
 
-unfoldable pub terms_for : ℕ → Option Given → Option Given → Terms
-terms_for time x y = or_else (first_applying (term_checks time x y)) (terms.Value (version_by y) (lifetime_by time x)) terms.Refused
+unfoldable pub terms_for : ℕ → Option Given → Option Given → Result Stamping ℕ
+terms_for time x y = or_else (first_applying (term_checks time x y)) (Ok (record { versioning = version_by y; lifetime = lifetime_by time x })) Err
 
 -- what NX or XX says
 unfoldable pub condition_for : ℕ → Condition
@@ -135,16 +149,16 @@ unfoldable pub bound_for : Signed → ℕ → Word → Option Signed
 bound_for unbounded said w = cond (ltb said not_given) (option_map signed_for (read_integer lowest64 highest64 w)) (Some unbounded)
 
 -- what is done with an integer that was read, and where none was
-unfoldable pub on_integer : Option Signed → Added → (Signed → Added) → Added
+unfoldable pub on_integer : Option Signed → Result Sum Refusal → (Signed → Result Sum Refusal) → Result Sum Refusal
 on_integer (Some z) b f = f z
 on_integer None b f = b
 
 -- what EXHINCRBY adds and its bounds, where all three are integers
-unfoldable pub sum_for : Option Signed → Option Signed → Option Signed → Added
+unfoldable pub sum_for : Option Signed → Option Signed → Option Signed → Result Sum Refusal
 sum_for a l g =
-    on_integer a addeds.Refused λ x.
-    on_integer l addeds.Refused λ y.
-    on_integer g addeds.Refused λ z. addeds.Value (record { amount = x; least = y; greatest = z })
+    on_integer a (Err refusals.NotInteger) λ x.
+    on_integer l (Err refusals.NotInteger) λ y.
+    on_integer g (Err refusals.NotInteger) λ z. Ok (record { amount = x; least = y; greatest = z })
 
 -- the ends of signed 64 bits, as sign and magnitude
 abbrev pub lowest_signed : Signed
@@ -158,7 +172,7 @@ unfoldable pub bound_given : Signed → ℕ → List Word → ScannedOptions →
 bound_given unbounded g ws r = bound_for unbounded (get_or r.said g 0) (word_at (get_or r.operands g 0) ws)
 
 -- what EXHINCRBY adds and its bounds: word 3, MIN and MAX
-unfoldable pub sum_of : List Word → ScannedOptions → Added
+unfoldable pub sum_of : List Word → ScannedOptions → Result Sum Refusal
 sum_of ws r =
     sum_for (option_map signed_for (read_integer lowest64 highest64 (word_at 3 ws))) (bound_given lowest_signed min_group ws r) (bound_given highest_signed max_group ws r)
 
@@ -176,9 +190,9 @@ pair_over ws = any (λ p. ltb field_most (length p.field) || ltb value_most (len
 
 -- what is done with a field, where v is the value that the command brings
 unfoldable pub deed_of : Word → FieldDeed → Deed
-deed_of v (fieldDeeds.Assign c n t) = assign v c n t
-deed_of v (fieldDeeds.Increment s n t) =
-    increment (integer_of s.amount) (integer_of s.least) (integer_of s.greatest) n t
+deed_of v (fieldDeeds.Assign c s) = assign v c s.versioning s.lifetime
+deed_of v (fieldDeeds.Increment s t) =
+    increment (integer_of s.amount) (integer_of s.least) (integer_of s.greatest) t.versioning t.lifetime
 deed_of v (fieldDeeds.Expire t n) = expire t n
 deed_of v fieldDeeds.Persist = persist
 deed_of v (fieldDeeds.Renumber n) = renumber n
@@ -194,10 +208,10 @@ command_for k ws keyDeeds.CountLive = count_live k
 command_for k ws (keyDeeds.List l) = list k l
 
 -- what the code's parsed command says of its words
-unfoldable pub meant : List Word → Parsed → P.Parsed
-meant ws (parses.Refused n) = P.Parsed.refused n
-meant ws (parses.OnField d) = P.Parsed.accepted (on_field (word_at 1 ws) (word_at 2 ws) (deed_of (word_at 3 ws) d))
-meant ws (parses.OnKey d) = P.Parsed.accepted (command_for (word_at 1 ws) (drop 2 ws) d)
+unfoldable pub meant : List Word → Result Parsed Refusal → P.Parsed
+meant ws (Ok (parses.OnField d)) = P.Parsed.accepted (on_field (word_at 1 ws) (word_at 2 ws) (deed_of (word_at 3 ws) d))
+meant ws (Ok (parses.OnKey d)) = P.Parsed.accepted (command_for (word_at 1 ws) (drop 2 ws) d)
+meant ws (Err r) = P.Parsed.refused (refusal_number r)
 
 -- checks 15 to 18 of a command of a form
 unfoldable pub parse_rest : ℕ → Form → List Word → P.Parsed

@@ -1,5 +1,5 @@
 -- What the functions that do a command ask and answer, in the terms of the other definitions.
-use Rattle.std.specs.Prelude.{Option, None, Some}
+use Rattle.std.specs.Prelude.{Option, None, Some, Result, Ok, Err, ⊤}
 use Rattle.std.specs.Prelude.{◌≡◌, Bool, true, false, cond, not, ◌&&◌, ◌||◌, ℕ, suc, ◌+◌, ◌-◌, ◌≤◌, ◌<◌, ltb, eqb, ℤ, negsuc, ◌+ℤ◌, length}
 use mathlib.Core.List.{List, [], ◌∷◌, map, flat_map}
 use Rattle.wire.specs.Lists.{any, keep, or_else, only_if}
@@ -23,10 +23,8 @@ use Rattle.commands.specs.declared.Sight.{Sight}
 use Rattle.commands.specs.declared.Executed.{Executed}
 use Rattle.commands.specs.declared.field.Settled.{Settled}
 use Rattle.commands.specs.declared.field.Settled.TheVariants as settleds
-use Rattle.commands.specs.declared.field.WriteOutcome.{WriteOutcome}
-use Rattle.commands.specs.declared.field.WriteOutcome.TheVariants as writes
-use Rattle.commands.specs.declared.pairs.Survey.{Survey}
-use Rattle.commands.specs.declared.pairs.Survey.TheVariants as surveys
+use Rattle.commands.specs.declared.refusal.Refusal.{Refusal}
+use Rattle.commands.specs.declared.refusal.Refusal.TheVariants.{VersionOverflow}
 use Rattle.commands.specs.Refusal.{buffer_least, error_line}
 use Rattle.commands.specs.Command.{Pair, Command}
 use Rattle.commands.specs.Command.Command.{set_many}
@@ -37,7 +35,7 @@ use Rattle.commands.specs.declared.Question.{Question}
 use Rattle.commands.specs.Effect.{Effect, change, change_all, time_left, reply, listed_slot, writes_of, written, writing, increment_effect}
 use Rattle.commands.specs.Effect.Change.{remove}
 use Rattle.commands.specs.Execute.{Outcome, Done, passes, settle}
-use Rattle.commands.specs.ParsePromises.{is_refusal}
+use Rattle.commands.specs.ParsePromises.{refusal_number}
 
 -- ---- the store
 
@@ -202,8 +200,8 @@ pub record Telling (found : Option ℕ) (held times n : ℕ) : Type 0 where
   pub added : new_field found n ≡ new_field found times
 
 -- what writing fields one after the other would do
-unfoldable pub survey_of : Word → List Word → List Slot → Survey
-survey_of k fs ss = cond (overflowing (version_in k ss) fs) surveys.Overflow (surveys.Added (missing k fs ss))
+unfoldable pub survey_of : Word → List Word → List Slot → Result ℕ Refusal
+survey_of k fs ss = cond (overflowing (version_in k ss) fs) (Err VersionOverflow) (Ok (missing k fs ss))
 
 -- the entry that a pair of a field and a value writes
 abbrev pub pair_entry : Word → Word → Word → List Slot → Entry
@@ -263,19 +261,15 @@ bounded_sum start sum =
 
 -- ---- how a deed settles
 
-unfoldable pub outcome_for : Option ℕ → WriteOutcome
-outcome_for None = writes.Done
-outcome_for (Some n) = writes.Refused n
+-- the number of the refusal, if it is one
+unfoldable pub refused_as : {T : Type 0} → Result T Refusal → Option ℕ
+refused_as (Ok x) = None
+refused_as (Err r) = Some (refusal_number r)
 
 -- an entry was written in its place, or refused by 23 or 24
-pub record Wrote (now : ℕ) (e : Entry) (before after : List ℕ) (r : WriteOutcome) : Type 0 where
-  pub answer : r ≡ outcome_for (settle now (writing false e []) (decode before)).refusal
+pub record Wrote (now : ℕ) (e : Entry) (before after : List ℕ) (r : Result ⊤ Refusal) : Type 0 where
+  pub answer : refused_as r ≡ (settle now (writing false e []) (decode before)).refusal
   pub holds : Holds after (settle now (writing false e []) (decode before)).store
-
--- a write that is replied with an integer
-unfoldable pub write_settled : WriteOutcome → Signed → Settled
-write_settled writes.Done z = settleds.Replied z
-write_settled (writes.Refused n) z = settleds.Refused n
 
 -- how many fields a write adds, by what was found
 unfoldable pub fields_added : Option ℕ → Signed
@@ -283,24 +277,24 @@ fields_added (Some i) = record { negative = false; magnitude = 0 }
 fields_added None = record { negative = false; magnitude = 1 }
 
 -- the reply by how a deed settled, where questions are still to be answered
-unfoldable pub settled_reply : (Question → List ℕ) → Settled → List ℕ
-settled_reply about (settleds.Replied z) = integer (integer_of z)
-settled_reply about (settleds.Refused n) = error_line n
-settled_reply about (settleds.Asked q) = about q
+unfoldable pub settled_reply : (Question → List ℕ) → Result Settled Refusal → List ℕ
+settled_reply about (Ok (settleds.Replied z)) = integer (integer_of z)
+settled_reply about (Ok (settleds.Asked q)) = about q
+settled_reply about (Err r) = error_line (refusal_number r)
 
 -- a reply that there is room for
-unfoldable pub tellable : Settled → Bool
-tellable (settleds.Replied z) = within lowest64 highest64 (integer_of z)
-tellable (settleds.Refused n) = is_refusal n
-tellable (settleds.Asked q) = true
+unfoldable pub tellable : Result Settled Refusal → Bool
+tellable (Ok (settleds.Replied z)) = within lowest64 highest64 (integer_of z)
+tellable (Ok (settleds.Asked q)) = true
+tellable (Err r) = true
 
 -- a deed's outcome: its reply, and the bytes, which a question leaves as they are
-pub record Settles (about : Question → List ℕ) (o : Outcome) (before after : List ℕ) (r : Settled) : Type 0 where
+pub record Settles (about : Question → List ℕ) (o : Outcome) (before after : List ℕ) (r : Result Settled Refusal) : Type 0 where
   pub reply : o.reply ≡ settled_reply about r
   pub told : tellable r ≡ true
   pub holds : Holds after o.store
-  pub asked : (q : Question) → r ≡ settleds.Asked q → after ≡ before
+  pub asked : (q : Question) → r ≡ Ok (settleds.Asked q) → after ≡ before
 
 -- an effect, of a deed that is no question, on a store's bytes
-abbrev pub Changes : ℕ → Effect → List ℕ → List ℕ → Settled → Type 0
+abbrev pub Changes : ℕ → Effect → List ℕ → List ℕ → Result Settled Refusal → Type 0
 Changes now e before after r = (about : Question → List ℕ) → Settles about (settle now e (decode before)) before after r

@@ -80,9 +80,9 @@ fn run_words(
     let time = now_at(store, clock);
     let parsed = parse(command, places, clock, time);
     match parsed {
-        Parsed::Refused(n) => put_error(n, reply),
-        Parsed::OnField(deed) => run_on_field(deed, command, places, time, store, reply),
-        Parsed::OnKey(deed) => run_on_key(deed, command, places, time, store, reply),
+        Ok(Parsed::OnField(deed)) => run_on_field(deed, command, places, time, store, reply),
+        Ok(Parsed::OnKey(deed)) => run_on_key(deed, command, places, time, store, reply),
+        Err(refusal) => put_error(refusal, reply),
     }
 }
 

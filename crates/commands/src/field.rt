@@ -1,5 +1,5 @@
 // What is done with one field, and replied.
-ghost use Rattle.std.specs.Prelude.{◌≡◌, true, false, [], ℕ, ◌≤◌, length, option_map};
+ghost use Rattle.std.specs.Prelude.{◌≡◌, true, false, [], ℕ, ◌≤◌, length, option_map, Ok};
 ghost use Rattle.wire.specs.Integers.{lowest64, highest64, within, integer_text};
 ghost use Rattle.wire.specs.Replies.{number, integer};
 ghost use Rattle.wire.specs.Promises.{signed_for, integer_of, Laid};
@@ -13,12 +13,12 @@ ghost use Rattle.commands.specs.Command.Command.{on_field};
 ghost use Rattle.commands.specs.Effect.{is_stale, writing, counted, set_effect, expire_effect, persist_effect, renumber_effect, effect};
 ghost use Rattle.commands.specs.Execute.{settle, run_on};
 ghost use Rattle.commands.specs.ParsePromises.{deed_of};
-ghost use Rattle.commands.specs.Promises.{HeldAt, FoundIn, Sought, Storable, WithinLimits, Wrote, Changes, Settles, Does, answer_most, entry_for, written_at, held_version, held_expiry, bounded_sum, incremented, fields_added, write_settled, settled_reply, tellable, answers_about};
+ghost use Rattle.commands.specs.Promises.{HeldAt, FoundIn, Sought, Storable, WithinLimits, Wrote, Changes, Settles, Does, answer_most, entry_for, written_at, held_version, held_expiry, bounded_sum, incremented, fields_added, settled_reply, tellable, answers_about};
 ghost use Rattle.commands.specs.declared.field.Settled.TheVariants.{Asked};
 
 use crate::act::{look, slot_for};
 use crate::answer::put_answer;
-use crate::refusal::put_error;
+use crate::refusal::{Refusal, put_error};
 use crate::versions::{is_barred, is_stale, next_expiry, next_version, setter_version};
 use crate::{FieldDeed, Question, Sight, Stamping, Sum, Versioning};
 use store::layout::VERSION_MOST;
@@ -26,18 +26,10 @@ use store::{change, read};
 use wire::integers::{Signed, add, at_most, read_integer, write_integer};
 use wire::replies::put_integer;
 
-// An entry was written in its place, or the number of its refusal.
-#[derive(Clone, Copy)]
-pub enum WriteOutcome {
-    Done,
-    Refused(u32),
-}
-
-// How a deed settled: the integer that it replies, the number of its refusal, or a question that is still to be answered.
+// How a deed that is not refused settled: the integer that it replies, or a question that is still to be answered.
 #[derive(Clone, Copy)]
 pub enum Settled {
     Replied(Signed),
-    Refused(u32),
     Asked(Question),
 }
 
@@ -82,7 +74,7 @@ fn write(
     value: &[u8],
     sight: Sight,
     stamping: Stamping,
-) -> WriteOutcome
+) -> Result<(), Refusal>
     requires { (Sought bytes.old key.now field.now sight.found) × (Storable key.now field.now value.now stamping.lifetime) }
     ensures { let b = bytes.old in
         let e = written_at sight stamping key.now field.now value.now (decode b).slots in
@@ -93,27 +85,14 @@ fn write(
     let held = held_version(bytes, found);
     let version = next_version(versioning, held);
     if VERSION_MOST < version {
-        return WriteOutcome::Refused(23);
+        return Err(Refusal::VersionOverflow);
     }
-    let slot = slot_for(bytes, found, sight.time);
-    let Some(i) = slot else {
-        return WriteOutcome::Refused(24);
-    };
+    let i = slot_for(bytes, found, sight.time).ok_or(Refusal::StoreFull)?;
     let lifetime = stamping.lifetime;
     let until = held_expiry(bytes, found);
     let expiry = next_expiry(lifetime, until);
     change::put(bytes, i, key, field, value, version, expiry);
-    WriteOutcome::Done
-}
-
-// The reply to a write that was to be replied with an integer.
-fn write_settled(wrote: WriteOutcome, z: Signed) -> Settled
-    ensures { result ≡ write_settled wrote z }
-{
-    match wrote {
-        WriteOutcome::Done => Settled::Replied(z),
-        WriteOutcome::Refused(n) => Settled::Refused(n),
-    }
+    Ok(())
 }
 
 // How many fields a write adds, by what was found: 1 or 0.
@@ -140,7 +119,7 @@ fn assign(
     value: &[u8],
     sight: Sight,
     stamping: Stamping,
-) -> Settled
+) -> Result<Settled, Refusal>
     requires { (Sought bytes.old key.now field.now sight.found) × (Storable key.now field.now value.now stamping.lifetime) }
     ensures { let b = bytes.old in
         let found = entry_for (decode b).slots sight.found in
@@ -151,10 +130,10 @@ fn assign(
     let found = sight.found;
     let versioning = stamping.versioning;
     if is_stale_at(bytes, found, versioning) {
-        return Settled::Refused(20);
+        return Err(Refusal::StaleVersion);
     }
-    let wrote = write(bytes, key, field, value, sight, stamping);
-    write_settled(wrote, fields_added(found))
+    write(bytes, key, field, value, sight, stamping)?;
+    Ok(Settled::Replied(fields_added(found)))
 }
 
 // The integer of a field's value, 0 where it is missing.
@@ -175,10 +154,7 @@ fn stored(bytes: &[u8], found: Option<usize>) -> Option<Signed>
 fn bounded_sum(start: Signed, sum: Sum) -> Option<Signed>
     ensures { result ≡ option_map signed_for (bounded_sum (integer_of start) sum) }
 {
-    let total = add(start, sum.amount);
-    let Some(z) = total else {
-        return None;
-    };
+    let z = add(start, sum.amount)?;
     if !at_most(sum.least, z) {
         return None;
     }
@@ -196,7 +172,7 @@ fn write_sum(
     z: Signed,
     sight: Sight,
     stamping: Stamping,
-) -> Settled
+) -> Result<Settled, Refusal>
     requires { (Sought bytes.old key.now field.now sight.found)
         × (Storable key.now field.now [] stamping.lifetime)
         × (within lowest64 highest64 (integer_of z) ≡ true) }
@@ -207,8 +183,8 @@ fn write_sum(
 {
     let mut text: [u8; 20] = [0; 20];
     let size = write_integer(z, &mut text);
-    let wrote = write(bytes, key, field, &text[..size], sight, stamping);
-    write_settled(wrote, z)
+    write(bytes, key, field, &text[..size], sight, stamping)?;
+    Ok(Settled::Replied(z))
 }
 
 // EXHINCRBY.
@@ -219,7 +195,7 @@ fn increment(
     sum: Sum,
     sight: Sight,
     stamping: Stamping,
-) -> Settled
+) -> Result<Settled, Refusal>
     requires { (Sought bytes.old key.now field.now sight.found)
         × (Storable key.now field.now [] stamping.lifetime) }
     ensures { let b = bytes.old in
@@ -229,92 +205,91 @@ fn increment(
     let found = sight.found;
     let versioning = stamping.versioning;
     if is_stale_at(bytes, found, versioning) {
-        return Settled::Refused(20);
+        return Err(Refusal::StaleVersion);
     }
-    let before = stored(bytes, found);
-    let Some(start) = before else {
-        return Settled::Refused(21);
-    };
-    let total = bounded_sum(start, sum);
-    let Some(z) = total else {
-        return Settled::Refused(22);
-    };
+    let start = stored(bytes, found).ok_or(Refusal::HashNotInteger)?;
+    let z = bounded_sum(start, sum).ok_or(Refusal::SumOverflow)?;
     write_sum(bytes, key, field, z, sight, stamping)
 }
 
 // Writes the version and the expiry of the entry in slot i, unless the version passes the largest.
-fn stamp(bytes: &mut [u8], i: usize, version: u64, expiry: Option<u64>) -> Settled
+fn stamp(bytes: &mut [u8], i: usize, version: u64, expiry: Option<u64>) -> Result<Settled, Refusal>
     requires { (Held bytes.old i) × (instant_of expiry ≤ time_limit) }
     ensures { let b = bytes.old in
         let e = stamped version expiry (entry_at (decode b).slots i) in
         ((time : ℕ) → Changes time (writing false e (number 1)) b bytes.new result) }
 {
     if VERSION_MOST < version {
-        return Settled::Refused(23);
+        return Err(Refusal::VersionOverflow);
     }
     change::restamp(bytes, i, version, expiry);
-    Settled::Replied(Signed {
+    Ok(Settled::Replied(Signed {
         negative: false,
         magnitude: 1,
-    })
+    }))
 }
 
 // EXHEXPIRE, EXHPEXPIRE, EXHEXPIREAT and EXHPEXPIREAT.
-fn expire(bytes: &mut [u8], found: Option<usize>, instant: u64, versioning: Versioning) -> Settled
+fn expire(
+    bytes: &mut [u8],
+    found: Option<usize>,
+    instant: u64,
+    versioning: Versioning,
+) -> Result<Settled, Refusal>
     requires { (FoundIn bytes.old found) × (instant ≤ time_limit) }
     ensures { let b = bytes.old in
         let e = expire_effect instant versioning (entry_for (decode b).slots found) in
         ((time : ℕ) → Changes time e b bytes.new result) }
 {
     let Some(i) = found else {
-        return Settled::Replied(Signed {
+        return Ok(Settled::Replied(Signed {
             negative: false,
             magnitude: 0,
-        });
+        }));
     };
     let held = read::version(bytes, i);
     if is_stale(versioning, held) {
-        return Settled::Refused(20);
+        return Err(Refusal::StaleVersion);
     }
     let version = setter_version(versioning, held);
     stamp(bytes, i, version, Some(instant))
 }
 
 // EXHPERSIST.
-fn persist(bytes: &mut [u8], found: Option<usize>) -> Settled
+fn persist(bytes: &mut [u8], found: Option<usize>) -> Result<Settled, Refusal>
     requires { FoundIn bytes.old found }
     ensures { let b = bytes.old in
         let e = persist_effect (entry_for (decode b).slots found) in
         ((time : ℕ) → Changes time e b bytes.new result) }
 {
     let Some(i) = found else {
-        return Settled::Replied(Signed {
+        return Ok(Settled::Replied(Signed {
             negative: false,
             magnitude: 0,
-        });
+        }));
     };
     let until = read::expiry(bytes, i);
     let Some(_) = until else {
-        return Settled::Replied(Signed {
+        return Ok(Settled::Replied(Signed {
             negative: false,
             magnitude: 0,
-        });
+        }));
     };
     stamp(bytes, i, read::version(bytes, i), None)
 }
 
 // EXHSETVER.
-fn renumber(bytes: &mut [u8], found: Option<usize>, version: u64) -> Settled
+fn renumber(bytes: &mut [u8], found: Option<usize>, version: u64) -> Result<Settled, Refusal>
     requires { FoundIn bytes.old found }
     ensures { let b = bytes.old in
         let e = renumber_effect version (entry_for (decode b).slots found) in
         ((time : ℕ) → Changes time e b bytes.new result) }
 {
     let Some(i) = found else {
-        return Settled::Replied(Signed {
+        return Ok(Settled::Replied(Signed {
             negative: false,
             magnitude: 0,
-        });
+        }));
     };
     stamp(bytes, i, version, read::expiry(bytes, i))
 }
@@ -327,7 +302,7 @@ fn settle_deed(
     field: &[u8],
     value: &[u8],
     sight: Sight,
-) -> Settled
+) -> Result<Settled, Refusal>
     requires { let c = on_field key.now field.now (deed_of value.now deed) in
         (Sought bytes.old key.now field.now sight.found) × (WithinLimits c) }
     ensures { let b = bytes.old in
@@ -338,52 +313,44 @@ fn settle_deed(
 {
     let found = sight.found;
     match deed {
-        FieldDeed::Assign(condition, versioning, lifetime) => {
+        FieldDeed::Assign(condition, stamping) => {
             if is_barred(condition, found) {
-                return Settled::Replied(Signed {
+                return Ok(Settled::Replied(Signed {
                     negative: true,
                     magnitude: 1,
-                });
+                }));
             }
-            let stamping = Stamping {
-                versioning,
-                lifetime,
-            };
             assign(bytes, key, field, value, sight, stamping)
         },
-        FieldDeed::Increment(sum, versioning, lifetime) => {
-            let stamping = Stamping {
-                versioning,
-                lifetime,
-            };
-            increment(bytes, key, field, sum, sight, stamping)
-        },
+        FieldDeed::Increment(sum, stamping) => increment(bytes, key, field, sum, sight, stamping),
         FieldDeed::Expire(instant, versioning) => expire(bytes, found, instant, versioning),
         FieldDeed::Persist => persist(bytes, found),
         FieldDeed::Renumber(version) => renumber(bytes, found, version),
-        FieldDeed::Ask(question) => Settled::Asked(question),
+        FieldDeed::Ask(question) => Ok(Settled::Asked(question)),
     }
 }
 
 // Writes the reply by how a deed settled, and answers its length.
 fn put_settled(
-    settled: Settled,
+    settled: Result<Settled, Refusal>,
     bytes: &[u8],
     key: &[u8],
     field: &[u8],
     sight: Sight,
     out: &mut [u8],
 ) -> usize
-    requires { let asked = (q : Question) → settled ≡ Asked q → Sought bytes.now key.now field.now sight.found in
+    requires { let asked = (q : Question) → settled ≡ Ok (Asked q) → Sought bytes.now key.now field.now sight.found in
         (tellable settled ≡ true) × asked × (answer_most ≤ length out.old) }
     ensures { let about = answers_about sight.time bytes.now key.now field.now in
         Laid (settled_reply about settled) out.old out.new result }
 {
     let found = sight.found;
     match settled {
-        Settled::Replied(z) => put_integer(z, out),
-        Settled::Refused(n) => put_error(n, out),
-        Settled::Asked(question) => put_answer(bytes, question, key, field, found, sight.time, out),
+        Ok(Settled::Replied(z)) => put_integer(z, out),
+        Ok(Settled::Asked(question)) => {
+            put_answer(bytes, question, key, field, found, sight.time, out)
+        },
+        Err(refusal) => put_error(refusal, out),
     }
 }
 

@@ -94,8 +94,8 @@ pub struct Asking {
 // What is done with one field; key and field are words 1 and 2 of the command, the value is word 3.
 #[derive(Clone, Copy)]
 pub enum FieldDeed {
-    Assign(Condition, Versioning, Lifetime),
-    Increment(Sum, Versioning, Lifetime),
+    Assign(Condition, Stamping),
+    Increment(Sum, Stamping),
     Expire(u64, Versioning),
     Persist,
     Renumber(u64),
@@ -113,10 +113,9 @@ pub enum KeyDeed {
     List(Listing),
 }
 
-// A parsed command, or the number of its refusal.
+// A parsed command.
 #[derive(Clone, Copy)]
 pub enum Parsed {
-    Refused(u32),
     OnField(FieldDeed),
     OnKey(KeyDeed),
 }

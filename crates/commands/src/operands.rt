@@ -6,45 +6,18 @@ ghost use Rattle.store.specs.Layout.{time_limit};
 ghost use Rattle.commands.specs.Options.{expiry_group, version_group};
 ghost use Rattle.commands.specs.Parse.{is_zero, beyond};
 ghost use Rattle.commands.specs.TablePromises.{unit_meant, unit_of};
-ghost use Rattle.commands.specs.ParsePromises.{option_at, given_at, terms_for, instant_in, timed_for, versioned_for, condition_for, bound_for, sum_of};
+ghost use Rattle.commands.specs.ParsePromises.{option_at, given_at, by_number, terms_for, instant_in, timed_for, versioned_for, condition_for, bound_for, sum_of};
 
 use crate::options::{NOT_GIVEN, ScannedOptions};
+use crate::refusal::Refusal;
 use crate::table::{
     EXACT, EXPIRY_GROUP, IF_MISSING, KEPT, MATCHED, MAX_GROUP, MIN_GROUP, MS_FROM_NOW,
     SECONDS_FROM_NOW, SECONDS_SINCE, TimeUnit, VERSION_GROUP,
 };
-use crate::{Condition, Lifetime, Sum, Versioning};
+use crate::{Condition, Lifetime, Stamping, Sum, Versioning};
 use store::layout::{TIME_LIMIT, VERSION_MOST};
 use wire::integers::{Signed, read_integer, read_natural};
 use wire::words::word;
-
-// A lifetime, or that its number is refused (16).
-#[derive(Clone, Copy)]
-pub enum Timed {
-    Value(Lifetime),
-    Refused,
-}
-
-// A versioning, or that its number is refused (16).
-#[derive(Clone, Copy)]
-pub enum Versioned {
-    Value(Versioning),
-    Refused,
-}
-
-// A versioning and a lifetime, or the number of the refusal (16 to 18).
-#[derive(Clone, Copy)]
-pub enum Terms {
-    Value(Versioning, Lifetime),
-    Refused(u32),
-}
-
-// What EXHINCRBY adds and its bounds, or that one of the numbers is refused (16).
-#[derive(Clone, Copy)]
-pub enum Added {
-    Value(Sum),
-    Refused,
-}
 
 // The largest magnitude of a negative number of signed 64 bits.
 const LOWEST: u64 = 9223372036854775808;
@@ -83,39 +56,38 @@ pub fn lifetime(
     said: usize,
     operand: usize,
     time: u64,
-) -> Timed
+) -> Result<Lifetime, Refusal>
     requires { (Inside command.now places.now) × (time < time_limit) }
     ensures { let ws = words_in command.now places.now in result ≡ timed_for time (option_at ws expiry_group said operand) }
 {
     if NOT_GIVEN <= said {
-        return Timed::Value(Lifetime::Clear);
+        return Ok(Lifetime::Clear);
     }
     if said == KEPT {
-        return Timed::Value(Lifetime::Keep);
+        return Ok(Lifetime::Keep);
     }
-    let read = read_natural(word(command, places, operand), TIME_LIMIT);
-    let Some(n) = read else {
-        return Timed::Refused;
-    };
-    Timed::Value(Lifetime::Until(instant(unit_said(said), n, time)))
+    let n = read_natural(word(command, places, operand), TIME_LIMIT).ok_or(Refusal::NotInteger)?;
+    Ok(Lifetime::Until(instant(unit_said(said), n, time)))
 }
 
 // What VER, ABS or GT says.
-pub fn versioning(command: &[u8], places: &[[usize; 2]], said: usize, operand: usize) -> Versioned
+pub fn versioning(
+    command: &[u8],
+    places: &[[usize; 2]],
+    said: usize,
+    operand: usize,
+) -> Result<Versioning, Refusal>
     requires { Inside command.now places.now }
     ensures { let ws = words_in command.now places.now in result ≡ versioned_for (option_at ws version_group said operand) }
 {
     if NOT_GIVEN <= said {
-        return Versioned::Value(Versioning::Next);
+        return Ok(Versioning::Next);
     }
-    let read = read_natural(word(command, places, operand), VERSION_MOST);
-    let Some(n) = read else {
-        return Versioned::Refused;
-    };
+    let n = read_natural(word(command, places, operand), VERSION_MOST).ok_or(Refusal::NotInteger)?;
     match said {
-        MATCHED => Versioned::Value(Versioning::Match(n)),
-        EXACT => Versioned::Value(Versioning::Exactly(n)),
-        _ => Versioned::Value(Versioning::Above(n)),
+        MATCHED => Ok(Versioning::Match(n)),
+        EXACT => Ok(Versioning::Exactly(n)),
+        _ => Ok(Versioning::Above(n)),
     }
 }
 
@@ -143,37 +115,39 @@ fn is_beyond(lifetime: Lifetime) -> bool
 }
 
 // What the options of a command say of its version and its expiry.
-pub fn read_terms(command: &[u8], places: &[[usize; 2]], given: ScannedOptions, time: u64) -> Terms
+pub fn read_terms(
+    command: &[u8],
+    places: &[[usize; 2]],
+    given: ScannedOptions,
+    time: u64,
+) -> Result<Stamping, Refusal>
     requires { (Inside command.now places.now) × (time < time_limit) }
     ensures { let ws = words_in command.now places.now in
-        result ≡ terms_for time (given_at ws given expiry_group) (given_at ws given version_group) }
+        by_number result ≡ terms_for time (given_at ws given expiry_group) (given_at ws given version_group) }
 {
-    let timed = lifetime(
+    let until = lifetime(
         command,
         places,
         given.said[EXPIRY_GROUP],
         given.operands[EXPIRY_GROUP],
         time,
-    );
-    let Timed::Value(until) = timed else {
-        return Terms::Refused(16);
-    };
-    let versioned = versioning(
+    )?;
+    let version = versioning(
         command,
         places,
         given.said[VERSION_GROUP],
         given.operands[VERSION_GROUP],
-    );
-    let Versioned::Value(version) = versioned else {
-        return Terms::Refused(16);
-    };
+    )?;
     if is_zero(version) {
-        return Terms::Refused(17);
+        return Err(Refusal::InvalidVersion);
     }
     if is_beyond(until) {
-        return Terms::Refused(18);
+        return Err(Refusal::InvalidExpireTime);
     }
-    Terms::Value(version, until)
+    Ok(Stamping {
+        versioning: version,
+        lifetime: until,
+    })
 }
 
 // What NX or XX says.
@@ -207,43 +181,36 @@ pub fn bound(
 }
 
 // What EXHINCRBY adds, and its bounds: word 3, MIN and MAX.
-pub fn sum(command: &[u8], places: &[[usize; 2]], given: ScannedOptions) -> Added
+pub fn sum(command: &[u8], places: &[[usize; 2]], given: ScannedOptions) -> Result<Sum, Refusal>
     requires { Inside command.now places.now }
     ensures { result ≡ sum_of (words_in command.now places.now) given }
 {
-    let read = read_integer(word(command, places, 3));
-    let Some(amount) = read else {
-        return Added::Refused;
-    };
+    let amount = read_integer(word(command, places, 3)).ok_or(Refusal::NotInteger)?;
     let lowest = Signed {
         negative: true,
         magnitude: LOWEST,
     };
-    let low = bound(
+    let least = bound(
         command,
         places,
         given.said[MIN_GROUP],
         given.operands[MIN_GROUP],
         lowest,
-    );
-    let Some(least) = low else {
-        return Added::Refused;
-    };
+    )
+    .ok_or(Refusal::NotInteger)?;
     let highest = Signed {
         negative: false,
         magnitude: LOWEST - 1,
     };
-    let high = bound(
+    let greatest = bound(
         command,
         places,
         given.said[MAX_GROUP],
         given.operands[MAX_GROUP],
         highest,
-    );
-    let Some(greatest) = high else {
-        return Added::Refused;
-    };
-    Added::Value(Sum {
+    )
+    .ok_or(Refusal::NotInteger)?;
+    Ok(Sum {
         amount,
         least,
         greatest,

@@ -11,19 +11,12 @@ ghost use Rattle.commands.specs.Promises.{with_put, WithinLimits, Does, FieldsRe
 
 use crate::act::{hint_for, look, place};
 use crate::field::held_version;
-use crate::refusal::put_error;
+use crate::refusal::{Refusal, put_error};
 use store::find;
 use store::layout::VERSION_MOST;
 use wire::bytes::equal;
 use wire::replies::put_line;
 use wire::words::{WORDS_MOST, word};
-
-// What the pairs would do: pass the largest version (23), or add so many fields.
-#[derive(Clone, Copy)]
-pub enum Survey {
-    Overflow,
-    Added(usize),
-}
 
 // Removes the dead entries of the fields of the pairs. Where a field stands is kept as a hint at the number of its word.
 fn sweep_pairs(
@@ -98,14 +91,14 @@ fn new_field(found: Option<usize>, again: u64) -> usize
     0
 }
 
-// What the pairs would do with the store.
+// How many fields the pairs would add, unless a version would pass the largest.
 fn survey_pairs(
     command: &[u8],
     pairs: &[[usize; 2]],
     bytes: &[u8],
     key: &[u8],
     hints: &[usize; WORDS_MOST],
-) -> Survey
+) -> Result<usize, Refusal>
     requires { (Inside command.now pairs.now) × (well_formed bytes.now ≡ true) }
     ensures { let fs = fields_in (words_in command.now pairs.now) in
         result ≡ survey_of key.now fs (decode bytes.now).slots }
@@ -117,12 +110,12 @@ fn survey_pairs(
         let held = held_version(bytes, found);
         let again = relevant_repeats(command, pairs, i, found, held);
         if VERSION_MOST < held + (again + 1) {
-            return Survey::Overflow;
+            return Err(Refusal::VersionOverflow);
         }
         n += new_field(found, again);
         i += 2;
     }
-    Survey::Added(n)
+    Ok(n)
 }
 
 // Whether there is no room for n more fields. For none nothing is counted.
@@ -189,10 +182,10 @@ pub fn set_many(
     sweep_pairs(command, pairs, bytes, key, time, &mut hints);
     let survey = survey_pairs(command, pairs, bytes, key, &hints);
     match survey {
-        Survey::Overflow => put_error(23, out),
-        Survey::Added(n) => {
+        Err(refusal) => put_error(refusal, out),
+        Ok(n) => {
             if is_full(bytes, n, time) {
-                put_error(24, out)
+                put_error(Refusal::StoreFull, out)
             } else {
                 place_pairs(command, pairs, bytes, key, time, &hints);
                 put_line(b"+OK", out)

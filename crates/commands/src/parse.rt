@@ -7,8 +7,8 @@ ghost use Rattle.commands.specs.TablePromises.{unit_meant, form_meant};
 ghost use Rattle.commands.specs.ParsePromises.{Divided, parse_rest, meant};
 
 use crate::counts::{count_fits, too_long};
-use crate::operands::{Added, Terms, Versioned};
 use crate::options::{NOT_GIVEN, scan};
+use crate::refusal::Refusal;
 use crate::table::{
     CONDITION_GROUP, CommandRow, EXPIRY_GROUP, Form, MAX_GROUP, MIN_GROUP, NO_EXP_GROUP, TimeUnit,
     VERSION_GROUP, command_named,
@@ -19,7 +19,7 @@ use wire::integers::read_natural;
 use wire::words::word;
 
 // EXHSET from its options on: checks 15 to 18.
-fn parse_set(command: &[u8], places: &[[usize; 2]], time: u64) -> Parsed
+fn parse_set(command: &[u8], places: &[[usize; 2]], time: u64) -> Result<Parsed, Refusal>
     requires { (Inside command.now places.now) × (time < time_limit) }
     ensures { let ws = words_in command.now places.now in meant ws result ≡ parse_rest time P.Form.set_form ws }
 {
@@ -30,20 +30,15 @@ fn parse_set(command: &[u8], places: &[[usize; 2]], time: u64) -> Parsed
         &[EXPIRY_GROUP, CONDITION_GROUP, VERSION_GROUP],
     );
     if given.refusal != 0 {
-        return Parsed::Refused(given.refusal);
+        return Err(Refusal::Syntax);
     }
-    let read = operands::read_terms(command, places, given, time);
-    match read {
-        Terms::Value(version, until) => {
-            let condition = operands::condition(given.said[CONDITION_GROUP]);
-            Parsed::OnField(FieldDeed::Assign(condition, version, until))
-        }
-        Terms::Refused(n) => Parsed::Refused(n),
-    }
+    let terms = operands::read_terms(command, places, given, time)?;
+    let condition = operands::condition(given.said[CONDITION_GROUP]);
+    Ok(Parsed::OnField(FieldDeed::Assign(condition, terms)))
 }
 
 // EXHINCRBY from its options on.
-fn parse_increment(command: &[u8], places: &[[usize; 2]], time: u64) -> Parsed
+fn parse_increment(command: &[u8], places: &[[usize; 2]], time: u64) -> Result<Parsed, Refusal>
     requires { (Inside command.now places.now) × (time < time_limit) }
     ensures { let ws = words_in command.now places.now in meant ws result ≡ parse_rest time P.Form.increment_form ws }
 {
@@ -54,122 +49,119 @@ fn parse_increment(command: &[u8], places: &[[usize; 2]], time: u64) -> Parsed
         &[EXPIRY_GROUP, VERSION_GROUP, MIN_GROUP, MAX_GROUP],
     );
     if given.refusal != 0 {
-        return Parsed::Refused(given.refusal);
+        return Err(Refusal::Syntax);
     }
-    let added = operands::sum(command, places, given);
-    let Added::Value(sum) = added else {
-        return Parsed::Refused(16);
-    };
-    let read = operands::read_terms(command, places, given, time);
-    match read {
-        Terms::Value(version, until) => Parsed::OnField(FieldDeed::Increment(sum, version, until)),
-        Terms::Refused(n) => Parsed::Refused(n),
-    }
+    let sum = operands::sum(command, places, given)?;
+    let terms = operands::read_terms(command, places, given, time)?;
+    Ok(Parsed::OnField(FieldDeed::Increment(sum, terms)))
 }
 
 // EXHEXPIRE, EXHEXPIREAT, EXHPEXPIRE and EXHPEXPIREAT from their options on, by their units.
-fn parse_expire(command: &[u8], places: &[[usize; 2]], unit: TimeUnit, time: u64) -> Parsed
+fn parse_expire(
+    command: &[u8],
+    places: &[[usize; 2]],
+    unit: TimeUnit,
+    time: u64,
+) -> Result<Parsed, Refusal>
     requires { (Inside command.now places.now) × (time < time_limit) }
     ensures { let ws = words_in command.now places.now in
         meant ws result ≡ parse_rest time (P.Form.expire_form (unit_meant unit)) ws }
 {
     let given = scan(command, places, 4, &[VERSION_GROUP]);
     if given.refusal != 0 {
-        return Parsed::Refused(given.refusal);
+        return Err(Refusal::Syntax);
     }
-    let read = read_natural(word(command, places, 3), TIME_LIMIT);
-    let Some(n) = read else {
-        return Parsed::Refused(16);
-    };
-    let versioned = operands::versioning(
+    let n = read_natural(word(command, places, 3), TIME_LIMIT).ok_or(Refusal::NotInteger)?;
+    let versioning = operands::versioning(
         command,
         places,
         given.said[VERSION_GROUP],
         given.operands[VERSION_GROUP],
-    );
-    let Versioned::Value(versioning) = versioned else {
-        return Parsed::Refused(16);
-    };
+    )?;
     if operands::is_zero(versioning) {
-        return Parsed::Refused(17);
+        return Err(Refusal::InvalidVersion);
     }
     let instant = operands::instant(unit, n, time);
     if TIME_LIMIT < instant {
-        return Parsed::Refused(18);
+        return Err(Refusal::InvalidExpireTime);
     }
-    Parsed::OnField(FieldDeed::Expire(instant, versioning))
+    Ok(Parsed::OnField(FieldDeed::Expire(instant, versioning)))
 }
 
 // EXHSETVER from its number on.
-fn parse_renumber(command: &[u8], places: &[[usize; 2]]) -> Parsed
+fn parse_renumber(command: &[u8], places: &[[usize; 2]]) -> Result<Parsed, Refusal>
     requires { Inside command.now places.now }
     ensures { let ws = words_in command.now places.now in
         ((time : ℕ) → meant ws result ≡ parse_rest time P.Form.renumber_form ws) }
 {
-    let read = read_natural(word(command, places, 3), VERSION_MOST);
-    let Some(n) = read else {
-        return Parsed::Refused(16);
-    };
-    Parsed::OnField(FieldDeed::Renumber(n))
+    let n = read_natural(word(command, places, 3), VERSION_MOST).ok_or(Refusal::NotInteger)?;
+    Ok(Parsed::OnField(FieldDeed::Renumber(n)))
 }
 
 // EXHLEN from its options on.
-fn parse_count(command: &[u8], places: &[[usize; 2]]) -> Parsed
+fn parse_count(command: &[u8], places: &[[usize; 2]]) -> Result<Parsed, Refusal>
     requires { Inside command.now places.now }
     ensures { let ws = words_in command.now places.now in
         ((time : ℕ) → meant ws result ≡ parse_rest time P.Form.count_form ws) }
 {
     let given = scan(command, places, 2, &[NO_EXP_GROUP]);
     if given.refusal != 0 {
-        return Parsed::Refused(given.refusal);
+        return Err(Refusal::Syntax);
     }
     if given.said[NO_EXP_GROUP] < NOT_GIVEN {
-        return Parsed::OnKey(KeyDeed::CountLive);
+        return Ok(Parsed::OnKey(KeyDeed::CountLive));
     }
-    Parsed::OnKey(KeyDeed::CountHeld)
+    Ok(Parsed::OnKey(KeyDeed::CountHeld))
 }
 
 // A command of a row from its options on: checks 15 to 18.
 #[tactic(auto, using(crate::proofs::ParseFamilies::fixed_forms), unfolding(crate::specs::TablePromises::form_meant))]
-fn parse_row(command: &[u8], places: &[[usize; 2]], row: CommandRow, time: u64) -> Parsed
+fn parse_row(
+    command: &[u8],
+    places: &[[usize; 2]],
+    row: CommandRow,
+    time: u64,
+) -> Result<Parsed, Refusal>
     requires { (Inside command.now places.now) × (time < time_limit) }
     ensures { let ws = words_in command.now places.now in meant ws result ≡ parse_rest time (form_meant row.form) ws }
 {
     match row.form {
         Form::Set => parse_set(command, places, time),
-        Form::SetMany => Parsed::OnKey(KeyDeed::SetMany),
+        Form::SetMany => Ok(Parsed::OnKey(KeyDeed::SetMany)),
         Form::Increment => parse_increment(command, places, time),
         Form::Expire(unit) => parse_expire(command, places, unit, time),
-        Form::Persist => Parsed::OnField(FieldDeed::Persist),
+        Form::Persist => Ok(Parsed::OnField(FieldDeed::Persist)),
         Form::Renumber => parse_renumber(command, places),
-        Form::Ask(question) => Parsed::OnField(FieldDeed::Ask(question)),
-        Form::GetMany(question) => Parsed::OnKey(KeyDeed::GetMany(question)),
-        Form::Delete => Parsed::OnKey(KeyDeed::Delete),
+        Form::Ask(question) => Ok(Parsed::OnField(FieldDeed::Ask(question))),
+        Form::GetMany(question) => Ok(Parsed::OnKey(KeyDeed::GetMany(question))),
+        Form::Delete => Ok(Parsed::OnKey(KeyDeed::Delete)),
         Form::Count => parse_count(command, places),
-        Form::List(listing) => Parsed::OnKey(KeyDeed::List(listing)),
+        Form::List(listing) => Ok(Parsed::OnKey(KeyDeed::List(listing))),
     }
 }
 
 // What a command says, or the lowest of the refusals 10 to 18; no places at all are that its bytes are damaged.
-pub fn parse(command: &[u8], places: &[[usize; 2]], clock: u64, time: u64) -> Parsed
+pub fn parse(
+    command: &[u8],
+    places: &[[usize; 2]],
+    clock: u64,
+    time: u64,
+) -> Result<Parsed, Refusal>
     requires { (Divided command.now places.now) × (clock < time_limit → time < time_limit) }
     ensures { let ws = words_in command.now places.now in meant ws result ≡ P.parse time clock command.now }
 {
     if places.len() == 0 {
-        return Parsed::Refused(10);
+        return Err(Refusal::Protocol);
     }
     if TIME_LIMIT <= clock {
-        return Parsed::Refused(11);
+        return Err(Refusal::ClockOutOfRange);
     }
-    let found = command_named(word(command, places, 0));
-    let Some(row) = found else {
-        return Parsed::Refused(12);
-    };
+    let row = command_named(word(command, places, 0)).ok_or(Refusal::UnknownCommand)?;
     if !count_fits(row, places.len()) {
-        return Parsed::Refused(13);
+        return Err(Refusal::WrongArgumentCount);
     }
     if too_long(command, places, row) {
-        return Parsed::Refused(14);
+        return Err(Refusal::TooLong);
     }
     parse_row(command, places, row, time)
 }

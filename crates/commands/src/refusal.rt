@@ -1,43 +1,57 @@
-// The line of a refusal.
-ghost use Rattle.std.specs.Prelude.{◌≡◌, true, ◌≤◌, length};
+// Why a command is refused, and the line that says so.
+ghost use Rattle.std.specs.Prelude.{◌≡◌, ◌++◌, ◌≤◌, length};
+ghost use Rattle.wire.specs.Words.{crlf};
 ghost use Rattle.wire.specs.Promises.{Laid};
 ghost use Rattle.commands.specs.Refusal.{error_line};
-ghost use Rattle.commands.specs.ParsePromises.{is_refusal};
+ghost use Rattle.commands.specs.ParsePromises.{refusal_number};
 
 use wire::replies::put_line;
 
-// The lines of all refusals, one after another, without their ends.
-const LINES: [u8; 346] = *b"-ERR protocol\
-    -ERR clock out of range\
-    -ERR unknown command\
-    -ERR wrong number of arguments\
-    -ERR too long\
-    -ERR syntax error\
-    -ERR value is not an integer or out of range\
-    -ERR invalid version\
-    -ERR invalid expire time\
-    -ERR update version is stale\
-    -ERR hash value is not an integer\
-    -ERR increment or decrement would overflow\
-    -ERR version overflow\
-    -ERR store is full";
+// The refusals, in the order of their numbers: 10 to 18, and 20 to 24.
+#[derive(Clone, Copy)]
+pub enum Refusal {
+    Protocol,
+    ClockOutOfRange,
+    UnknownCommand,
+    WrongArgumentCount,
+    TooLong,
+    Syntax,
+    NotInteger,
+    InvalidVersion,
+    InvalidExpireTime,
+    StaleVersion,
+    HashNotInteger,
+    SumOverflow,
+    VersionOverflow,
+    StoreFull,
+}
 
-// The last number of a refusal.
-const LATE_MOST: usize = 24;
-
-// Where the line of each number ends among them. It starts where that of the number before it ends.
-const ENDS: [usize; LATE_MOST + 1] = [
-    0, 0, 0, 0, 0, 0, 0, 0, 0, 0, 13, 36, 56, 86, 99, 116, 160, 180, 204, 204, 232, 265, 307, 328,
-    346,
-];
+// The line of a refusal, without its end.
+fn line(refusal: Refusal) -> &'static [u8]
+    ensures { result.now ++ crlf ≡ error_line (refusal_number refusal) }
+{
+    match refusal {
+        Refusal::Protocol => b"-ERR protocol",
+        Refusal::ClockOutOfRange => b"-ERR clock out of range",
+        Refusal::UnknownCommand => b"-ERR unknown command",
+        Refusal::WrongArgumentCount => b"-ERR wrong number of arguments",
+        Refusal::TooLong => b"-ERR too long",
+        Refusal::Syntax => b"-ERR syntax error",
+        Refusal::NotInteger => b"-ERR value is not an integer or out of range",
+        Refusal::InvalidVersion => b"-ERR invalid version",
+        Refusal::InvalidExpireTime => b"-ERR invalid expire time",
+        Refusal::StaleVersion => b"-ERR update version is stale",
+        Refusal::HashNotInteger => b"-ERR hash value is not an integer",
+        Refusal::SumOverflow => b"-ERR increment or decrement would overflow",
+        Refusal::VersionOverflow => b"-ERR version overflow",
+        Refusal::StoreFull => b"-ERR store is full",
+    }
+}
 
 // Writes the line of a refusal, and answers its length.
-pub fn put_error(n: u32, out: &mut [u8]) -> usize
-    requires { (is_refusal n ≡ true) × (length (error_line n) ≤ length out.old) }
-    ensures { Laid (error_line n) out.old out.new result }
+pub fn put_error(refusal: Refusal, out: &mut [u8]) -> usize
+    requires { length (error_line (refusal_number refusal)) ≤ length out.old }
+    ensures { Laid (error_line (refusal_number refusal)) out.old out.new result }
 {
-    let i = n as usize;
-    let start = ENDS[i - 1];
-    let end = ENDS[i];
-    put_line(&LINES[start..end], out)
+    put_line(line(refusal), out)
 }

@@ -1,7 +1,7 @@
 use Rattle.wire.specs.Promises.{integer_of}
-use Rattle.store.specs.Store.{decode}
-use Rattle.commands.specs.Promises.{entry_for}
-use Rattle.commands.proofs.FieldDeeds.{laid_inside, laid_taken, laid_size, text_room, text_storable, sum_settles}
+use Rattle.commands.proofs.Handing.{handed}
+use Rattle.commands.proofs.FieldDeeds.{laid_inside, laid_taken, laid_size, text_room, text_storable}
+use Rattle.commands.proofs.Settling.{wrote_replied, wrote_refused}
 use Rattle.commands.proofs.field.write_sum.Goals as goal
 
 pub write_integer-size-requires : goal.write_integer-size-requires
@@ -13,9 +13,14 @@ slice_bounds-text-end c = laid_inside c.write_integer-size.ensures (text_room (i
 pub slice_bounds-write-end : goal.slice_bounds-write-end
 slice_bounds-write-end c = laid_size c.write_integer-size.ensures
 
-pub write-wrote-requires : goal.write-wrote-requires
-write-wrote-requires c = (c.requires.0, text_storable (integer_of c.args.z) c.requires.2 (laid_taken c.write_integer-size.ensures) c.requires.1)
+pub write-requires : goal.write-requires
+write-requires c = (c.requires.0, text_storable (integer_of c.args.z) c.requires.2 (laid_taken c.write_integer-size.ensures) c.requires.1)
+
+pub returns-in_err-write : goal.returns-in_err-write
+returns-in_err-write c =
+    rw (handed c.from_residual.result c.from_residual.ensures.1)
+    (wrote_refused c.args.sight.time _ c.args.z c.args.bytes.now (rw (c.in_err-write.was, laid_taken c.write_integer-size.ensures) at c.write.ensures))
 
 pub returns : goal.returns
 returns c =
-    sum_settles c.args.sight.time c.args.key.now c.args.field.now c.args.stamping (entry_for (decode c.args.bytes.now).slots c.args.sight.found) c.args.z c.requires.2 (laid_taken c.write_integer-size.ensures) c.write-wrote.ensures c.write_settled.ensures
+    wrote_replied c.args.sight.time _ c.args.z c.args.bytes.now c.requires.2 (rw (c.in_ok-write.was, laid_taken c.write_integer-size.ensures) at c.write.ensures)

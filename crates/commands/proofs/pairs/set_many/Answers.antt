@@ -1,4 +1,3 @@
-use mathlib.Core.Path.{refl}
 use Prim.Native.Nat.{◌≤◌}
 use native.Mathlib.Omega.{arith}
 use lib.ListN.{length}
@@ -7,30 +6,25 @@ use Rattle.wire.specs.Words.{words_most}
 use Rattle.wire.specs.Replies.{line}
 use Rattle.wire.specs.Promises.{words_in}
 use Rattle.wire.proofs.WordPlaces.{length_words}
-use Rattle.wire.specs.Lists.{any}
-use Rattle.commands.specs.Refusal.{table}
-use Rattle.commands.specs.ParsePromises.{is_refusal}
 use Rattle.commands.proofs.FieldDeeds.{may_refuse}
 use Rattle.commands.proofs.PairsDone.{many_over, many_full, many_placing, many_done}
 use Rattle.commands.proofs.pairs.set_many.Goals as goal
 
 pub put_error-requires : goal.put_error-requires
-unfolding is_refusal any table
-put_error-requires c = may_refuse 23 refl (omega (arith, c.requires.0.room))
+put_error-requires c = may_refuse _ (omega (arith, c.requires.0.room))
 
 pub put_error-requires-then-is_full : goal.put_error-requires-then-is_full
-unfolding is_refusal any table
-put_error-requires-then-is_full c = may_refuse 24 refl (omega (arith, c.requires.0.room))
+put_error-requires-then-is_full c = may_refuse _ (omega (arith, c.requires.0.room))
 
 pub place_pairs-requires : goal.place_pairs-requires
-place_pairs-requires c = let ws = words_in c.args.command.now c.args.pairs.now in let few : length ws ≤ words_most = rw length_words c.requires.0.inside.most in (c.requires.0.inside, many_placing _ _ ws _ c.sweep_pairs.ensures few c.survey_pairs-survey.ensures c.in-Added.is c.requires.1)
+place_pairs-requires c = let ws = words_in c.args.command.now c.args.pairs.now in let few : length ws ≤ words_most = rw length_words c.requires.0.inside.most in (c.requires.0.inside, many_placing _ _ ws _ c.sweep_pairs.ensures few c.survey_pairs-survey.ensures c.in-Ok.is c.requires.1)
 
-pub returns-in-Overflow : goal.returns-in-Overflow
-returns-in-Overflow c = let ws = words_in c.args.command.now c.args.pairs.now in let few : length ws ≤ words_most = rw length_words c.requires.0.inside.most in many_over _ _ ws _ c.sweep_pairs.ensures few c.survey_pairs-survey.ensures c.in-Overflow.is c.put_error.ensures
+pub returns-in-Err : goal.returns-in-Err
+returns-in-Err c = let ws = words_in c.args.command.now c.args.pairs.now in let few : length ws ≤ words_most = rw length_words c.requires.0.inside.most in many_over _ _ ws _ c.sweep_pairs.ensures few c.survey_pairs-survey.ensures c.in-Err.is c.put_error.ensures
 
 pub returns-then-is_full : goal.returns-then-is_full
-returns-then-is_full c = let ws = words_in c.args.command.now c.args.pairs.now in let few : length ws ≤ words_most = rw length_words c.requires.0.inside.most in many_full _ _ ws _ c.sweep_pairs.ensures few c.survey_pairs-survey.ensures c.in-Added.is c.is_full.ensures c.if-is_full.true c.put_error-then-is_full.ensures
+returns-then-is_full c = let ws = words_in c.args.command.now c.args.pairs.now in let few : length ws ≤ words_most = rw length_words c.requires.0.inside.most in many_full _ _ ws _ c.sweep_pairs.ensures few c.survey_pairs-survey.ensures c.in-Ok.is c.is_full.ensures c.if-is_full.true c.put_error-then-is_full.ensures
 
 pub returns-else-is_full : goal.returns-else-is_full
 unfolding line text
-returns-else-is_full c = let ws = words_in c.args.command.now c.args.pairs.now in let few : length ws ≤ words_most = rw length_words c.requires.0.inside.most in many_done _ _ ws _ c.sweep_pairs.ensures few c.survey_pairs-survey.ensures c.in-Added.is c.is_full.ensures c.if-is_full.false c.place_pairs.ensures c.put_line.ensures
+returns-else-is_full c = let ws = words_in c.args.command.now c.args.pairs.now in let few : length ws ≤ words_most = rw length_words c.requires.0.inside.most in many_done _ _ ws _ c.sweep_pairs.ensures few c.survey_pairs-survey.ensures c.in-Ok.is c.is_full.ensures c.if-is_full.false c.place_pairs.ensures c.put_line.ensures
