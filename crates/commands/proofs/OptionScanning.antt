@@ -1,12 +1,12 @@
 -- The scan of the options, one option after the other.
-use Rattle.std.specs.Prelude.{Option, None, Some, option_map, is_some}
+use Rattle.std.specs.Prelude.{Option, None, Some, option_map, is_some, Ok, Err}
 use mathlib.Core.Path.{◌≡◌, refl, sym, ap, ◌∙◌}
 use mathlib.Core.Bool.{Bool, true, false, cond, not, ◌||◌}
 use mathlib.Core.List.{List, [], ◌∷◌, ◌++◌, append_assoc, append-nil}
 use Prim.Native.Nat.{ℕ, suc, ◌+◌, ◌≤◌, ◌<◌}
 use native.Mathlib.Numerals.{add-one}
 use native.Mathlib.Omega.{arith}
-use borrow.Author.Tests.{not-true, not-false, lt-ltb, le-ltb, eq-eqb, ne_eqb, eqb-true, eqb-false}
+use borrow.Author.Tests.{not-true, not-false, eq-eqb, ne_eqb, eqb-true, eqb-false}
 use lib.Dec.{eqb}
 use lib.ListN.{length, get_or, drop, set, replicate, length-set, get_or-replicate, drop_of_length-le}
 use lib.Seq.{drop-cons, get_or-set_same, get_or-set_other}
@@ -15,11 +15,14 @@ use Rattle.wire.specs.Words.{Word, word_at}
 use Rattle.wire.specs.Promises.{row_named, next_of}
 use Rattle.wire.proofs.Lists.{or_left, or_right, or_neither, or_late, impossible}
 use Rattle.wire.proofs.WordPlaces.{next_end, next_at}
+use Rattle.commands.specs.declared.refusal.Refusal.{Refusal}
+use Rattle.commands.specs.declared.refusal.Refusal.TheVariants.{Syntax}
+use Rattle.commands.specs.declared.options.Given as given
 use Rattle.commands.specs.declared.options.ScannedOptions as code
 use Rattle.commands.specs.Options.{OptionKind, Range, Given, ◌with◌, options, group, group_count, operand_range, option_named, scan, conflicting, given_of}
 use Rattle.commands.specs.declared.table.OptionRow.{OptionRow}
 use Rattle.commands.specs.TablePromises.{kind_in, said_of, option_said, option_table, option_of}
-use Rattle.commands.specs.ParsePromises.{not_given, numbered, option_at, given_at, FoundOption, Scanned}
+use Rattle.commands.specs.ParsePromises.{numbered, option_given, given_at, FoundOption, Scanned}
 use Rattle.commands.proofs.TableRows.{meant, option_row, option_number, row_kind, row_below}
 
 -- ---- the groups that are allowed
@@ -209,10 +212,8 @@ module _ (ws : List Word) (allowed : List ℕ) (i : ℕ) {count : ℕ} (size : l
     unfolding option_said
     parts = (ap (λ r. r.group) (sym naming.said), ap (λ r. r.said) (sym naming.said), ap (λ r. r.operand) (sym naming.said))
 
-    below : (o.group < group_count) × (o.said < not_given)
-    below =
-        let b : (group kind < group_count) × (said_of kind < not_given) = row_below naming.k (option_number (word_at i ws) refl naming.k naming.number) in
-        (omega (arith, parts.0), omega (arith, parts.1))
+    below : o.group < group_count
+    below = omega (arith, parts.0, row_below naming.k (option_number (word_at i ws) refl naming.k naming.number))
 
     named_so : option_named options allowed (word_at i ws) ≡ only_if (any (eqb o.group) allowed) kind
     unfolding or_else
@@ -240,8 +241,7 @@ module _ (ws : List Word) (allowed : List ℕ) (i : ℕ) {count : ℕ} (size : l
             record {
               left = rw same e;
               member = rw same (sym parts.0);
-              grouped = below.0;
-              given = below.1;
+              grouped = below;
               after = b;
               inside = omega arith;
             }
@@ -271,19 +271,20 @@ pub record Scanning (ws : List Word) (allowed : List ℕ) (from i : ℕ) (r : co
   pub left : scan allowed None (drop from ws) ≡ option_map (λ more. found ++ more) (scan allowed None (drop i ws))
   pub clean : conflicting found ≡ false
   pub entries : (g : ℕ) → g < group_count → given_of g found ≡ given_at ws r g
-  pub passed : r.refusal ≡ 0
-  pub said_size : length r.said ≡ group_count
-  pub operands_size : length r.operands ≡ group_count
+  pub size : length r.given ≡ group_count
 
--- an option of the code
-module _ (ws : List Word) (g said operand : ℕ) where
-  pub option_none : not_given ≤ said → option_at ws g said operand ≡ None
-  unfolding option_at
-  option_none l = rw (le-ltb said not_given l)
+-- an option is given where the code has one
+pub given_some : (ws : List Word) (g : ℕ) (x : Option given.Given) → is_some (option_given ws g x) ≡ is_some x
+given_some ws g None = refl
+given_some ws g (Some o) = refl
 
-  pub option_some : said < not_given → option_at ws g said operand ≡ Some (numbered ws g said operand)
-  unfolding option_at
-  option_some l = rw (lt-ltb said not_given l)
+given_none : (ws : List Word) (g : ℕ) (x : Option given.Given) → is_some x ≡ false → option_given ws g x ≡ None
+given_none ws g None e = refl
+given_none ws g (Some o) e = impossible cc
+
+given_here : (ws : List Word) (g : ℕ) (x : Option given.Given) → is_some x ≡ true → (z : Given) × (option_given ws g x ≡ Some z)
+given_here ws g None e = impossible cc
+given_here ws g (Some o) e = (numbered ws g o.said o.operand, refl)
 
 map_none : (o : Option (List Given)) → o ≡ option_map (λ more. [] ++ more) o
 map_none None = refl
@@ -295,67 +296,62 @@ map_last gs x None = refl
 map_last gs x (Some more) = ap Some (sym (append_assoc gs (x ∷ []) more))
 
 pub scanning_begins : (ws : List Word) (allowed : List ℕ) (from : ℕ)
-    → Scanning ws allowed from from (record { refusal = 0; said = replicate group_count not_given; operands = replicate group_count 0 })
+    → Scanning ws allowed from from (record { given = replicate group_count None })
 unfolding conflicting given_of
 scanning_begins ws allowed from =
     record {
       found = [];
       left = map_none (scan allowed None (drop from ws));
       clean = refl;
-      entries = λ g l. sym (option_none ws g _ _ (omega (arith, get_or-replicate {A = ℕ} group_count g not_given 0 l)));
-      passed = refl;
-      said_size = refl;
-      operands_size = refl;
+      entries = λ g l. rw (get_or-replicate {A = Option given.Given} group_count g None None l) refl;
+      size = refl;
     }
 
 module _ {ws : List Word} {allowed : List ℕ} {from i : ℕ} {r : code.ScannedOptions} (s : Scanning ws allowed from i r) where
-  abbrev refused_with : ℕ → code.ScannedOptions
-  refused_with n = record { refusal = n; said = r.said; operands = r.operands }
-
-  refused : {n : ℕ} → n ≡ 15 → or_else (scan allowed None (drop from ws)) true conflicting ≡ true → Scanned ws allowed from (refused_with n)
-  refused e h = record { refusal = rw h e; given = λ z. absurd (omega arith) }
-
   -- the scan of what is left fails
-  pub scanning_fails : {n : ℕ} → (n ≡ 15) × (scan allowed None (drop i ws) ≡ None) → Scanned ws allowed from (refused_with n)
+  pub scanning_fails : {n : Refusal} → (n ≡ Syntax) × (scan allowed None (drop i ws) ≡ None) → Scanned ws allowed from (Err n)
   unfolding or_else
-  scanning_fails (e, fails) = refused e (rw (s.left, fails))
+  scanning_fails (e, fails) = (e, rw (s.left, fails))
 
   -- all words were scanned
-  pub scanning_ends : {count : ℕ} → length ws ≡ count → count ≤ i → Scanned ws allowed from r
+  pub scanning_ends : {count : ℕ} → length ws ≡ count → count ≤ i → Scanned ws allowed from (Ok r)
   unfolding scan or_else
   scanning_ends size l =
       let past : drop i ws ≡ [] = drop_of_length-le ws {i = i} (omega arith) in
       let all : scan allowed None (drop from ws) ≡ Some s.found = s.left ∙ rw (past, append-nil) in
-      record { refusal = rw (all, s.clean) s.passed; given = λ e g b. rw all (s.entries g b) }
+      record { clean = rw all s.clean; given = λ g b. rw all (s.entries g b) }
 
   -- an option was found
-  module _ {g said last : ℕ} (f : FoundOption ws allowed i g said last) where
+  module _ {g : ℕ} {o : given.Given} (f : FoundOption ws allowed i g o.said o.operand) where
     abbrev x : Given
-    x = numbered ws g said last
+    x = numbered ws g o.said o.operand
 
     member_so : group x.kind ≡ g
     unfolding numbered
     member_so = f.member
 
     -- of a group that was given before
-    pub scanning_again : get_or r.said g 0 < not_given → Scanned ws allowed from (refused_with 15)
+    pub scanning_again : is_some (get_or r.given g None) ≡ true → Scanned ws allowed from (Err Syntax)
     unfolding or_else
-    scanning_again b = refused refl (rw (s.left, f.left) (go (scan allowed None (drop (last + 1) ws))))
+    scanning_again b = (refl, rw (s.left, f.left) (go (scan allowed None (drop (o.operand + 1) ws))))
       where
-        before : given_of (group x.kind) s.found ≡ Some (numbered ws g (get_or r.said g 0) (get_or r.operands g 0))
-        before = rw member_so (s.entries g f.grouped ∙ option_some ws g _ _ b)
+        here : (z : Given) × (option_given ws g (get_or r.given g None) ≡ Some z)
+        here = given_here ws g (get_or r.given g None) b
+
+        before : given_of (group x.kind) s.found ≡ Some here.0
+        before = rw member_so (s.entries g f.grouped ∙ here.1)
 
         go : (o : Option (List Given)) → or_else (option_map (λ more. s.found ++ more) (option_map (λ gs. x ∷ gs) o)) true conflicting ≡ true
         go None = refl
         go (Some more) = conflict_again x s.found more _ before
 
     -- of another group
-    module _ (free : not_given ≤ get_or r.said g 0) where
+    module _ (free : is_some (get_or r.given g None) ≡ false) where
       none_before : given_of (group x.kind) s.found ≡ None
-      none_before = rw member_so (s.entries g f.grouped ∙ option_none ws g _ _ free)
+      none_before = rw member_so (s.entries g f.grouped ∙ given_none ws g (get_or r.given g None) free)
 
       abbrev next : code.ScannedOptions
-      next = record { refusal = r.refusal; said = set r.said g said; operands = set r.operands g last }
+      next = record { given = set r.given g (Some o) }
 
       next_entries : (h : ℕ) → h < group_count → given_of h (s.found ++ (x ∷ [])) ≡ given_at ws next h
       next_entries h b = go (eqb g h) refl
@@ -364,26 +360,23 @@ module _ {ws : List Word} {allowed : List ℕ} {from i : ℕ} {r : code.ScannedO
           go true q =
               let e : g ≡ h = eqb-true g h q in
               let this : given_of g (s.found ++ (x ∷ [])) ≡ Some x = rw member_so at (given_same x s.found none_before) in
-              let p : g < length r.said = omega (arith, s.said_size, f.grouped) in
-              let o : g < length r.operands = omega (arith, s.operands_size, f.grouped) in
-              rw (← e, get_or-set_same r.said g said 0 p, get_or-set_same r.operands g last 0 o) (this ∙ sym (option_some ws g said last f.given))
+              let inside : g < length r.given = omega (arith, s.size, f.grouped) in
+              rw (← e, get_or-set_same r.given g (Some o) None inside) this
           go false q =
               let ne : h ≡ g → ⊥ = λ e. eqb-false g h q (sym e) in
               let other : eqb (group x.kind) h ≡ false = rw member_so q in
-              given_other x h s.found other ∙ s.entries h b ∙ rw (get_or-set_other r.said g h said 0 ne, get_or-set_other r.operands g h last 0 ne)
+              given_other x h s.found other ∙ s.entries h b ∙ rw (get_or-set_other r.given g h (Some o) None ne)
 
       -- it is one option more
-      pub scanning_on : Scanning ws allowed from (last + 1) next
+      pub scanning_on : Scanning ws allowed from (o.operand + 1) next
       scanning_on =
           record {
             found = s.found ++ (x ∷ []);
             left =
                 s.left
                 ∙ ap (option_map (λ more. s.found ++ more)) f.left
-                ∙ map_last s.found x (scan allowed None (drop (last + 1) ws));
+                ∙ map_last s.found x (scan allowed None (drop (o.operand + 1) ws));
             clean = conflict_none x s.found s.clean none_before;
             entries = next_entries;
-            passed = s.passed;
-            said_size = length-set r.said g said ∙ s.said_size;
-            operands_size = length-set r.operands g last ∙ s.operands_size;
+            size = length-set r.given g (Some o) ∙ s.size;
           }

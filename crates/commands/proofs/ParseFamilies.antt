@@ -36,9 +36,9 @@ use Rattle.commands.specs.Parse.{Form, allowed, option_words, number_range, pair
 use Rattle.commands.specs.Parse.Form.{set_form, set_many_form, increment_form, expire_form, persist_form, renumber_form, ask_form, get_many_form, delete_form, count_form, list_form}
 use Rattle.commands.specs.Parse.Parsed.{accepted}
 use Rattle.commands.specs.TablePromises.{unit_meant, kind_in}
-use Rattle.commands.specs.ParsePromises.{not_given, given_at, instant_in, read_of, by_number, versioned_for, terms_for, condition_for, on_integer, sum_for, lowest_signed, highest_signed, bound_given, sum_of, parse_rest, deed_of, command_for, meant}
+use Rattle.commands.specs.ParsePromises.{given_at, instant_in, read_of, by_number, versioned_for, terms_for, condition_for, on_integer, sum_for, lowest_signed, highest_signed, bound_given, sum_of, parse_rest, deed_of, command_for, meant}
 use Rattle.commands.proofs.OperandWords.{instant_read}
-use Rattle.commands.proofs.OptionScanning.{option_some, option_none}
+use Rattle.commands.proofs.OptionScanning.{given_some}
 use Rattle.commands.proofs.Parsing.{given_in, unclean, all_read, rest_16, rest_17, rest_18, rest_said, Takes, Ready, version_said, version_refused, terms_refused, terms_said, condition_said, bare_read, has_read, integer_read, integer_value, bound_readable, bound_said}
 
 -- the option of a group that a command of a form was given
@@ -61,7 +61,7 @@ module _ (time : ℕ) {ws : List Word} {r : ScannedOptions} (y : Ready set_form 
   unfolding build on_deed deed_versioning deed_lifetime
   set_refused q = terms_refused y time m em set_left refl refl q
 
-  pub set_done : {s : Stamping} → m ≡ Ok s → {c : Condition} → c ≡ condition_for (get_or r.said condition_group 0)
+  pub set_done : {s : Stamping} → m ≡ Ok s → {c : Condition} → c ≡ condition_for (get_or r.given condition_group None)
       → meant ws (Ok (parses.OnField (fieldDeeds.Assign c s))) ≡ parse_rest time set_form ws
   unfolding build on_deed deed_versioning deed_lifetime meant deed_of
   set_done q ec =
@@ -281,13 +281,13 @@ module _ (time : ℕ) {ws : List Word} {r : ScannedOptions} (y : Ready count_for
       no_deed test true = refl
       no_deed test false = refl
 
-  pub count_live_lem : get_or r.said no_exp_group 0 < not_given → meant ws (Ok (parses.OnKey keyDeeds.CountLive)) ≡ parse_rest time count_form ws
+  pub count_live_lem : is_some (get_or r.given no_exp_group None) ≡ true → meant ws (Ok (parses.OnKey keyDeeds.CountLive)) ≡ parse_rest time count_form ws
   unfolding meant command_for
-  count_live_lem l = count_said true (rw (y.given no_exp_group (omega arith), option_some ws no_exp_group _ _ l))
+  count_live_lem e = count_said true (rw (y.given no_exp_group (omega arith)) (given_some ws no_exp_group (get_or r.given no_exp_group None) ∙ e))
 
-  pub count_held_lem : not_given ≤ get_or r.said no_exp_group 0 → meant ws (Ok (parses.OnKey keyDeeds.CountHeld)) ≡ parse_rest time count_form ws
+  pub count_held_lem : is_some (get_or r.given no_exp_group None) ≡ false → meant ws (Ok (parses.OnKey keyDeeds.CountHeld)) ≡ parse_rest time count_form ws
   unfolding meant command_for
-  count_held_lem l = count_said false (rw (y.given no_exp_group (omega arith), option_none ws no_exp_group _ _ l))
+  count_held_lem e = count_said false (rw (y.given no_exp_group (omega arith)) (given_some ws no_exp_group (get_or r.given no_exp_group None) ∙ e))
 
 -- ---- commands of fixed words with no number among them
 

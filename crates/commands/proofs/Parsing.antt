@@ -3,10 +3,8 @@ use Rattle.std.specs.Prelude.{Option, None, Some, option_map, unwrap_or, is_some
 use mathlib.Core.Path.{◌≡◌, refl, sym, ap, ◌∙◌}
 use mathlib.Core.Bool.{Bool, true, false, cond, not, ◌&&◌}
 use mathlib.Core.List.{List, []}
-use Prim.Native.Nat.{ℕ, ◌≤◌, ◌<◌}
+use Prim.Native.Nat.{ℕ, ◌<◌}
 use native.Mathlib.Omega.{arith}
-use borrow.Author.Tests.{ltb-true, ltb-false}
-use lib.Dec.{ltb}
 use lib.IntN.{ℤ, pos}
 use lib.ListN.{get_or, drop}
 use Rattle.wire.specs.declared.integers.Signed.{Signed}
@@ -22,16 +20,16 @@ use Rattle.commands.specs.declared.Versioning.{Versioning}
 use Rattle.commands.specs.declared.Stamping.{Stamping}
 use Rattle.commands.specs.declared.refusal.Refusal.{Refusal}
 use Rattle.commands.specs.declared.refusal.Refusal.TheVariants.{Syntax, NotInteger, InvalidVersion, InvalidExpireTime}
+use Rattle.commands.specs.declared.options.Given as code
 use Rattle.commands.specs.declared.options.ScannedOptions.{ScannedOptions}
 use Rattle.wire.specs.Checks.{first_applying}
-use Rattle.commands.specs.Options.{Given, ◌with◌, signed64, expiry_group, condition_group, version_group, group_count, operand_range, scan, conflicting, given_of, read_in, readable, number_in, readable_operand, condition_of, lifetime, versioning, condition, bound_in}
+use Rattle.commands.specs.Options.{Given, signed64, expiry_group, condition_group, version_group, group_count, operand_range, scan, conflicting, given_of, read_in, readable, number_in, readable_operand, condition_of, lifetime, versioning, condition, bound_in}
 use Rattle.commands.specs.Options.OptionKind.{bound}
 use Rattle.commands.specs.Parse.{Form, allowed, option_words, number_range, is_zero, deed_versioning, beyond, deed_lifetime, on_deed, later_checks, scanned_of, said_by}
 use Rattle.commands.specs.Parse.Parsed.{refused, accepted}
 use Rattle.commands.specs.TablePromises.{kind_in}
-use Rattle.commands.specs.ParsePromises.{not_given, refusal_number, by_number, numbered, option_at, given_at, Scanned, lifetime_by, version_by, read_of, timed_for, versioned_for, term_checks, terms_for, condition_for, bound_for, bound_given, parse_rest, meant}
+use Rattle.commands.specs.ParsePromises.{refusal_number, by_number, numbered, option_given, given_at, CleanScan, Scanned, lifetime_by, version_by, read_of, timed_for, versioned_for, term_checks, terms_for, condition_for, bound_for, bound_given, parse_rest, meant}
 use Rattle.wire.proofs.Checks.{check_applies, check_passed, checks_end}
-use Rattle.commands.proofs.OptionScanning.{option_some, option_none}
 use Rattle.commands.proofs.OptionsOneEach.{scan_allowed, all_groups}
 
 -- ---- checks 15 to 18
@@ -102,33 +100,22 @@ pub record Ready (f : Form) (ws : List Word) (r : ScannedOptions) : Type 0 where
   pub given : (g : ℕ) → g < group_count → given_of g (given_in f ws) ≡ given_at ws r g
   pub read : all readable_operand (given_in f ws) ≡ all (λ n. read_of (given_of n (given_in f ws))) (allowed f)
 
-module _ {f : Form} {al : List ℕ} {from : ℕ} (k : Takes f al from) {ws : List Word} {r : ScannedOptions} (s : Scanned ws al from r) where
+module _ {f : Form} {al : List ℕ} {from : ℕ} (k : Takes f al from) (ws : List Word) where
   same_scan : scan al None (drop from ws) ≡ scanned_of f ws
   same_scan = rw (k.groups, k.words ws)
 
-  refusal_so : r.refusal ≡ cond (unclean f ws) 15 0
-  refusal_so = rw same_scan at s.refusal
+  pub not_clean : {n : Refusal} → Scanned ws al from (Err n) → (time : ℕ) → meant ws (Err n) ≡ parse_rest time f ws
+  not_clean (e, h) time = rw e (rest_15 time f ws (rw same_scan at h))
 
-  pub not_clean : (time : ℕ) → (r.refusal ≡ 0 → ⊥) → meant ws (Err Syntax) ≡ parse_rest time f ws
-  not_clean time h = go (unclean f ws) refl refusal_so
-    where
-      go : (t : Bool) → unclean f ws ≡ t → r.refusal ≡ cond t 15 0 → meant ws (Err Syntax) ≡ parse_rest time f ws
-      go true q e = rest_15 time f ws q
-      go false q e = absurd (h e)
-
-  pub ready : r.refusal ≡ 0 → Ready f ws r
+  pub ready : {r : ScannedOptions} → CleanScan ws al from r → Ready f ws r
   unfolding or_else read_of
-  ready h =
-      let k : unclean f ws ≡ false = go (unclean f ws) refusal_so in
+  ready s =
+      let clean : unclean f ws ≡ false = rw same_scan at s.clean in
       record {
-        clean = k;
-        given = λ g l. rw same_scan at (s.given h g l);
-        read = all_groups readable_operand (allowed f) (scanned_of f ws) k (scan_allowed (allowed f) (option_words f ws));
+        clean = clean;
+        given = λ g l. rw same_scan at (s.given g l);
+        read = all_groups readable_operand (allowed f) (scanned_of f ws) clean (scan_allowed (allowed f) (option_words f ws));
       }
-    where
-      go : (t : Bool) → r.refusal ≡ cond t 15 0 → t ≡ false
-      go true e = absurd (omega arith)
-      go false e = refl
 
 -- ---- what the code read
 
@@ -230,12 +217,9 @@ module _ {f : Form} {ws : List Word} {r : ScannedOptions} (y : Ready f ws r) whe
   abbrev found : ℕ → Option Given
   found n = given_of n (given_in f ws)
 
-  -- what the option of a group says, and its operand's word
-  abbrev said : ℕ → ℕ
-  said n = get_or r.said n 0
-
-  abbrev operand : ℕ → ℕ
-  operand n = get_or r.operands n 0
+  -- the option of a group as the code has it
+  abbrev entry : ℕ → Option code.Given
+  entry n = get_or r.given n None
 
   module _ {v : Result Versioning Refusal} (e : v ≡ versioned_for (given_at ws r version_group)) where
     pub version_said : {n : Versioning} → v ≡ Ok n → (read_of (found version_group) ≡ true) × (versioning (given_in f ws) ≡ n)
@@ -245,55 +229,43 @@ module _ {f : Form} {ws : List Word} {r : ScannedOptions} (y : Ready f ws r) whe
     pub version_refused : {n : Refusal} → v ≡ Err n → (read_of (found version_group) ≡ false) × (n ≡ NotInteger)
     version_refused h = versioned_refused (found version_group) (rw (y.given version_group (omega arith)) e) h
 
-  pub condition_said : condition (given_in f ws) ≡ condition_for (said condition_group)
-  unfolding condition condition_for condition_of option_at numbered kind_in or_else
-  condition_said = rw (y.given condition_group (omega arith)) (go (ltb (said condition_group) not_given))
+  pub condition_said : condition (given_in f ws) ≡ condition_for (entry condition_group)
+  unfolding condition condition_for condition_of numbered kind_in or_else
+  condition_said = rw (y.given condition_group (omega arith)) (go (entry condition_group))
     where
-      go : (t : Bool)
-          → or_else (cond t (Some (numbered ws condition_group (said condition_group) (operand condition_group))) None) conditions.Always (λ g. condition_of g.kind)
-          ≡ cond t (condition_of (kind_in condition_group (said condition_group))) conditions.Always
-      go true = refl
-      go false = refl
+      go : (x : Option code.Given) → or_else (option_given ws condition_group x) conditions.Always (λ g. condition_of g.kind) ≡ condition_for x
+      go None = refl
+      go (Some o) = refl
 
   -- what takes no operand has none to be read
   pub bare_read : (n : ℕ) → n < group_count → ((s : ℕ) → operand_range (kind_in n s) ≡ None) → read_of (found n) ≡ true
   unfolding read_of or_else readable_operand numbered
-  bare_read n l h = rw (y.given n l) (go (ltb (said n) not_given) refl)
+  bare_read n l h = rw (y.given n l) (go (entry n))
     where
-      go : (t : Bool) → ltb (said n) not_given ≡ t → read_of (option_at ws n (said n) (operand n)) ≡ true
-      go true q = rw (option_some ws n (said n) (operand n) (ltb-true (said n) not_given q), h (said n))
-      go false q = rw (option_none ws n (said n) (operand n) (ltb-false (said n) not_given q))
+      go : (x : Option code.Given) → read_of (option_given ws n x) ≡ true
+      go None = refl
+      go (Some o) = rw (h o.said)
 
   -- a bound that was read, or that was not given
   module _ (n : ℕ) (l : n < group_count) (m : (s : ℕ) → kind_in n s ≡ bound n) (u : Signed) where
-    abbrev number : Option ℤ
-    number = read_integer lowest64 highest64 (word_at (operand n) ws)
-
-    given_bound : said n < not_given → found n ≡ Some (bound n with word_at (operand n) ws)
-    unfolding numbered operand_range
-    given_bound h = y.given n l ∙ option_some ws n (said n) (operand n) h ∙ rw (m (said n))
-
-    given_none : not_given ≤ said n → found n ≡ None
-    given_none h = y.given n l ∙ option_none ws n (said n) (operand n) h
+    abbrev number : code.Given → Option ℤ
+    number o = read_integer lowest64 highest64 (word_at o.operand ws)
 
     pub bound_readable : has_read (bound_given u n ws r) ≡ read_of (found n)
-    unfolding bound_given bound_for read_of or_else readable_operand operand_range readable read_in has_read
-    bound_readable = go (ltb (said n) not_given) refl
+    unfolding bound_given bound_for read_of or_else readable_operand numbered operand_range readable read_in has_read
+    bound_readable = rw (y.given n l) (go (entry n))
       where
-        go : (t : Bool) → ltb (said n) not_given ≡ t → has_read (cond t (option_map signed_for number) (Some u)) ≡ read_of (found n)
-        go true q = rw (given_bound (ltb-true (said n) not_given q)) (integer_read number)
-        go false q = rw (given_none (ltb-false (said n) not_given q))
+        go : (x : Option code.Given) → has_read (bound_for u ws x) ≡ read_of (option_given ws n x)
+        go None = refl
+        go (Some o) = rw (m o.said) (integer_read (number o))
 
     pub bound_said : {z : Signed} → bound_given u n ws r ≡ Some z → bound_in n (integer_of u) (given_in f ws) ≡ integer_of z
-    unfolding bound_given bound_for bound_in or_else number_in read_in
-    bound_said {z} e = go (ltb (said n) not_given) refl e
+    unfolding bound_given bound_for bound_in or_else numbered operand_range number_in read_in
+    bound_said {z} e = rw (y.given n l) (go (entry n) e)
       where
-        go : (t : Bool) → ltb (said n) not_given ≡ t → cond t (option_map signed_for number) (Some u) ≡ Some z
-            → or_else (found n) (integer_of u) (λ g. number_in signed64 g.operand) ≡ integer_of z
-        go true q k = rw (given_bound (ltb-true (said n) not_given q)) (integer_value number z k)
-        go false q k =
-            let same : u ≡ z = cc in
-            rw (given_none (ltb-false (said n) not_given q), same)
+        go : (x : Option code.Given) → bound_for u ws x ≡ Some z → or_else (option_given ws n x) (integer_of u) (λ g. number_in signed64 g.operand) ≡ integer_of z
+        go None k = let same : u ≡ z = cc in rw same
+        go (Some o) k = rw (m o.said) (integer_value (number o) z k)
 
   -- what the options say of the version and the expiry, where these two are what is left to be read
   module _ (time : ℕ) (m : Result Stamping Refusal) (e : by_number m ≡ terms_for time (given_at ws r expiry_group) (given_at ws r version_group))

@@ -25,7 +25,6 @@ use Rattle.commands.specs.Parse.Count.{at_least}
 use Rattle.commands.specs.Parse.Form.{set_form}
 use Rattle.commands.specs.TablePromises.{filler, name_row, unit_meant, form_meant, count_meant, row_parts, row_meant, command_table, command_of, unit_number, unit_of, condition_number, versioning_number, said_of, expiry_kind, condition_by, versioning_by, kind_in, option_said, option_table, option_of}
 use Rattle.commands.specs.declared.table.CommandRow as code
-use Rattle.commands.specs.ParsePromises.{not_given}
 use Rattle.commands.proofs.Computing.{computing}
 
 -- to compute with the tables
@@ -225,17 +224,15 @@ row_kind i =
     ∙ ap (λ l. get_or l i no_exp) kinds_back
     ∙ get_or-map (λ r. r.kind) options i last
 
--- its group is one of the groups, and what it says is no mark that none was given
-options_below : all (λ r. ltb (group r.kind) group_count && ltb (said_of r.kind) not_given) options ≡ true
+-- its group is one of the groups
+options_below : all (λ r. ltb (group r.kind) group_count) options ≡ true
 unfolding tables
 options_below = refl
 
-pub row_below : (i : ℕ) → i < option_count → (group (option_of i).kind < group_count) × (said_of (option_of i).kind < not_given)
+pub row_below : (i : ℕ) → i < option_count → group (option_of i).kind < group_count
 unfolding option_of
 row_below i l =
-    let m : OptionKind = (option_of i).kind in
-    let t : ltb (group m) group_count && ltb (said_of m) not_given ≡ true = all_at (λ r. ltb (group r.kind) group_count && ltb (said_of r.kind) not_given) options ("NOEXP" means no_exp) options_below i (omega (arith, options_counted)) in
-    (ltb-true (group m) group_count (and_left (ltb (group m) group_count) (ltb (said_of m) not_given) t), ltb-true (said_of m) not_given (and_right (ltb (group m) group_count) (ltb (said_of m) not_given) t))
+    ltb-true (group (option_of i).kind) group_count (all_at (λ r. ltb (group r.kind) group_count) options ("NOEXP" means no_exp) options_below i (omega (arith, options_counted)))
 
 -- ---- what a row's number means
 

@@ -24,8 +24,8 @@ use Rattle.commands.specs.declared.Versioning.TheVariants as versionings
 use Rattle.commands.specs.declared.Stamping.{Stamping}
 use Rattle.commands.specs.declared.Sum.{Sum}
 use Rattle.commands.specs.declared.table.TimeUnit.{TimeUnit}
-use Rattle.commands.specs.declared.options.OptionFound.{OptionFound}
-use Rattle.commands.specs.declared.options.OptionFound.TheVariants as founds
+use Rattle.commands.specs.declared.options.Given as code
+use Rattle.commands.specs.declared.options.GroupedOption.{GroupedOption}
 use Rattle.commands.specs.declared.options.ScannedOptions.{ScannedOptions}
 use Rattle.wire.specs.Checks.{Check, ◌when◌, first_applying}
 use Rattle.commands.specs.Command.{Deed, Command}
@@ -69,20 +69,16 @@ by_number (Err r) = Err (refusal_number r)
 
 -- ---- options that were given
 
--- where the code has this as what an option of a group says, none was given
-abbrev pub not_given : ℕ
-not_given = 256
-
 -- an option as it was given, by what it says in its group and the number of its operand's word
 unfoldable pub numbered : List Word → ℕ → ℕ → ℕ → Given
 numbered ws g said operand = kind_in g said with cond (is_some (operand_range (kind_in g said))) (word_at operand ws) []
 
 -- the option of a group as the code has it
-unfoldable pub option_at : List Word → ℕ → ℕ → ℕ → Option Given
-option_at ws g said operand = cond (ltb said not_given) (Some (numbered ws g said operand)) None
+abbrev pub option_given : List Word → ℕ → Option code.Given → Option Given
+option_given ws g x = option_map (λ o. numbered ws g o.said o.operand) x
 
 abbrev pub given_at : List Word → ScannedOptions → ℕ → Option Given
-given_at ws r g = option_at ws g (get_or r.said g 0) (get_or r.operands g 0)
+given_at ws r g = option_given ws g (get_or r.given g None)
 
 -- an option stands at word i: what is left of a scan there is that option, and what is left behind its last word
 pub record FoundOption (ws : List Word) (allowed : List ℕ) (i g said last : ℕ) : Type 0 where
@@ -90,20 +86,23 @@ pub record FoundOption (ws : List Word) (allowed : List ℕ) (i g said last : �
       ≡ option_map (λ gs. numbered ws g said last ∷ gs) (scan allowed None (drop (last + 1) ws))
   pub member : group (kind_in g said) ≡ g
   pub grouped : g < group_count
-  pub given : said < not_given
   pub after : i ≤ last
   pub inside : last < length ws
 
 -- what the code found there; a scan fails where it refuses
-abbrev pub FoundBy : List Word → List ℕ → ℕ → OptionFound → Type 0
-FoundBy ws allowed i (founds.At g said last) = FoundOption ws allowed i g said last
-FoundBy ws allowed i (founds.Refused n) = (n ≡ 15) × (scan allowed None (drop i ws) ≡ None)
+abbrev pub FoundBy : List Word → List ℕ → ℕ → Result GroupedOption Refusal → Type 0
+FoundBy ws allowed i (Ok x) = FoundOption ws allowed i x.group x.given.said x.given.operand
+FoundBy ws allowed i (Err r) = (r ≡ refusals.Syntax) × (scan allowed None (drop i ws) ≡ None)
 
--- what a scan of the words from one on found, and whether it is refused as 15
-pub record Scanned (ws : List Word) (allowed : List ℕ) (from : ℕ) (r : ScannedOptions) : Type 0 where
-  pub refusal : r.refusal ≡ cond (or_else (scan allowed None (drop from ws)) true conflicting) 15 0
-  pub given : r.refusal ≡ 0 → (g : ℕ) → g < group_count
-      → given_of g (unwrap_or (scan allowed None (drop from ws)) []) ≡ given_at ws r g
+-- a scan of the words from one on that is not refused, and what it found
+pub record CleanScan (ws : List Word) (allowed : List ℕ) (from : ℕ) (r : ScannedOptions) : Type 0 where
+  pub clean : or_else (scan allowed None (drop from ws)) true conflicting ≡ false
+  pub given : (g : ℕ) → g < group_count → given_of g (unwrap_or (scan allowed None (drop from ws)) []) ≡ given_at ws r g
+
+-- what a scan answers
+abbrev pub Scanned : List Word → List ℕ → ℕ → Result ScannedOptions Refusal → Type 0
+Scanned ws allowed from (Ok r) = CleanScan ws allowed from r
+Scanned ws allowed from (Err n) = (n ≡ refusals.Syntax) × (or_else (scan allowed None (drop from ws)) true conflicting ≡ true)
 
 -- ---- what the options say
 
@@ -141,12 +140,12 @@ unfoldable pub terms_for : ℕ → Option Given → Option Given → Result Stam
 terms_for time x y = or_else (first_applying (term_checks time x y)) (Ok (record { versioning = version_by y; lifetime = lifetime_by time x })) Err
 
 -- what NX or XX says
-unfoldable pub condition_for : ℕ → Condition
-condition_for said = cond (ltb said not_given) (condition_by said) conditions.Always
+unfoldable pub condition_for : Option code.Given → Condition
+condition_for x = or_else x conditions.Always (λ o. condition_by o.said)
 
 -- the number of MIN or MAX, or an end where it is not given
-unfoldable pub bound_for : Signed → ℕ → Word → Option Signed
-bound_for unbounded said w = cond (ltb said not_given) (option_map signed_for (read_integer lowest64 highest64 w)) (Some unbounded)
+unfoldable pub bound_for : Signed → List Word → Option code.Given → Option Signed
+bound_for unbounded ws x = or_else x (Some unbounded) (λ o. option_map signed_for (read_integer lowest64 highest64 (word_at o.operand ws)))
 
 -- what is done with an integer that was read, and where none was
 unfoldable pub on_integer : Option Signed → Result Sum Refusal → (Signed → Result Sum Refusal) → Result Sum Refusal
@@ -169,7 +168,7 @@ highest_signed = record { negative = false; magnitude = 0x7fff_ffff_ffff_ffff }
 
 -- MIN or MAX of a scan
 unfoldable pub bound_given : Signed → ℕ → List Word → ScannedOptions → Option Signed
-bound_given unbounded g ws r = bound_for unbounded (get_or r.said g 0) (word_at (get_or r.operands g 0) ws)
+bound_given unbounded g ws r = bound_for unbounded ws (get_or r.given g None)
 
 -- what EXHINCRBY adds and its bounds: word 3, MIN and MAX
 unfoldable pub sum_of : List Word → ScannedOptions → Result Sum Refusal

@@ -1,14 +1,13 @@
 // What the options of a command say: each is given by what it says in its group and the number of its operand's word.
 ghost use Rattle.std.specs.Prelude.{◌≡◌, ◌≤◌, ◌<◌};
-ghost use Rattle.wire.specs.Words.{word_at};
 ghost use Rattle.wire.specs.Promises.{words_in, Inside};
 ghost use Rattle.store.specs.Layout.{time_limit};
 ghost use Rattle.commands.specs.Options.{expiry_group, version_group};
 ghost use Rattle.commands.specs.Parse.{is_zero, beyond};
 ghost use Rattle.commands.specs.TablePromises.{unit_meant, unit_of};
-ghost use Rattle.commands.specs.ParsePromises.{option_at, given_at, by_number, terms_for, instant_in, timed_for, versioned_for, condition_for, bound_for, sum_of};
+ghost use Rattle.commands.specs.ParsePromises.{option_given, given_at, by_number, terms_for, instant_in, timed_for, versioned_for, condition_for, bound_for, sum_of};
 
-use crate::options::{NOT_GIVEN, ScannedOptions};
+use crate::options::{Given, ScannedOptions};
 use crate::refusal::Refusal;
 use crate::table::{
     EXACT, EXPIRY_GROUP, IF_MISSING, KEPT, MATCHED, MAX_GROUP, MIN_GROUP, MS_FROM_NOW,
@@ -53,38 +52,38 @@ fn unit_said(said: usize) -> TimeUnit
 pub fn lifetime(
     command: &[u8],
     places: &[[usize; 2]],
-    said: usize,
-    operand: usize,
+    given: Option<Given>,
     time: u64,
 ) -> Result<Lifetime, Refusal>
     requires { (Inside command.now places.now) × (time < time_limit) }
-    ensures { let ws = words_in command.now places.now in result ≡ timed_for time (option_at ws expiry_group said operand) }
+    ensures { let ws = words_in command.now places.now in result ≡ timed_for time (option_given ws expiry_group given) }
 {
-    if NOT_GIVEN <= said {
+    let Some(option) = given else {
         return Ok(Lifetime::Clear);
-    }
-    if said == KEPT {
+    };
+    if option.said == KEPT {
         return Ok(Lifetime::Keep);
     }
-    let n = read_natural(word(command, places, operand), TIME_LIMIT).ok_or(Refusal::NotInteger)?;
-    Ok(Lifetime::Until(instant(unit_said(said), n, time)))
+    let read = read_natural(word(command, places, option.operand), TIME_LIMIT);
+    let n = read.ok_or(Refusal::NotInteger)?;
+    Ok(Lifetime::Until(instant(unit_said(option.said), n, time)))
 }
 
 // What VER, ABS or GT says.
 pub fn versioning(
     command: &[u8],
     places: &[[usize; 2]],
-    said: usize,
-    operand: usize,
+    given: Option<Given>,
 ) -> Result<Versioning, Refusal>
     requires { Inside command.now places.now }
-    ensures { let ws = words_in command.now places.now in result ≡ versioned_for (option_at ws version_group said operand) }
+    ensures { let ws = words_in command.now places.now in result ≡ versioned_for (option_given ws version_group given) }
 {
-    if NOT_GIVEN <= said {
+    let Some(option) = given else {
         return Ok(Versioning::Next);
-    }
-    let n = read_natural(word(command, places, operand), VERSION_MOST).ok_or(Refusal::NotInteger)?;
-    match said {
+    };
+    let read = read_natural(word(command, places, option.operand), VERSION_MOST);
+    let n = read.ok_or(Refusal::NotInteger)?;
+    match option.said {
         MATCHED => Ok(Versioning::Match(n)),
         EXACT => Ok(Versioning::Exactly(n)),
         _ => Ok(Versioning::Above(n)),
@@ -118,26 +117,15 @@ fn is_beyond(lifetime: Lifetime) -> bool
 pub fn read_terms(
     command: &[u8],
     places: &[[usize; 2]],
-    given: ScannedOptions,
+    options: ScannedOptions,
     time: u64,
 ) -> Result<Stamping, Refusal>
     requires { (Inside command.now places.now) × (time < time_limit) }
     ensures { let ws = words_in command.now places.now in
-        by_number result ≡ terms_for time (given_at ws given expiry_group) (given_at ws given version_group) }
+        by_number result ≡ terms_for time (given_at ws options expiry_group) (given_at ws options version_group) }
 {
-    let until = lifetime(
-        command,
-        places,
-        given.said[EXPIRY_GROUP],
-        given.operands[EXPIRY_GROUP],
-        time,
-    )?;
-    let version = versioning(
-        command,
-        places,
-        given.said[VERSION_GROUP],
-        given.operands[VERSION_GROUP],
-    )?;
+    let until = lifetime(command, places, options.given[EXPIRY_GROUP], time)?;
+    let version = versioning(command, places, options.given[VERSION_GROUP])?;
     if is_zero(version) {
         return Err(Refusal::InvalidVersion);
     }
@@ -151,13 +139,13 @@ pub fn read_terms(
 }
 
 // What NX or XX says.
-pub fn condition(said: usize) -> Condition
-    ensures { result ≡ condition_for said }
+pub fn condition(given: Option<Given>) -> Condition
+    ensures { result ≡ condition_for given }
 {
-    if NOT_GIVEN <= said {
+    let Some(option) = given else {
         return Condition::Always;
-    }
-    if said == IF_MISSING {
+    };
+    if option.said == IF_MISSING {
         return Condition::Missing;
     }
     Condition::Live
@@ -167,49 +155,36 @@ pub fn condition(said: usize) -> Condition
 pub fn bound(
     command: &[u8],
     places: &[[usize; 2]],
-    said: usize,
-    operand: usize,
+    given: Option<Given>,
     unbounded: Signed,
 ) -> Option<Signed>
     requires { Inside command.now places.now }
-    ensures { let ws = words_in command.now places.now in result ≡ bound_for unbounded said (word_at operand ws) }
+    ensures { let ws = words_in command.now places.now in result ≡ bound_for unbounded ws given }
 {
-    if NOT_GIVEN <= said {
-        return Some(unbounded);
+    match given {
+        Some(option) => read_integer(word(command, places, option.operand)),
+        None => Some(unbounded),
     }
-    read_integer(word(command, places, operand))
 }
 
 // What EXHINCRBY adds, and its bounds: word 3, MIN and MAX.
-pub fn sum(command: &[u8], places: &[[usize; 2]], given: ScannedOptions) -> Result<Sum, Refusal>
+pub fn sum(command: &[u8], places: &[[usize; 2]], options: ScannedOptions) -> Result<Sum, Refusal>
     requires { Inside command.now places.now }
-    ensures { result ≡ sum_of (words_in command.now places.now) given }
+    ensures { result ≡ sum_of (words_in command.now places.now) options }
 {
     let amount = read_integer(word(command, places, 3)).ok_or(Refusal::NotInteger)?;
     let lowest = Signed {
         negative: true,
         magnitude: LOWEST,
     };
-    let least = bound(
-        command,
-        places,
-        given.said[MIN_GROUP],
-        given.operands[MIN_GROUP],
-        lowest,
-    )
-    .ok_or(Refusal::NotInteger)?;
+    let low = bound(command, places, options.given[MIN_GROUP], lowest);
+    let least = low.ok_or(Refusal::NotInteger)?;
     let highest = Signed {
         negative: false,
         magnitude: LOWEST - 1,
     };
-    let greatest = bound(
-        command,
-        places,
-        given.said[MAX_GROUP],
-        given.operands[MAX_GROUP],
-        highest,
-    )
-    .ok_or(Refusal::NotInteger)?;
+    let high = bound(command, places, options.given[MAX_GROUP], highest);
+    let greatest = high.ok_or(Refusal::NotInteger)?;
     Ok(Sum {
         amount,
         least,

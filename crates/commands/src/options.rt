@@ -4,26 +4,28 @@ ghost use Rattle.wire.specs.Lists.{any};
 ghost use Rattle.wire.specs.Promises.{words_in, Inside};
 ghost use Rattle.commands.specs.ParsePromises.{FoundBy, Scanned};
 
+use crate::refusal::Refusal;
 use crate::table::{GROUP_COUNT, option_named};
 use wire::words::{next_word, word};
 
-// Where this stands as what the option of a group says, none was given; no row of the table says it.
-pub const NOT_GIVEN: usize = 256;
-
-// The options that were given, by group: what the option says, and the number of its last word, its operand if it takes one.
-// The refusal is 0 where there is none.
+// An option of a group as it was given: what it says there, and the number of its last word, its operand if it takes one.
 #[derive(Clone, Copy)]
-pub struct ScannedOptions {
-    pub refusal: u32,
-    pub said: [usize; GROUP_COUNT],
-    pub operands: [usize; GROUP_COUNT],
+pub struct Given {
+    pub said: usize,
+    pub operand: usize,
 }
 
-// The option at a word of a command: its group, what it says there, and the number of its last word; or the number of its refusal.
+// The options that were given, by group.
 #[derive(Clone, Copy)]
-enum OptionFound {
-    At(usize, usize, usize),
-    Refused(u32),
+pub struct ScannedOptions {
+    pub given: [Option<Given>; GROUP_COUNT],
+}
+
+// The option at a word of a command, and its group.
+#[derive(Clone, Copy)]
+struct GroupedOption {
+    group: usize,
+    given: Given,
 }
 
 // Whether a group is among those that a command takes.
@@ -41,55 +43,55 @@ fn takes(allowed: &[usize], group: usize) -> bool
 }
 
 // The option at a word, of one of the groups that the command takes. It is refused where it is unknown or its operand is missing.
-fn option_at(command: &[u8], places: &[[usize; 2]], i: usize, allowed: &[usize]) -> OptionFound
+fn option_at(
+    command: &[u8],
+    places: &[[usize; 2]],
+    i: usize,
+    allowed: &[usize],
+) -> Result<GroupedOption, Refusal>
     requires { (Inside command.now places.now) × (i < length places.now) }
     ensures { FoundBy (words_in command.now places.now) allowed.now i result }
 {
-    let found = option_named(word(command, places, i));
-    let Some(option) = found else {
-        return OptionFound::Refused(15);
-    };
-    if !takes(allowed, option.group) {
-        return OptionFound::Refused(15);
+    let option = option_named(word(command, places, i)).ok_or(Refusal::Syntax)?;
+    let group = option.group;
+    let said = option.said;
+    if !takes(allowed, group) {
+        return Err(Refusal::Syntax);
     }
     if !option.operand {
-        return OptionFound::At(option.group, option.said, i);
+        return Ok(GroupedOption {
+            group,
+            given: Given { said, operand: i },
+        });
     }
-    let next = next_word(places.len(), i + 1);
-    let Some(operand) = next else {
-        return OptionFound::Refused(15);
-    };
-    OptionFound::At(option.group, option.said, operand)
+    let operand = next_word(places.len(), i + 1).ok_or(Refusal::Syntax)?;
+    Ok(GroupedOption {
+        group,
+        given: Given { said, operand },
+    })
 }
 
 // The options among the words from a word on. They are refused where one is unknown, repeated or conflicting, or its operand is missing.
-pub fn scan(command: &[u8], places: &[[usize; 2]], from: usize, allowed: &[usize]) -> ScannedOptions
+pub fn scan(
+    command: &[u8],
+    places: &[[usize; 2]],
+    from: usize,
+    allowed: &[usize],
+) -> Result<ScannedOptions, Refusal>
     requires { Inside command.now places.now }
     ensures { Scanned (words_in command.now places.now) allowed.now from result }
 {
-    let mut given = ScannedOptions {
-        refusal: 0,
-        said: [NOT_GIVEN; GROUP_COUNT],
-        operands: [0; GROUP_COUNT],
+    let mut options = ScannedOptions {
+        given: [None; GROUP_COUNT],
     };
     let mut i = from;
     while i < places.len() {
-        let found = option_at(command, places, i, allowed);
-        match found {
-            OptionFound::Refused(n) => {
-                given.refusal = n;
-                return given;
-            },
-            OptionFound::At(g, said, last) => {
-                if given.said[g] < NOT_GIVEN {
-                    given.refusal = 15;
-                    return given;
-                }
-                given.said[g] = said;
-                given.operands[g] = last;
-                i = last + 1;
-            },
+        let found = option_at(command, places, i, allowed)?;
+        if options.given[found.group].is_some() {
+            return Err(Refusal::Syntax);
         }
+        options.given[found.group] = Some(found.given);
+        i = found.given.operand + 1;
     }
-    given
+    Ok(options)
 }

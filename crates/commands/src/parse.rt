@@ -7,7 +7,7 @@ ghost use Rattle.commands.specs.TablePromises.{unit_meant, form_meant};
 ghost use Rattle.commands.specs.ParsePromises.{Divided, parse_rest, meant};
 
 use crate::counts::{count_fits, too_long};
-use crate::options::{NOT_GIVEN, scan};
+use crate::options::scan;
 use crate::refusal::Refusal;
 use crate::table::{
     CONDITION_GROUP, CommandRow, EXPIRY_GROUP, Form, MAX_GROUP, MIN_GROUP, NO_EXP_GROUP, TimeUnit,
@@ -23,17 +23,14 @@ fn parse_set(command: &[u8], places: &[[usize; 2]], time: u64) -> Result<Parsed,
     requires { (Inside command.now places.now) × (time < time_limit) }
     ensures { let ws = words_in command.now places.now in meant ws result ≡ parse_rest time P.Form.set_form ws }
 {
-    let given = scan(
+    let options = scan(
         command,
         places,
         4,
         &[EXPIRY_GROUP, CONDITION_GROUP, VERSION_GROUP],
-    );
-    if given.refusal != 0 {
-        return Err(Refusal::Syntax);
-    }
-    let terms = operands::read_terms(command, places, given, time)?;
-    let condition = operands::condition(given.said[CONDITION_GROUP]);
+    )?;
+    let terms = operands::read_terms(command, places, options, time)?;
+    let condition = operands::condition(options.given[CONDITION_GROUP]);
     Ok(Parsed::OnField(FieldDeed::Assign(condition, terms)))
 }
 
@@ -42,17 +39,14 @@ fn parse_increment(command: &[u8], places: &[[usize; 2]], time: u64) -> Result<P
     requires { (Inside command.now places.now) × (time < time_limit) }
     ensures { let ws = words_in command.now places.now in meant ws result ≡ parse_rest time P.Form.increment_form ws }
 {
-    let given = scan(
+    let options = scan(
         command,
         places,
         4,
         &[EXPIRY_GROUP, VERSION_GROUP, MIN_GROUP, MAX_GROUP],
-    );
-    if given.refusal != 0 {
-        return Err(Refusal::Syntax);
-    }
-    let sum = operands::sum(command, places, given)?;
-    let terms = operands::read_terms(command, places, given, time)?;
+    )?;
+    let sum = operands::sum(command, places, options)?;
+    let terms = operands::read_terms(command, places, options, time)?;
     Ok(Parsed::OnField(FieldDeed::Increment(sum, terms)))
 }
 
@@ -67,17 +61,9 @@ fn parse_expire(
     ensures { let ws = words_in command.now places.now in
         meant ws result ≡ parse_rest time (P.Form.expire_form (unit_meant unit)) ws }
 {
-    let given = scan(command, places, 4, &[VERSION_GROUP]);
-    if given.refusal != 0 {
-        return Err(Refusal::Syntax);
-    }
+    let options = scan(command, places, 4, &[VERSION_GROUP])?;
     let n = read_natural(word(command, places, 3), TIME_LIMIT).ok_or(Refusal::NotInteger)?;
-    let versioning = operands::versioning(
-        command,
-        places,
-        given.said[VERSION_GROUP],
-        given.operands[VERSION_GROUP],
-    )?;
+    let versioning = operands::versioning(command, places, options.given[VERSION_GROUP])?;
     if operands::is_zero(versioning) {
         return Err(Refusal::InvalidVersion);
     }
@@ -104,11 +90,8 @@ fn parse_count(command: &[u8], places: &[[usize; 2]]) -> Result<Parsed, Refusal>
     ensures { let ws = words_in command.now places.now in
         ((time : ℕ) → meant ws result ≡ parse_rest time P.Form.count_form ws) }
 {
-    let given = scan(command, places, 2, &[NO_EXP_GROUP]);
-    if given.refusal != 0 {
-        return Err(Refusal::Syntax);
-    }
-    if given.said[NO_EXP_GROUP] < NOT_GIVEN {
+    let options = scan(command, places, 2, &[NO_EXP_GROUP])?;
+    if options.given[NO_EXP_GROUP].is_some() {
         return Ok(Parsed::OnKey(KeyDeed::CountLive));
     }
     Ok(Parsed::OnKey(KeyDeed::CountHeld))

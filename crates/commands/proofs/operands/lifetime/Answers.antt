@@ -4,21 +4,21 @@ use Rattle.commands.proofs.Handing.{handed_none}
 use Rattle.commands.proofs.OperandWords.{natural_value, natural_refused, lifetime_none, lifetime_keep, lifetime_refused, lifetime_until}
 use Rattle.commands.proofs.operands.lifetime.Goals as goal
 
-pub returns-then-said-ge-NOT_GIVEN : goal.returns-then-said-ge-NOT_GIVEN
-returns-then-said-ge-NOT_GIVEN c = lifetime_none _ c.args.said c.args.operand c.args.time c.if-said-ge-NOT_GIVEN.true
+pub returns-in_default : goal.returns-in_default
+returns-in_default c = lifetime_none _ c.args.time c.in_default.is
 
-pub returns-then-said-eq-KEPT : goal.returns-then-said-eq-KEPT
-returns-then-said-eq-KEPT c = lifetime_keep _ c.args.said c.args.operand c.args.time c.if-said-eq-KEPT.true
+pub returns-then-option-eq-KEPT : goal.returns-then-option-eq-KEPT
+returns-then-option-eq-KEPT c = lifetime_keep _ c.args.time c.in-Some.is c.if-option-eq-KEPT.true
 
 pub returns-in_err-n : goal.returns-in_err-n
 returns-in_err-n c =
     let no = c.in_err-n.ensures in
     handed_none c.from_residual.result c.from_residual.ensures.1 _ no.value
-    ∙ lifetime_refused _ c.args.said c.args.operand c.args.time c.if-said-ge-NOT_GIVEN.false c.if-said-eq-KEPT.false (natural_refused time_limit c.word.ensures c.read_natural.ensures no.ok_part)
+    ∙ lifetime_refused _ c.args.time c.in-Some.is c.if-option-eq-KEPT.false (natural_refused time_limit c.word.ensures c.read_natural-read.ensures no.ok_part)
 
 pub instant-requires : goal.instant-requires
-instant-requires c = ((natural_value time_limit c.word.ensures c.read_natural.ensures c.in_ok-n.n c.in_ok-n.ensures.ok_part).1, c.requires.1)
+instant-requires c = ((natural_value time_limit c.word.ensures c.read_natural-read.ensures c.in_ok-n.n c.in_ok-n.ensures.ok_part).1, c.requires.1)
 
 pub returns : goal.returns
 returns c =
-    lifetime_until _ c.args.said c.args.operand c.args.time c.if-said-ge-NOT_GIVEN.false c.if-said-eq-KEPT.false c.in_ok-n.n (natural_value time_limit c.word.ensures c.read_natural.ensures c.in_ok-n.n c.in_ok-n.ensures.ok_part).0 _ c.unit_said.ensures c.instant.ensures
+    lifetime_until _ c.args.time c.in-Some.is c.if-option-eq-KEPT.false c.in_ok-n.n (natural_value time_limit c.word.ensures c.read_natural-read.ensures c.in_ok-n.n c.in_ok-n.ensures.ok_part).0 _ c.unit_said.ensures c.instant.ensures

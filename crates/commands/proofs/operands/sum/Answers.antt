@@ -15,16 +15,16 @@ unfolding sum_of bound_given
 returns-in_err-least c =
     let no = c.in_err-least.ensures in
     handed_none c.from_residual-in_err-least.result c.from_residual-in_err-least.ensures.1 _ no.value
-    ∙ sum_1 _ _ _ c.in_ok-amount.amount (sym (rw c.word.ensures at c.read_integer.ensures) ∙ c.in_ok-amount.ensures.ok_part) (sym c.bound.ensures ∙ no.ok_part)
+    ∙ sum_1 _ _ _ c.in_ok-amount.amount (sym (rw c.word.ensures at c.read_integer.ensures) ∙ c.in_ok-amount.ensures.ok_part) (sym c.bound-low.ensures ∙ no.ok_part)
 
 pub returns-in_err-greatest : goal.returns-in_err-greatest
 unfolding sum_of bound_given
 returns-in_err-greatest c =
     let no = c.in_err-greatest.ensures in
     handed_none c.from_residual-in_err-greatest.result c.from_residual-in_err-greatest.ensures.1 _ no.value
-    ∙ sum_2 _ _ _ c.in_ok-amount.amount c.in_ok-least.least (sym (rw c.word.ensures at c.read_integer.ensures) ∙ c.in_ok-amount.ensures.ok_part) (sym c.bound.ensures ∙ c.in_ok-least.ensures.ok_part) (sym c.bound-2.ensures ∙ no.ok_part)
+    ∙ sum_2 _ _ _ c.in_ok-amount.amount c.in_ok-least.least (sym (rw c.word.ensures at c.read_integer.ensures) ∙ c.in_ok-amount.ensures.ok_part) (sym c.bound-low.ensures ∙ c.in_ok-least.ensures.ok_part) (sym c.bound-high.ensures ∙ no.ok_part)
 
 pub returns : goal.returns
 unfolding sum_of bound_given
 returns c =
-    sum_3 _ _ _ c.in_ok-amount.amount c.in_ok-least.least c.in_ok-greatest.greatest (sym (rw c.word.ensures at c.read_integer.ensures) ∙ c.in_ok-amount.ensures.ok_part) (sym c.bound.ensures ∙ c.in_ok-least.ensures.ok_part) (sym c.bound-2.ensures ∙ c.in_ok-greatest.ensures.ok_part)
+    sum_3 _ _ _ c.in_ok-amount.amount c.in_ok-least.least c.in_ok-greatest.greatest (sym (rw c.word.ensures at c.read_integer.ensures) ∙ c.in_ok-amount.ensures.ok_part) (sym c.bound-low.ensures ∙ c.in_ok-least.ensures.ok_part) (sym c.bound-high.ensures ∙ c.in_ok-greatest.ensures.ok_part)

@@ -6,7 +6,7 @@ use Rattle.commands.proofs.options.scan.Given as goal
 
 -- What is left does the same; the measure is how many words are left.
 abbrev pub invariant-loop-i : goal.invariant-loop-i
-invariant-loop-i l = Scanning (words_in l.command l.places) l.allowed l.from l.i l.given
+invariant-loop-i l = Scanning (words_in l.command l.places) l.allowed l.from l.i l.options
 
 abbrev pub decreases-loop-i : goal.decreases-loop-i
 decreases-loop-i l = length l.places - l.i

@@ -1,12 +1,15 @@
+use mathlib.Core.Path.{sym, ◌∙◌}
+use Rattle.commands.proofs.Handing.{handed}
 use Rattle.commands.proofs.Parsing.{not_clean, ready}
 use Rattle.commands.proofs.ParseFamilies.{count_takes, count_live_lem, count_held_lem}
 use Rattle.commands.proofs.parse.parse_count.Goals as goal
 
-pub returns-then-given-ne0 : goal.returns-then-given-ne0
-returns-then-given-ne0 c = λ time. not_clean count_takes c.scan-given.ensures time c.if-given-ne0.true
+pub returns-in_err-options : goal.returns-in_err-options
+returns-in_err-options c =
+    λ time. rw (handed c.from_residual.result c.from_residual.ensures.1) (not_clean count_takes _ c.in_err-options.ensures time)
 
-pub returns-then-given-lt-NOT_GIVEN : goal.returns-then-given-lt-NOT_GIVEN
-returns-then-given-lt-NOT_GIVEN c = λ time. count_live_lem time (ready count_takes c.scan-given.ensures c.if-given-ne0.false) c.if-given-lt-NOT_GIVEN.true
+pub returns-then-is_some : goal.returns-then-is_some
+returns-then-is_some c = λ time. count_live_lem time (ready count_takes _ c.in_ok-options.ensures) (sym c.is_some.ensures ∙ c.if-is_some.true)
 
 pub returns : goal.returns
-returns c = λ time. count_held_lem time (ready count_takes c.scan-given.ensures c.if-given-ne0.false) c.if-given-lt-NOT_GIVEN.false
+returns c = λ time. count_held_lem time (ready count_takes _ c.in_ok-options.ensures) (sym c.is_some.ensures ∙ c.if-is_some.false)
