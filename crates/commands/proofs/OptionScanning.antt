@@ -1,4 +1,5 @@
 -- The scan of the options, one option after the other.
+use Rattle.std.specs.List.{list_any}
 use Rattle.std.specs.Prelude.{Option, None, Some, option_map, is_some, Ok, Err}
 use mathlib.Core.Path.{◌≡◌, refl, sym, ap, ◌∙◌}
 use mathlib.Core.Bool.{Bool, true, false, cond, not, ◌||◌}
@@ -6,7 +7,7 @@ use mathlib.Core.List.{List, [], ◌∷◌, ◌++◌, append_assoc, append-nil}
 use Prim.Native.Nat.{ℕ, suc, ◌+◌, ◌≤◌, ◌<◌}
 use native.Mathlib.Numerals.{add-one}
 use native.Mathlib.Omega.{arith}
-use borrow.Author.Tests.{not-true, not-false, eq-eqb, ne_eqb, eqb-true, eqb-false}
+use borrow.Author.Tests.{not-true, not-false, eq-eqb, eqb-true, eqb-false}
 use lib.Dec.{eqb}
 use lib.ListN.{length, get_or, drop, set, replicate, length-set, get_or-replicate, drop_of_length-le}
 use lib.Seq.{drop-cons, get_or-set_same, get_or-set_other}
@@ -14,6 +15,7 @@ use Rattle.wire.specs.Lists.{any, only_if, or_else}
 use Rattle.wire.specs.Words.{Word, word_at}
 use Rattle.wire.specs.Promises.{row_named, next_of}
 use Rattle.wire.proofs.Lists.{or_left, or_right, or_neither, or_late, impossible}
+use Rattle.wire.proofs.ByteLaws.{eqb_sym}
 use Rattle.wire.proofs.WordPlaces.{next_end, next_at}
 use Rattle.commands.specs.declared.refusal.Refusal.{Refusal}
 use Rattle.commands.specs.declared.refusal.Refusal.TheVariants.{Syntax}
@@ -27,19 +29,10 @@ use Rattle.commands.proofs.TableRows.{meant, option_row, option_number, row_kind
 
 -- ---- the groups that are allowed
 
--- the groups from i on do the same as all
-module _ (g : ℕ) (gs : List ℕ) (i : ℕ) (h : any (eqb g) gs ≡ any (eqb g) (drop i gs)) where
-  pub takes_found : i < length gs → get_or gs i 0 ≡ g → true ≡ any (eqb g) gs
-  unfolding any
-  takes_found l e = sym (h ∙ rw (drop-cons gs i 0 l, eq-eqb g (get_or gs i 0) (sym e)))
-
-  pub takes_on : i < length gs → (get_or gs i 0 ≡ g → ⊥) → any (eqb g) gs ≡ any (eqb g) (drop (i + 1) gs)
-  unfolding any
-  takes_on l ne = h ∙ rw (drop-cons gs i 0 l, add-one i, ne_eqb g (get_or gs i 0) (λ e. ne (sym e)))
-
-  pub takes_ends : length gs ≤ i → false ≡ any (eqb g) gs
-  unfolding any
-  takes_ends l = sym (h ∙ rw (drop_of_length-le gs {i = i} l))
+pub takes_any : (g : ℕ) (gs : List ℕ) → list_any (λ h. eqb h g) gs ≡ any (eqb g) gs
+unfolding any
+takes_any g [] = refl
+takes_any g (h ∷ gs) = rw (eqb_sym h g, takes_any g gs)
 
 -- ---- options that were given
 

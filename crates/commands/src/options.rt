@@ -28,20 +28,6 @@ struct GroupedOption {
     given: Given,
 }
 
-// Whether a group is among those that a command takes.
-fn takes(allowed: &[usize], group: usize) -> bool
-    ensures { result ≡ any (eqb group) allowed.now }
-{
-    let mut i = 0;
-    while i < allowed.len() {
-        if allowed[i] == group {
-            return true;
-        }
-        i += 1;
-    }
-    false
-}
-
 // The option at a word, of one of the groups that the command takes. It is refused where it is unknown or its operand is missing.
 fn option_at(
     command: &[u8],
@@ -55,7 +41,7 @@ fn option_at(
     let option = option_named(word(command, places, i)).ok_or(Refusal::Syntax)?;
     let group = option.group;
     let said = option.said;
-    if !takes(allowed, group) {
+    if !allowed.contains(&group) {
         return Err(Refusal::Syntax);
     }
     if !option.operand {
