@@ -2,8 +2,7 @@
 use Rattle.std.specs.Prelude.{Option, None, Some, option_map, Ok, Err}
 use mathlib.Core.Path.{◌≡◌, refl, sym, ◌∙◌}
 use mathlib.Core.List.{List}
-use Prim.Native.Nat.{ℕ, ◌+◌, ◌*◌, ◌≤◌}
-use native.Mathlib.Omega.{arith}
+use Prim.Native.Nat.{ℕ, ◌≤◌}
 use borrow.Author.Tests.{eq-eqb, ne_eqb}
 use lib.IntN.{ℤ, pos, nat_abs}
 use Rattle.wire.specs.declared.integers.Signed.{Signed}
@@ -16,13 +15,14 @@ use Rattle.wire.proofs.IntegerLaws.{natural_read, read_natural_most}
 use Rattle.wire.proofs.IntegerSigns.{read_value, read_refused}
 use Rattle.store.specs.Layout.{time_limit, version_most}
 use Rattle.commands.specs.declared.refusal.Refusal.TheVariants.{NotInteger}
+use Rattle.commands.specs.declared.table.TimeUnit.{TimeUnit}
 use Rattle.commands.specs.declared.options.Given as code
 use Rattle.commands.specs.declared.Condition.TheVariants as conditions
 use Rattle.commands.specs.declared.Lifetime.TheVariants as lifetimes
 use Rattle.commands.specs.declared.Versioning.TheVariants as versionings
 use Rattle.commands.specs.Options.{◌with◌, operand_range, read_in, readable, number_in, natural_in, instant, readable_operand, lifetime_of, versioning_of, expiry_group, version_group}
 use Rattle.commands.specs.Options.OptionKind.{expires, versioned}
-use Rattle.commands.specs.TablePromises.{seconds_from_now, seconds_since, ms_from_now, unit_of, kept, if_missing, matched, exact, expiry_kind, condition_by, versioning_by, kind_in}
+use Rattle.commands.specs.TablePromises.{unit_meant, unit_of, kept, if_missing, matched, exact, expiry_kind, condition_by, versioning_by, kind_in}
 use Rattle.commands.specs.ParsePromises.{numbered, option_given, instant_in, lifetime_by, version_by, read_of, timed_for, versioned_for, condition_for, bound_for}
 
 -- ---- numbers
@@ -46,26 +46,8 @@ module _ (hi : ℕ) {v w : Word} {r : Option ℕ} (ev : v ≡ w) (er : r ≡ (re
 
 -- ---- the expiry
 
--- the instant of each unit
-module _ (n time : ℕ) {unit : ℕ} where
-  pub instant_seconds : unit ≡ seconds_from_now → time + 1000 * n ≡ instant_in unit n time
-  unfolding instant_in unit_of
-  instant_seconds e = rw e
-
-  pub instant_since : unit ≡ seconds_since → 1000 * n ≡ instant_in unit n time
-  unfolding instant_in unit_of
-  instant_since e = rw e
-
-  pub instant_ms : unit ≡ ms_from_now → time + n ≡ instant_in unit n time
-  unfolding instant_in unit_of
-  instant_ms e = rw e (omega arith)
-
-  pub instant_itself : (unit ≡ seconds_from_now → ⊥) → (unit ≡ seconds_since → ⊥) → (unit ≡ ms_from_now → ⊥) → n ≡ instant_in unit n time
-  unfolding instant_in unit_of
-  instant_itself a b c = rw (ne_eqb unit seconds_from_now a, ne_eqb unit seconds_since b, ne_eqb unit ms_from_now c) (omega arith)
-
 -- the instant of a number that was read
-pub instant_read : (time unit : ℕ) (w : Word) (n : ℕ) → read_integer (pos 0) (pos time_limit) w ≡ Some (pos n) → instant time (unit_of unit) w ≡ instant_in unit n time
+pub instant_read : (time : ℕ) (unit : TimeUnit) (w : Word) (n : ℕ) → read_integer (pos 0) (pos time_limit) w ≡ Some (pos n) → instant time (unit_meant unit) w ≡ instant_in unit n time
 unfolding instant instant_in natural_in number_in read_in
 instant_read time unit w n e = rw e
 
@@ -88,10 +70,10 @@ module _ (ws : List Word) (time : ℕ) {x : Option code.Given} where
       unfolding timed_for read_of or_else readable_operand operand_range readable read_in
       lifetime_refused q = rw (given_expiry, q)
 
-      pub lifetime_until : (n : ℕ) {t : ℕ} → read_integer (pos 0) (pos time_limit) (word_at o.operand ws) ≡ Some (pos n) → t ≡ instant_in o.said n time
+      pub lifetime_until : (n : ℕ) {t : ℕ} → read_integer (pos 0) (pos time_limit) (word_at o.operand ws) ≡ Some (pos n) → (unit : TimeUnit) → unit_meant unit ≡ unit_of o.said → t ≡ instant_in unit n time
           → Ok (lifetimes.Until t) ≡ timed_for time (option_given ws expiry_group x)
       unfolding timed_for read_of lifetime_by or_else readable_operand operand_range readable read_in lifetime_of
-      lifetime_until n q t = rw (given_expiry, t, ← instant_read time o.said (word_at o.operand ws) n q, q)
+      lifetime_until n q unit u t = rw (given_expiry, t, ← instant_read time unit (word_at o.operand ws) n q, u, q)
 
 -- ---- the version
 

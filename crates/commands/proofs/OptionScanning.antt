@@ -6,33 +6,32 @@ use mathlib.Core.Bool.{Bool, true, false, cond, not, ◌||◌}
 use mathlib.Core.List.{List, [], ◌∷◌, ◌++◌, append_assoc, append-nil}
 use Prim.Native.Nat.{ℕ, suc, ◌+◌, ◌≤◌, ◌<◌}
 use native.Mathlib.Omega.{arith}
-use borrow.Author.Tests.{not-true, not-false, eq-eqb, ne_eqb, eqb-true, eqb-false, lt-ltb, le-ltb}
+use borrow.Author.Tests.{not-true, not-false, eq-eqb, eqb-true, eqb-false}
 use lib.Dec.{eqb}
 use lib.ListN.{length, get_or, drop, set, replicate, length-set, get_or-replicate, drop_of_length-le}
 use lib.Seq.{drop-cons, get_or-set_same, get_or-set_other}
 use Rattle.wire.specs.Lists.{any, only_if, or_else}
 use Rattle.wire.specs.Words.{Word, word_at}
 use Rattle.wire.specs.Promises.{row_named, next_of}
-use Rattle.wire.proofs.ByteLaws.{eqb_sym}
 use Rattle.wire.proofs.Lists.{or_left, or_right, or_neither, or_late, impossible}
-use Rattle.wire.proofs.NameRows.{row_nothing, row_at}
+use Rattle.wire.proofs.ByteLaws.{eqb_sym}
 use Rattle.wire.proofs.WordPlaces.{next_end, next_at}
 use Rattle.commands.specs.declared.refusal.Refusal.{Refusal}
 use Rattle.commands.specs.declared.refusal.Refusal.TheVariants.{Syntax}
 use Rattle.commands.specs.declared.options.Given as given
 use Rattle.commands.specs.declared.options.ScannedOptions as code
 use Rattle.commands.specs.Options.{OptionKind, Range, Given, ◌with◌, options, group, group_count, operand_range, option_named, scan, conflicting, given_of}
-use Rattle.commands.specs.TablePromises.{kind_in, size_of, option_data, group_at, said_at, size_at, option_table, option_of}
+use Rattle.commands.specs.declared.table.OptionRow.{OptionRow}
+use Rattle.commands.specs.TablePromises.{kind_in, said_of, option_said, option_table, option_of}
 use Rattle.commands.specs.ParsePromises.{numbered, option_given, given_at, FoundOption, Scanned}
-use Rattle.commands.proofs.TableRows.{option_row, option_number, row_kind, row_below}
+use Rattle.commands.proofs.TableRows.{meant, option_row, option_number, row_kind, row_below}
 
 -- ---- the groups that are allowed
 
--- the library's test for a member
-pub takes_listed : (g : ℕ) (gs : List ℕ) → list_any (λ h. eqb h g) gs ≡ any (eqb g) gs
+pub takes_any : (g : ℕ) (gs : List ℕ) → list_any (λ h. eqb h g) gs ≡ any (eqb g) gs
 unfolding any
-takes_listed g [] = refl
-takes_listed g (h ∷ gs) = rw (eqb_sym h g, takes_listed g gs)
+takes_any g [] = refl
+takes_any g (h ∷ gs) = rw (eqb_sym h g, takes_any g gs)
 
 -- ---- options that were given
 
@@ -141,123 +140,120 @@ module _ (al : List ℕ) (ws : List Word) (i : ℕ) (l : i < length ws) where
   none_here e = rw here (scan_unknown al (word_at i ws) (drop (suc i) ws) e)
 
   module _ (m : OptionKind) (e : option_named options al (word_at i ws) ≡ Some m) where
-    -- its last word is there: its operand, if it takes one
-    scan_step : (last : ℕ) → last + 1 ≡ i + size_of m → last < length ws
-        → scan al None (drop i ws) ≡ option_map (λ gs. m with cond (is_some (operand_range m)) (word_at last ws) [] ∷ gs) (scan al None (drop (last + 1) ws))
-    unfolding size_of scan word_at
-    scan_step last = go (is_some (operand_range m)) refl
-      where
-        go : (t : Bool) → is_some (operand_range m) ≡ t → last + 1 ≡ i + cond t 2 1 → last < length ws
-            → scan al None (drop i ws) ≡ option_map (λ gs. m with cond t (word_at last ws) [] ∷ gs) (scan al None (drop (last + 1) ws))
-        go true h ends room =
-            let n : last + 1 ≡ suc (suc i) = omega arith in
-            let m : last ≡ suc i = omega arith in
-            let next : drop (suc i) ws ≡ word_at (suc i) ws ∷ drop (suc (suc i)) ws = drop-cons ws (suc i) [] (omega arith) in
-            rw (n, m, here, scan_operand al (word_at i ws) (drop (suc i) ws) _ e h, next)
-        go false h ends room =
-            let n : last + 1 ≡ suc i = omega arith in
-            rw (n, here) (scan_bare al (word_at i ws) (drop (suc i) ws) m e h)
+    -- it takes no operand
+    scan_alone : is_some (operand_range m) ≡ false
+        → scan al None (drop i ws) ≡ option_map (λ gs. m with cond (is_some (operand_range m)) (word_at i ws) [] ∷ gs) (scan al None (drop (i + 1) ws))
+    scan_alone h = rw (here, h, add-one i) (scan_bare al (word_at i ws) (drop (suc i) ws) m e h)
+
+    -- its operand is the next word
+    scan_both : is_some (operand_range m) ≡ true → suc i < length ws
+        → scan al None (drop i ws) ≡ option_map (λ gs. m with cond (is_some (operand_range m)) (word_at (suc i) ws) [] ∷ gs) (scan al None (drop (suc i + 1) ws))
+    unfolding scan word_at
+    scan_both h room =
+        let next : drop (suc i) ws ≡ word_at (suc i) ws ∷ drop (suc (suc i)) ws = drop-cons ws (suc i) [] room in
+        rw (here, scan_operand al (word_at i ws) (drop (suc i) ws) m e h, next, h, add-one (suc i))
 
     -- its operand is missing
-    scan_short : length ws < i + size_of m → scan al None (drop i ws) ≡ None
-    unfolding size_of scan
-    scan_short = go (is_some (operand_range m)) refl
-      where
-        go : (t : Bool) → is_some (operand_range m) ≡ t → length ws < i + cond t 2 1 → scan al None (drop i ws) ≡ None
-        go true h short =
-            let past : drop (suc i) ws ≡ [] = drop_of_length-le ws {i = suc i} (omega arith) in
-            rw (here, scan_operand al (word_at i ws) (drop (suc i) ws) m e h, past)
-        go false h short = absurd (omega arith)
-
--- an option is one word or two
-size_range : (m : OptionKind) → (1 ≤ size_of m) × (size_of m ≤ 2)
-unfolding size_of
-size_range m = go (is_some (operand_range m))
-  where
-    go : (t : Bool) → (1 ≤ cond t 2 1) × (cond t 2 1 ≤ 2)
-    go true = (omega arith, omega arith)
-    go false = (omega arith, omega arith)
+    scan_short : is_some (operand_range m) ≡ true → length ws ≤ suc i → scan al None (drop i ws) ≡ None
+    unfolding scan
+    scan_short h short =
+        let past : drop (suc i) ws ≡ [] = drop_of_length-le ws {i = suc i} short in
+        rw (here, scan_operand al (word_at i ws) (drop (suc i) ws) m e h, past)
 
 -- ---- the code at word i: w is the word, and the code looked for its row
 
 abbrev kind_of : ℕ → OptionKind
 kind_of k = (option_of k).kind
 
+-- a word names option k, whose row the code found
+record Naming (w : Word) (o : OptionRow) : Type 0 where
+  k : ℕ
+  number : row_named option_table w ≡ Some k
+  said : option_said (option_of k) ≡ o
+
 module _ (ws : List Word) (allowed : List ℕ) (i : ℕ) {count : ℕ} (size : length ws ≡ count) (l : i < count)
-    {w : Word} (ew : w ≡ word_at i ws) {row : Option ℕ} (er : row ≡ (row_named option_table w)) where
+    {w : Word} (ew : w ≡ word_at i ws) {row : Option OptionRow} (er : row ≡ option_map (λ k. option_said (option_of k)) (row_named option_table w)) where
   inside : i < length ws
   inside = omega arith
+
+  found_so : {r : Option OptionRow} → row ≡ r → option_map (λ k. option_said (option_of k)) (row_named option_table (word_at i ws)) ≡ r
+  found_so h = rw ew at (sym er ∙ h)
 
   -- it names no option
   pub option_unknown : row ≡ None → scan allowed None (drop i ws) ≡ None
   unfolding or_else
-  option_unknown h =
-      let nothing : row_named option_table (word_at i ws) ≡ None = row_nothing (row_named option_table (word_at i ws)) (rw ew at (sym er ∙ h)) in
-      none_here allowed ws i inside (option_row (word_at i ws) allowed ∙ rw nothing)
+  option_unknown h = none_here allowed ws i inside (option_row (word_at i ws) allowed ∙ go (row_named option_table (word_at i ws)) (found_so h))
+    where
+      go : (r : Option ℕ) → option_map (λ k. option_said (option_of k)) r ≡ None → or_else r None (λ k. meant (word_at i ws) allowed (option_of k)) ≡ None
+      go None q = refl
+      go (Some k) q = impossible cc
 
-  -- it names option k
-  module _ (k : ℕ) (h : row ≡ Some k) where
-    number_so : row_named option_table (word_at i ws) ≡ Some k
-    number_so = row_at (row_named option_table (word_at i ws)) k (rw ew at (sym er ∙ h))
+  -- it names an option
+  module _ (o : OptionRow) (h : row ≡ Some o) where
+    naming : Naming (word_at i ws) o
+    naming = go (row_named option_table (word_at i ws)) refl (found_so h)
+      where
+        go : (r : Option ℕ) → row_named option_table (word_at i ws) ≡ r → option_map (λ k. option_said (option_of k)) r ≡ Some o → Naming (word_at i ws) o
+        go None e q = impossible cc
+        go (Some k) e q = record { k = k; number = e; said = cc }
 
-    named_so : option_named options allowed (word_at i ws) ≡ only_if (any (eqb (group (kind_of k))) allowed) (kind_of k)
+    abbrev kind : OptionKind
+    kind = kind_of naming.k
+
+    parts : (o.group ≡ group kind) × (o.said ≡ said_of kind) × (o.operand ≡ is_some (operand_range kind))
+    unfolding option_said
+    parts = (ap (λ r. r.group) (sym naming.said), ap (λ r. r.said) (sym naming.said), ap (λ r. r.operand) (sym naming.said))
+
+    below : o.group < group_count
+    below = omega (arith, parts.0, row_below naming.k (option_number (word_at i ws) refl naming.k naming.number))
+
+    named_so : option_named options allowed (word_at i ws) ≡ only_if (any (eqb o.group) allowed) kind
     unfolding or_else
-    named_so = option_row (word_at i ws) allowed ∙ rw number_so
+    named_so = option_row (word_at i ws) allowed ∙ (rw naming.number) ∙ ap (λ g. only_if (any (eqb g) allowed) kind) (sym parts.0)
 
-    -- of group g
-    module _ {g : ℕ} (eg : g ≡ get_or (option_data (option_of k)) group_at 0) where
-      pub option_group : g < group_count
-      unfolding option_data
-      option_group = omega (arith, row_below k (option_number _ er k h))
+    module _ {t : Bool} (et : t ≡ any (eqb o.group) allowed) where
+      -- of a group that is not allowed
+      pub option_barred : not t ≡ true → scan allowed None (drop i ws) ≡ None
+      unfolding only_if
+      option_barred z = none_here allowed ws i inside (named_so ∙ rw (← et, not-true t z))
 
-      -- which is not allowed
-      module _ {t : Bool} (et : t ≡ any (eqb g) allowed) where
-        taken_so : any (eqb (group (kind_of k))) allowed ≡ t
-        unfolding option_data
-        taken_so = rw (← eg) (sym et)
-
-        pub option_barred : not t ≡ true → scan allowed None (drop i ws) ≡ None
+      -- of one that is
+      module _ (a : not t ≡ false) where
+        known_so : option_named options allowed (word_at i ws) ≡ Some kind
         unfolding only_if
-        option_barred z = none_here allowed ws i inside (named_so ∙ rw (taken_so, not-true t z))
+        known_so = named_so ∙ rw (← et, not-false t a)
 
-        -- which is allowed
-        module _ (a : not t ≡ false) {n : ℕ} (en : n ≡ get_or (option_data (option_of k)) size_at 0) where
-          known_so : option_named options allowed (word_at i ws) ≡ Some (kind_of k)
-          unfolding only_if
-          known_so = named_so ∙ rw (taken_so, not-false t a)
+        -- its last word is there
+        ends_at : (last : ℕ) → i ≤ last → last < count
+            → scan allowed None (drop i ws) ≡ option_map (λ gs. kind with cond (is_some (operand_range kind)) (word_at last ws) [] ∷ gs) (scan allowed None (drop (last + 1) ws))
+            → FoundOption ws allowed i o.group o.said last
+        unfolding numbered
+        ends_at last b n e =
+            let same : kind_in o.group o.said ≡ kind = cc (parts.0, parts.1, row_kind naming.k) in
+            record {
+              left = rw same e;
+              member = rw same (sym parts.0);
+              grouped = below;
+              after = b;
+              inside = omega arith;
+            }
 
-          size_so : (n ≡ size_of (kind_of k)) × (1 ≤ n) × (n ≤ 2)
-          unfolding option_data
-          size_so = (en, omega (arith, size_range (kind_of k)), omega (arith, size_range (kind_of k)))
+        -- it takes no operand
+        pub option_bare : not o.operand ≡ true → FoundOption ws allowed i o.group o.said i
+        option_bare z = ends_at i (omega arith) l (scan_alone allowed ws i inside kind known_so (sym parts.2 ∙ not-true o.operand z))
 
-          -- its last word is there
-          ends_at : (last : ℕ) → last + 1 ≡ i + n → last < count → {said : ℕ} → said ≡ get_or (option_data (option_of k)) said_at 0 → FoundOption ws allowed i g said last
-          unfolding option_data numbered
-          ends_at last e b {said} es =
-              let same : kind_in g said ≡ kind_of k = rw (eg, es) (row_kind k) in
-              record {
-                left = rw same (scan_step allowed ws i inside (kind_of k) known_so last (omega (arith, size_so)) (omega arith));
-                member = rw same (sym eg);
-                grouped = option_group;
-                after = omega (arith, size_so);
-                inside = omega arith;
-              }
+        -- it takes one; the code looked for the word after it
+        module _ (z : not o.operand ≡ false) {next : Option ℕ} (ee : next ≡ next_of count (i + 1)) where
+          -- which is not there
+          pub option_short : next ≡ None → scan allowed None (drop i ws) ≡ None
+          option_short q = scan_short allowed ws i inside kind known_so (sym parts.2 ∙ not-false o.operand z) (omega (arith, next_end count (i + 1) ee q))
 
-          -- it takes no operand
-          pub option_bare : n < 2 → {said : ℕ} → said ≡ get_or (option_data (option_of k)) said_at 0 → FoundOption ws allowed i g said i
-          option_bare one es = ends_at i (omega (arith, size_so)) l es
-
-          -- it takes one; the code looked for the word after it
-          module _ (two : 2 ≤ n) {next : Option ℕ} (ee : next ≡ next_of count (i + 1)) where
-            -- which is not there
-            pub option_short : next ≡ None → scan allowed None (drop i ws) ≡ None
-            option_short q = scan_short allowed ws i inside (kind_of k) known_so (omega (arith, size_so, next_end count (i + 1) ee q))
-
-            -- which is there
-            pub option_found : (last : ℕ) → next ≡ Some last → {said : ℕ} → said ≡ get_or (option_data (option_of k)) said_at 0 → FoundOption ws allowed i g said last
-            option_found last q es =
-                let at : (last ≡ i + 1) × (i + 1 < count) = next_at count (i + 1) last ee q in
-                ends_at last (omega (arith, size_so)) (omega arith) es
+          -- which is there
+          pub option_found : (last : ℕ) → next ≡ Some last → FoundOption ws allowed i o.group o.said last
+          option_found last q =
+              let at : (last ≡ i + 1) × (i + 1 < count) = next_at count (i + 1) last ee q in
+              let n : suc i ≡ last = omega arith in
+              ends_at last (omega arith) (omega arith) (rw n at (scan_both allowed ws i inside kind known_so (sym parts.2 ∙ not-false o.operand z) (omega arith)))
 
 -- ---- the loop
 

@@ -7,7 +7,7 @@ use Prim.Native.Nat.{ℕ, ◌≤◌, ◌<◌}
 use native.Mathlib.Omega.{arith}
 use borrow.Author.Tests.{lt-ltb, le-ltb}
 use lib.IntN.{ℤ, pos}
-use lib.ListN.{get_or, drop, get_or-eq_default}
+use lib.ListN.{get_or, drop}
 use Rattle.wire.specs.declared.integers.Signed.{Signed}
 use Rattle.wire.specs.Lists.{all, or_else}
 use Rattle.wire.specs.Integers.{read_integer, lowest64, highest64}
@@ -22,12 +22,12 @@ use Rattle.commands.specs.declared.Listing.{Listing}
 use Rattle.commands.specs.declared.Sum.{Sum}
 use Rattle.commands.specs.declared.FieldDeed.TheVariants as fieldDeeds
 use Rattle.commands.specs.declared.KeyDeed.TheVariants as keyDeeds
-use Rattle.commands.specs.declared.Parsed.{Parsed}
 use Rattle.commands.specs.declared.Parsed.TheVariants as parses
 use Rattle.commands.specs.declared.Stamping.{Stamping}
 use Rattle.commands.specs.declared.refusal.Refusal.{Refusal}
 use Rattle.commands.specs.declared.refusal.Refusal.TheVariants.{NotInteger, InvalidVersion, InvalidExpireTime}
 use Rattle.commands.specs.declared.options.ScannedOptions.{ScannedOptions}
+use Rattle.commands.specs.declared.table.TimeUnit.{TimeUnit}
 use Rattle.commands.specs.Command.{Deed, Command}
 use Rattle.commands.specs.Command.Deed.{persist, ask}
 use Rattle.commands.specs.Command.Command.{on_field, set_many, get_many, delete, count_live, count_held, list}
@@ -35,9 +35,8 @@ use Rattle.commands.specs.Options.{signed64, expiry_group, condition_group, vers
 use Rattle.commands.specs.Parse.{Form, allowed, option_words, number_range, pairs_of, build, is_zero, deed_versioning, beyond, deed_lifetime, on_deed, said_by}
 use Rattle.commands.specs.Parse.Form.{set_form, set_many_form, increment_form, expire_form, persist_form, renumber_form, ask_form, get_many_form, delete_form, count_form, list_form}
 use Rattle.commands.specs.Parse.Parsed.{accepted}
-use Rattle.commands.specs.TablePromises.{list_family, listing_of, first_forms, form_of, command_data, family_at, argument_at, command_of, kind_in, unit_of}
+use Rattle.commands.specs.TablePromises.{unit_meant, kind_in}
 use Rattle.commands.specs.ParsePromises.{given_at, instant_in, read_of, by_number, versioned_for, terms_for, condition_for, on_integer, sum_for, lowest_signed, highest_signed, bound_given, sum_of, parse_rest, deed_of, command_for, meant}
-use Rattle.commands.proofs.TableRows.{row_form}
 use Rattle.commands.proofs.OperandWords.{instant_read}
 use Rattle.commands.proofs.OptionScanning.{given_some}
 use Rattle.commands.proofs.Parsing.{given_in, unclean, all_read, rest_16, rest_17, rest_18, rest_said, Takes, Ready, version_said, version_refused, terms_refused, terms_said, condition_said, bare_read, has_read, integer_read, integer_value, bound_readable, bound_said}
@@ -191,14 +190,14 @@ module _ (time : ℕ) {ws : List Word} {r : ScannedOptions} (y : Ready increment
 
 -- ---- EXHEXPIRE, EXHEXPIREAT, EXHPEXPIRE, EXHPEXPIREAT
 
-abbrev expiring : ℕ → Form
-expiring unit = expire_form (unit_of unit)
+abbrev expiring : TimeUnit → Form
+expiring unit = expire_form (unit_meant unit)
 
-pub expire_takes : (unit : ℕ) → Takes (expire_form (unit_of unit)) (version_group ∷ []) 4
+pub expire_takes : (unit : TimeUnit) → Takes (expire_form (unit_meant unit)) (version_group ∷ []) 4
 unfolding allowed option_words
 expire_takes unit = record { groups = refl; words = λ ws. refl }
 
-module _ (time unit : ℕ) {ws : List Word} {r : ScannedOptions} (y : Ready (expire_form (unit_of unit)) ws r) where
+module _ (time : ℕ) (unit : TimeUnit) {ws : List Word} {r : ScannedOptions} (y : Ready (expire_form (unit_meant unit)) ws r) where
   abbrev number : Option ℤ
   number = read_integer (pos 0) (pos time_limit) (word_at 3 ws)
 
@@ -228,7 +227,7 @@ module _ (time unit : ℕ) {ws : List Word} {r : ScannedOptions} (y : Ready (exp
         unfolding build on_deed deed_versioning
         expire_nonzero = rw (version_said y ev en).1 (sym eb ∙ qb)
 
-        expire_instant : instant time (unit_of unit) (word_at 3 ws) ≡ t
+        expire_instant : instant time (unit_meant unit) (word_at 3 ws) ≡ t
         expire_instant = instant_read time unit (word_at 3 ws) k ek ∙ sym et
 
         pub expire_beyond : time_limit < t → meant ws (Err InvalidExpireTime) ≡ parse_rest time (expiring unit) ws
@@ -326,17 +325,5 @@ module _ (time : ℕ) (ws : List Word) where
   unfolding option_words number_range build on_deed meant command_for
   fixed_list l = fixed (list_form l) refl refl (list (word_at 1 ws) l) refl refl refl
 
--- ---- a row
-
--- the family behind all others
-pub list_form_lem : (family n : ℕ) → list_family ≤ family → form_of family n ≡ list_form (listing_of n)
-unfolding form_of
-list_form_lem family n l = get_or-eq_default (first_forms n) (list_form (listing_of n)) l
-
--- a command of row i is parsed as its family and its argument say
-pub row_parsed : (time i : ℕ) (ws : List Word) {family argument : ℕ} → family ≡ get_or (command_data (command_of i)) family_at 0 → argument ≡ get_or (command_data (command_of i)) argument_at 0
-    → (f : Form) → form_of family argument ≡ f → (x : Result Parsed Refusal) → meant ws x ≡ parse_rest time f ws → meant ws x ≡ parse_rest time (command_of i).form ws
-unfolding command_data
-row_parsed time i ws ef ea f e x h =
-    let form : (command_of i).form ≡ f = row_form i ∙ rw (← ef, ← ea) e in
-    rw form h
+-- the commands that have no options and no number
+pub ruleset fixed_forms = (fixed_pairs, fixed_persist, fixed_ask, fixed_many, fixed_delete, fixed_list)

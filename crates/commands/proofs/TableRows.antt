@@ -4,44 +4,33 @@ use mathlib.Core.Path.{◌≡◌, refl, sym, ap, ◌∙◌}
 use mathlib.Core.Bool.{Bool, true, false, cond, not, ◌&&◌}
 use mathlib.Core.List.{List, [], ◌∷◌, ◌++◌, map, flat_map, append_assoc}
 use Rattle.std.proofs.lemmas.Option.{none-some}
-use Prim.Native.Nat.{ℕ, zero, suc, ◌+◌, ◌-◌, ◌*◌, ◌/◌, ◌%◌, ◌^◌, ◌≤◌, ◌<◌}
+use Prim.Native.Nat.{ℕ, zero, suc, ◌+◌, ◌-◌, ◌*◌, ◌/◌, ◌<◌}
 use Prim.Native.String.{String}
 use native.Mathlib.Omega.{arith}
 use borrow.Author.Tests.{ltb-true, not-true}
 use lib.Dec.{ltb, eqb}
 use lib.ListN.{length, get_or, drop, length-append, length-drop, get_or-map}
-use lib.Pow.{are_bytes}
 use lib.Seq.{get_or_at, get_or-append-add, drop_at, take-append_seam}
 use Rattle.wire.specs.Lists.{all, any, only_if, or_else}
-use Rattle.wire.specs.Bytes.{from_le, part, same, text, upper, spells}
+use Rattle.wire.specs.Bytes.{part, same, text, upper, spells}
 use Rattle.wire.specs.Words.{Word}
 use Rattle.wire.specs.Promises.{row_size, name_in, row_from, row_named, Table}
 use Rattle.wire.proofs.Lists.{and_left, and_right, all_at}
 use Rattle.wire.proofs.NameRows.{row_at}
 use Rattle.wire.proofs.ByteLaws.{same_true}
-use Rattle.wire.proofs.ByteLoops.{from_le_at}
 use Rattle.commands.specs.Options.{OptionRow, OptionKind, ◌means◌, options, option_count, group_count, group, option_named}
 use Rattle.commands.specs.Options.OptionKind.{no_exp}
 use Rattle.commands.specs.Parse.{CommandRow, row, commands, command_count, command_named}
 use Rattle.commands.specs.Parse.Count.{at_least}
 use Rattle.commands.specs.Parse.Form.{set_form}
-use Rattle.commands.specs.TablePromises.{filler, name_row, family_of, unit_number, unit_of, question_number, question_of, listing_number, listing_of, argument_of, form_of, least_of, more_of, names_of, command_data, command_table, command_of, condition_number, versioning_number, said_of, expiry_kind, condition_by, versioning_by, kind_in, size_of, option_data, option_table, option_of}
+use Rattle.commands.specs.TablePromises.{filler, name_row, unit_meant, form_meant, count_meant, row_parts, row_meant, command_table, command_of, unit_number, unit_of, condition_number, versioning_number, said_of, expiry_kind, condition_by, versioning_by, kind_in, option_said, option_table, option_of}
+use Rattle.commands.specs.declared.table.CommandRow as code
 use Rattle.commands.proofs.Computing.{computing}
 
 -- to compute with the tables
 unfoldable pub tables : Unit {0}
-unfolding computing name_row family_of unit_number question_number listing_number argument_of least_of more_of names_of command_data unit_of question_of listing_of form_of condition_number versioning_number said_of size_of option_data expiry_kind condition_by versioning_by kind_in
+unfolding computing name_row unit_meant form_meant count_meant command_of option_of unit_number unit_of condition_number versioning_number said_of option_said expiry_kind condition_by versioning_by kind_in
 tables = tt
-
--- a number that is none of the first k is beyond them
-unfoldable pub NoneOf : ℕ → ℕ → Type 0
-NoneOf zero n = Unit {0}
-NoneOf (suc k) n = NoneOf k n × (n ≡ k → ⊥)
-
-pub none_of : (k n : ℕ) → NoneOf k n → k ≤ n
-unfolding NoneOf
-none_of zero n h = omega arith
-none_of (suc k) n h = omega (arith, none_of k n h.0, h.1)
 
 -- ---- rows of names
 
@@ -220,44 +209,7 @@ pub option_table_lem : Table option_table
 unfolding table_of option_table
 option_table_lem = table_of_lem (λ r. r.name) options options_fit
 
--- ---- the numbers of a row
-
--- they are bytes, computed at each row
-command_bytes : all (λ r. are_bytes (command_data r)) commands ≡ true
-unfolding tables
-command_bytes = refl
-
-option_bytes : all (λ r. are_bytes (option_data r)) options ≡ true
-unfolding tables
-option_bytes = refl
-
--- so each is a byte of the number that they spell
-pub command_number_at : (i k : ℕ) → i < command_count → from_le (command_data (command_of i)) / 2 ^ (8 * k) % 256 ≡ get_or (command_data (command_of i)) k 0
-unfolding command_of
-command_number_at i k l =
-    let first : CommandRow = row "EXHSET" (at_least 4) set_form in
-    from_le_at k (command_data (command_of i)) (all_at (λ r. are_bytes (command_data r)) commands first command_bytes i (omega (arith, commands_counted)))
-
-pub option_number_at : (i k : ℕ) → i < option_count → from_le (option_data (option_of i)) / 2 ^ (8 * k) % 256 ≡ get_or (option_data (option_of i)) k 0
-unfolding option_of
-option_number_at i k l =
-    let last : OptionRow = "NOEXP" means no_exp in
-    from_le_at k (option_data (option_of i)) (all_at (λ r. are_bytes (option_data r)) options last option_bytes i (omega (arith, options_counted)))
-
 -- ---- what a row's numbers mean
-
--- a row's form follows from its family and its argument
-forms_back : map (λ r. form_of (family_of r.form) (argument_of r.form)) commands ≡ map (λ r. r.form) commands
-unfolding tables
-forms_back = refl
-
-pub row_form : (i : ℕ) → (command_of i).form ≡ form_of (family_of (command_of i).form) (argument_of (command_of i).form)
-unfolding command_of form_of family_of argument_of
-row_form i =
-    let first : CommandRow = row "EXHSET" (at_least 4) set_form in
-    sym (get_or-map (λ r. r.form) commands i first)
-    ∙ ap (λ l. get_or l i set_form) (sym forms_back)
-    ∙ get_or-map (λ r. form_of (family_of r.form) (argument_of r.form)) commands i first
 
 -- an option follows from its group and what it says
 kinds_back : map (λ r. kind_in (group r.kind) (said_of r.kind)) options ≡ map (λ r. r.kind) options
@@ -297,6 +249,14 @@ command_row w = command_named_lem commands w ∙ sym (row_named_lem (λ r. r.nam
 command_below : (w : Word) (i : ℕ) → row_named command_table w ≡ Some i → i < command_count
 unfolding table_of command_table
 command_below w i e = omega (arith, commands_counted, number_inside (λ r. r.name) commands w i commands_fit e)
+
+-- what the code says of the row that it found
+pub row_found : (w : Word) {r : Option ℕ} → r ≡ (row_named command_table w) → (i : ℕ) → r ≡ Some i → (c : code.CommandRow) → row_meant c ≡ row_parts (command_of i)
+    → option_map row_meant (Some c) ≡ option_map row_parts (command_named commands w)
+row_found w er i h c e = rw (command_row w, ← er, h, e)
+
+pub row_not_found : (w : Word) {r : Option ℕ} → r ≡ (row_named command_table w) → r ≡ None → option_map row_meant None ≡ option_map row_parts (command_named commands w)
+row_not_found w er h = rw (command_row w, ← er, h)
 
 pub command_number : (w : Word) {r : Option ℕ} → r ≡ (row_named command_table w) → (i : ℕ) → r ≡ Some i → i < command_count
 command_number w e i h = command_below w i (row_at (row_named command_table w) i (sym e ∙ h))

@@ -23,6 +23,7 @@ use Rattle.commands.specs.declared.Versioning.{Versioning}
 use Rattle.commands.specs.declared.Versioning.TheVariants as versionings
 use Rattle.commands.specs.declared.Stamping.{Stamping}
 use Rattle.commands.specs.declared.Sum.{Sum}
+use Rattle.commands.specs.declared.table.TimeUnit.{TimeUnit}
 use Rattle.commands.specs.declared.options.Given as code
 use Rattle.commands.specs.declared.options.GroupedOption.{GroupedOption}
 use Rattle.commands.specs.declared.options.ScannedOptions.{ScannedOptions}
@@ -33,7 +34,7 @@ use Rattle.commands.specs.Command.Command.{on_field, set_many, get_many, delete,
 use Rattle.commands.specs.Options.{Given, ◌with◌, min_group, max_group, group, group_count, operand_range, scan, conflicting, readable_operand, given_of, lifetime_of, versioning_of}
 use Rattle.commands.specs.Parse as P
 use Rattle.commands.specs.Parse.{Form, pairs_of, beyond, allowed, option_words, build, later_checks, is_zero}
-use Rattle.commands.specs.TablePromises.{unit_of, condition_by, kind_in}
+use Rattle.commands.specs.TablePromises.{unit_meant, condition_by, kind_in}
 
 -- ---- words
 
@@ -106,8 +107,8 @@ Scanned ws allowed from (Err n) = (n ≡ refusals.Syntax) × (or_else (scan allo
 -- ---- what the options say
 
 -- the instant of a number in a unit
-unfoldable pub instant_in : ℕ → ℕ → ℕ → ℕ
-instant_in unit n time = cond (unit_of unit).from_now (time + (unit_of unit).ms * n) ((unit_of unit).ms * n)
+unfoldable pub instant_in : TimeUnit → ℕ → ℕ → ℕ
+instant_in unit n time = cond (unit_meant unit).from_now (time + (unit_meant unit).ms * n) ((unit_meant unit).ms * n)
 
 -- what an option of the expiry group says, and what one of the version group says
 unfoldable pub lifetime_by : ℕ → Option Given → Lifetime

@@ -4,13 +4,14 @@ ghost use Rattle.wire.specs.Promises.{words_in, Inside};
 ghost use Rattle.store.specs.Layout.{time_limit};
 ghost use Rattle.commands.specs.Options.{expiry_group, version_group};
 ghost use Rattle.commands.specs.Parse.{is_zero, beyond};
+ghost use Rattle.commands.specs.TablePromises.{unit_meant, unit_of};
 ghost use Rattle.commands.specs.ParsePromises.{option_given, given_at, by_number, terms_for, instant_in, timed_for, versioned_for, condition_for, bound_for, sum_of};
 
 use crate::options::{Given, ScannedOptions};
 use crate::refusal::Refusal;
 use crate::table::{
     EXACT, EXPIRY_GROUP, IF_MISSING, KEPT, MATCHED, MAX_GROUP, MIN_GROUP, MS_FROM_NOW,
-    SECONDS_FROM_NOW, SECONDS_SINCE, VERSION_GROUP,
+    SECONDS_FROM_NOW, SECONDS_SINCE, TimeUnit, VERSION_GROUP,
 };
 use crate::{Condition, Lifetime, Stamping, Sum, Versioning};
 use store::layout::{TIME_LIMIT, VERSION_MOST};
@@ -21,15 +22,29 @@ use wire::words::word;
 const LOWEST: u64 = 9223372036854775808;
 
 // The instant in ms that a number says in a unit.
-pub fn instant(unit: usize, n: u64, time: u64) -> u64
+#[tactic(auto, unfolding(crate::specs::ParsePromises::instant_in, crate::specs::TablePromises::unit_meant))]
+pub fn instant(unit: TimeUnit, n: u64, time: u64) -> u64
     requires { (n ≤ time_limit) × (time < time_limit) }
     ensures { result ≡ instant_in unit n time }
 {
     match unit {
-        SECONDS_FROM_NOW => time + 1000 * n,
-        SECONDS_SINCE => 1000 * n,
-        MS_FROM_NOW => time + n,
-        _ => n,
+        TimeUnit::SecondsFromNow => time + 1000 * n,
+        TimeUnit::Seconds => 1000 * n,
+        TimeUnit::MillisecondsFromNow => time + n,
+        TimeUnit::Milliseconds => n,
+    }
+}
+
+// The unit that an option of the expiry group says.
+#[tactic(auto, unfolding(crate::specs::TablePromises::unit_of, crate::specs::TablePromises::unit_meant))]
+fn unit_said(said: usize) -> TimeUnit
+    ensures { unit_meant result ≡ unit_of said }
+{
+    match said {
+        SECONDS_FROM_NOW => TimeUnit::SecondsFromNow,
+        SECONDS_SINCE => TimeUnit::Seconds,
+        MS_FROM_NOW => TimeUnit::MillisecondsFromNow,
+        _ => TimeUnit::Milliseconds,
     }
 }
 
@@ -51,7 +66,7 @@ pub fn lifetime(
     }
     let read = read_natural(word(command, places, option.operand), TIME_LIMIT);
     let n = read.ok_or(Refusal::NotInteger)?;
-    Ok(Lifetime::Until(instant(option.said, n, time)))
+    Ok(Lifetime::Until(instant(unit_said(option.said), n, time)))
 }
 
 // What VER, ABS or GT says.

@@ -5,11 +5,8 @@ ghost use Rattle.wire.specs.Promises.{words_in, Inside};
 ghost use Rattle.commands.specs.ParsePromises.{FoundBy, Scanned};
 
 use crate::refusal::Refusal;
-use crate::table::{GROUP_AT, GROUP_COUNT, SAID_AT, SIZE_AT, option_datum, option_named};
+use crate::table::{GROUP_COUNT, option_named};
 use wire::words::{next_word, word};
-
-// How many words an option is that takes an operand.
-const WITH_OPERAND: usize = 2;
 
 // An option of a group as it was given: what it says there, and the number of its last word, its operand if it takes one.
 #[derive(Clone, Copy)]
@@ -31,13 +28,6 @@ struct GroupedOption {
     given: Given,
 }
 
-// Whether a group is among those that a command takes.
-fn takes(allowed: &[usize], group: usize) -> bool
-    ensures { result ≡ any (eqb group) allowed.now }
-{
-    allowed.contains(&group)
-}
-
 // The option at a word, of one of the groups that the command takes. It is refused where it is unknown or its operand is missing.
 fn option_at(
     command: &[u8],
@@ -49,12 +39,12 @@ fn option_at(
     ensures { FoundBy (words_in command.now places.now) allowed.now i result }
 {
     let option = option_named(word(command, places, i)).ok_or(Refusal::Syntax)?;
-    let group = option_datum(option, GROUP_AT);
-    if !takes(allowed, group) {
+    let group = option.group;
+    let said = option.said;
+    if !allowed.contains(&group) {
         return Err(Refusal::Syntax);
     }
-    let said = option_datum(option, SAID_AT);
-    if option_datum(option, SIZE_AT) < WITH_OPERAND {
+    if !option.operand {
         return Ok(GroupedOption {
             group,
             given: Given { said, operand: i },

@@ -3,20 +3,17 @@ ghost use Rattle.std.specs.Prelude.{◌≡◌, ℕ, ◌<◌};
 ghost use Rattle.wire.specs.Promises.{words_in, Inside};
 ghost use Rattle.store.specs.Layout.{time_limit};
 ghost use Rattle.commands.specs.Parse as P;
-ghost use Rattle.commands.specs.Parse.{command_count};
-ghost use Rattle.commands.specs.TablePromises.{command_of, unit_of, question_of, listing_of};
+ghost use Rattle.commands.specs.TablePromises.{unit_meant, form_meant};
 ghost use Rattle.commands.specs.ParsePromises.{Divided, parse_rest, meant};
 
 use crate::counts::{count_fits, too_long};
 use crate::options::scan;
 use crate::refusal::Refusal;
 use crate::table::{
-    ARGUMENT_AT, ASK_FAMILY, CONDITION_GROUP, COUNT_FAMILY, DELETE_FAMILY, EXPIRE_FAMILY,
-    EXPIRY_GROUP, FAMILY_AT, GET_MANY_FAMILY, INCREMENT_FAMILY, MAX_GROUP, MIN_GROUP, NO_EXP_GROUP,
-    PERSIST_FAMILY, RENUMBER_FAMILY, SET_FAMILY, SET_MANY_FAMILY, VERSION_GROUP, command_datum,
-    command_named,
+    CONDITION_GROUP, CommandRow, EXPIRY_GROUP, Form, MAX_GROUP, MIN_GROUP, NO_EXP_GROUP, TimeUnit,
+    VERSION_GROUP, command_named,
 };
-use crate::{FieldDeed, KeyDeed, Listing, Parsed, Question, operands};
+use crate::{FieldDeed, KeyDeed, Parsed, operands};
 use store::layout::{TIME_LIMIT, VERSION_MOST};
 use wire::integers::read_natural;
 use wire::words::word;
@@ -57,12 +54,12 @@ fn parse_increment(command: &[u8], places: &[[usize; 2]], time: u64) -> Result<P
 fn parse_expire(
     command: &[u8],
     places: &[[usize; 2]],
-    unit: usize,
+    unit: TimeUnit,
     time: u64,
 ) -> Result<Parsed, Refusal>
     requires { (Inside command.now places.now) × (time < time_limit) }
     ensures { let ws = words_in command.now places.now in
-        meant ws result ≡ parse_rest time (P.Form.expire_form (unit_of unit)) ws }
+        meant ws result ≡ parse_rest time (P.Form.expire_form (unit_meant unit)) ws }
 {
     let options = scan(command, places, 4, &[VERSION_GROUP])?;
     let n = read_natural(word(command, places, 3), TIME_LIMIT).ok_or(Refusal::NotInteger)?;
@@ -100,56 +97,29 @@ fn parse_count(command: &[u8], places: &[[usize; 2]]) -> Result<Parsed, Refusal>
     Ok(Parsed::OnKey(KeyDeed::CountHeld))
 }
 
-// A question by its number.
-fn question(n: usize) -> Question
-    ensures { result ≡ question_of n }
-{
-    match n {
-        0 => Question::Value,
-        1 => Question::Length,
-        2 => Question::Exists,
-        3 => Question::Versioned,
-        4 => Question::Version,
-        5 => Question::Seconds,
-        _ => Question::Milliseconds,
-    }
-}
-
-// A listing by its number.
-fn listing(n: usize) -> Listing
-    ensures { result ≡ listing_of n }
-{
-    match n {
-        0 => Listing::Fields,
-        1 => Listing::Values,
-        _ => Listing::Both,
-    }
-}
-
 // A command of a row from its options on: checks 15 to 18.
+#[tactic(auto, using(crate::proofs::ParseFamilies::fixed_forms), unfolding(crate::specs::TablePromises::form_meant))]
 fn parse_row(
     command: &[u8],
     places: &[[usize; 2]],
-    row: usize,
+    row: CommandRow,
     time: u64,
 ) -> Result<Parsed, Refusal>
-    requires { (Inside command.now places.now) × (row < command_count) × (time < time_limit) }
-    ensures { let ws = words_in command.now places.now in meant ws result ≡ parse_rest time (command_of row).form ws }
+    requires { (Inside command.now places.now) × (time < time_limit) }
+    ensures { let ws = words_in command.now places.now in meant ws result ≡ parse_rest time (form_meant row.form) ws }
 {
-    let family = command_datum(row, FAMILY_AT);
-    let argument = command_datum(row, ARGUMENT_AT);
-    match family {
-        SET_FAMILY => parse_set(command, places, time),
-        SET_MANY_FAMILY => Ok(Parsed::OnKey(KeyDeed::SetMany)),
-        INCREMENT_FAMILY => parse_increment(command, places, time),
-        EXPIRE_FAMILY => parse_expire(command, places, argument, time),
-        PERSIST_FAMILY => Ok(Parsed::OnField(FieldDeed::Persist)),
-        RENUMBER_FAMILY => parse_renumber(command, places),
-        ASK_FAMILY => Ok(Parsed::OnField(FieldDeed::Ask(question(argument)))),
-        GET_MANY_FAMILY => Ok(Parsed::OnKey(KeyDeed::GetMany(question(argument)))),
-        DELETE_FAMILY => Ok(Parsed::OnKey(KeyDeed::Delete)),
-        COUNT_FAMILY => parse_count(command, places),
-        _ => Ok(Parsed::OnKey(KeyDeed::List(listing(argument)))),
+    match row.form {
+        Form::Set => parse_set(command, places, time),
+        Form::SetMany => Ok(Parsed::OnKey(KeyDeed::SetMany)),
+        Form::Increment => parse_increment(command, places, time),
+        Form::Expire(unit) => parse_expire(command, places, unit, time),
+        Form::Persist => Ok(Parsed::OnField(FieldDeed::Persist)),
+        Form::Renumber => parse_renumber(command, places),
+        Form::Ask(question) => Ok(Parsed::OnField(FieldDeed::Ask(question))),
+        Form::GetMany(question) => Ok(Parsed::OnKey(KeyDeed::GetMany(question))),
+        Form::Delete => Ok(Parsed::OnKey(KeyDeed::Delete)),
+        Form::Count => parse_count(command, places),
+        Form::List(listing) => Ok(Parsed::OnKey(KeyDeed::List(listing))),
     }
 }
 

@@ -1,65 +1,53 @@
-// The commands and their options: for each its name, a row of a table, and the numbers that parsing asks of it.
-ghost use Rattle.std.specs.Prelude.{◌≡◌, ◌*◌, ◌/◌, ◌%◌, ◌^◌, ◌<◌, get_or};
-ghost use Rattle.wire.specs.Bytes.{from_le};
+// The commands and their options: for each its name, a row of a table, and what parsing asks of it.
+ghost use Rattle.std.specs.Prelude.{◌≡◌, ◌<◌, option_map};
 ghost use Rattle.wire.specs.Promises.{row_named};
 ghost use Rattle.commands.specs.Options.{option_count};
-ghost use Rattle.commands.specs.Parse.{command_count};
-ghost use Rattle.commands.specs.TablePromises.{data_size, command_table, command_data, command_of, option_table, option_data, option_of};
+ghost use Rattle.commands.specs.Parse.{command_count, command_named, commands};
+ghost use Rattle.commands.specs.TablePromises.{command_of, row_parts, row_meant, option_table, option_of, option_said};
 
+use self::WordCount::{AtLeast, EvenFrom, Exactly};
+use crate::{Listing, Question};
 use wire::names::{ROW_SIZE, find};
 
-// The numbers of a command's row: its family; its unit, question or listing; the least number of its words; whether more may follow; which of them are a field or a value.
-pub const FAMILY_AT: usize = 0;
+// The unit of a time, that of EX, EXAT, PX and PXAT; from now, or else since 1970.
+#[derive(Clone, Copy)]
+pub enum TimeUnit {
+    SecondsFromNow,
+    Seconds,
+    MillisecondsFromNow,
+    Milliseconds,
+}
 
-pub const ARGUMENT_AT: usize = 1;
+// What a command does and how its words are read; commands of one form differ in a unit, a question or a listing.
+#[derive(Clone, Copy)]
+pub enum Form {
+    Set,
+    SetMany,
+    Increment,
+    Expire(TimeUnit),
+    Persist,
+    Renumber,
+    Ask(Question),
+    GetMany(Question),
+    Delete,
+    Count,
+    List(Listing),
+}
 
-pub const LEAST_AT: usize = 2;
+// How many words a command has, its name counted.
+#[derive(Clone, Copy)]
+pub enum WordCount {
+    Exactly(usize),
+    AtLeast(usize),
+    EvenFrom(usize),
+}
 
-pub const MORE_AT: usize = 3;
-
-pub const NAMES_AT: usize = 4;
-
-// The families of commands.
-pub const SET_FAMILY: usize = 0;
-
-pub const SET_MANY_FAMILY: usize = 1;
-
-pub const INCREMENT_FAMILY: usize = 2;
-
-pub const EXPIRE_FAMILY: usize = 3;
-
-pub const PERSIST_FAMILY: usize = 4;
-
-pub const RENUMBER_FAMILY: usize = 5;
-
-pub const ASK_FAMILY: usize = 6;
-
-pub const GET_MANY_FAMILY: usize = 7;
-
-pub const DELETE_FAMILY: usize = 8;
-
-pub const COUNT_FAMILY: usize = 9;
-
-// The units of times: those of EX, EXAT and PX; any other is that of PXAT.
-pub const SECONDS_FROM_NOW: usize = 0;
-
-pub const SECONDS_SINCE: usize = 1;
-
-pub const MS_FROM_NOW: usize = 2;
-
-// What may follow the least number of words: nothing, more words; else more words in pairs.
-pub const NO_MORE: usize = 0;
-
-pub const ANY_MORE: usize = 1;
-
-// The words after the key that are a field or a value: none, each a field, each pair a field and a value, one field; else a field and a value.
-pub const NONE_NAMED: usize = 0;
-
-pub const EACH_FIELD: usize = 1;
-
-pub const EACH_PAIR: usize = 2;
-
-pub const ONE_FIELD: usize = 3;
+// What the table says of a command.
+#[derive(Clone, Copy)]
+pub struct CommandRow {
+    pub form: Form,
+    pub count: WordCount,
+}
 
 // The commands. Small letters fill a row: a run of equal bytes would be stored by itself wherever the table is lent.
 const COMMAND_COUNT: usize = 23;
@@ -88,12 +76,13 @@ const COMMANDS: [u8; ROW_SIZE * COMMAND_COUNT] = *b"\x06EXHSETghijklmno\
     \x07EXHVALShijklmno\
     \x09EXHGETALLjklmno";
 
-// The numbers of an option's row: its group, what it says in its group, and how many words it is.
-pub const GROUP_AT: usize = 0;
-
-pub const SAID_AT: usize = 1;
-
-pub const SIZE_AT: usize = 2;
+// What the table says of an option: its group, what it says there, and whether the next word is its operand.
+#[derive(Clone, Copy)]
+pub struct OptionRow {
+    pub group: usize,
+    pub said: usize,
+    pub operand: bool,
+}
 
 // The groups of options: at most one of each is given.
 pub const EXPIRY_GROUP: usize = 0;
@@ -110,16 +99,28 @@ pub const NO_EXP_GROUP: usize = 5;
 
 pub const GROUP_COUNT: usize = 6;
 
-// What an option of the expiry group says: that the expiry is kept, or a unit.
+// What an option of the expiry group says: a unit, or that the expiry is kept.
+pub const SECONDS_FROM_NOW: usize = 0;
+
+pub const SECONDS_SINCE: usize = 1;
+
+pub const MS_FROM_NOW: usize = 2;
+
+pub const MS_SINCE: usize = 3;
+
 pub const KEPT: usize = 4;
 
-// What an option of the condition group says: NX; else XX.
+// What an option of the condition group says: NX, XX.
 pub const IF_MISSING: usize = 0;
 
-// What an option of the version group says: VER, ABS; else GT.
+pub const IF_LIVE: usize = 1;
+
+// What an option of the version group says: VER, ABS, GT.
 pub const MATCHED: usize = 0;
 
 pub const EXACT: usize = 1;
+
+pub const ABOVE: usize = 2;
 
 // The options.
 const OPTION_COUNT: usize = 13;
@@ -138,94 +139,92 @@ const OPTIONS: [u8; ROW_SIZE * OPTION_COUNT] = *b"\x02EXcdefghijklmno\
     \x03MAXdefghijklmno\
     \x05NOEXPfghijklmno";
 
-// The number of the command that a word names.
-pub fn command_named(word: &[u8]) -> Option<usize>
-    ensures { result ≡ row_named command_table word.now }
+// A row of a form and a count of words.
+fn row(form: Form, count: WordCount) -> CommandRow
+    ensures { result ≡ record { form = form; count = count } }
 {
-    find(&COMMANDS, word)
+    CommandRow { form, count }
 }
 
-// The number at a place among the numbers of a row.
-fn number_at(numbers: u64, place: usize) -> usize
-    requires { place < data_size }
-    ensures { result ≡ numbers / 2 ^ (8 * place) % 256 }
+// The row of a command by its place among the names.
+#[tactic(auto, unfolding(crate::proofs::TableRows::tables))]
+fn command_row(i: usize) -> CommandRow
+    requires { i < command_count }
+    ensures { row_meant result ≡ row_parts (command_of i) }
 {
-    ((numbers >> (8 * place)) % 256) as usize
-}
-
-// The numbers of a command's row, a byte each, the first lowest.
-fn command_numbers(row: usize) -> u64
-    requires { row < command_count }
-    ensures { result ≡ from_le (command_data (command_of row)) }
-{
-    match row {
-        0 => 0x04_01_04_00_00,
-        1 => 0x02_02_04_00_01,
-        2 => 0x03_01_04_00_02,
-        3 => 0x03_01_04_00_03,
-        4 => 0x03_01_04_01_03,
-        5 => 0x03_01_04_02_03,
-        6 => 0x03_01_04_03_03,
-        7 => 0x03_00_03_00_04,
-        8 => 0x03_00_04_00_05,
-        9 => 0x03_00_03_06_06,
-        10 => 0x03_00_03_05_06,
-        11 => 0x03_00_03_04_06,
-        12 => 0x03_00_03_00_06,
-        13 => 0x03_00_03_01_06,
-        14 => 0x03_00_03_02_06,
-        15 => 0x03_00_03_03_06,
-        16 => 0x01_01_03_00_07,
-        17 => 0x01_01_03_03_07,
-        18 => 0x01_01_03_00_08,
-        19 => 0x00_01_02_00_09,
-        20 => 0x00_00_02_00_0a,
-        21 => 0x00_00_02_01_0a,
-        _ => 0x00_00_02_02_0a,
+    match i {
+        0 => row(Form::Set, AtLeast(4)),
+        1 => row(Form::SetMany, EvenFrom(4)),
+        2 => row(Form::Increment, AtLeast(4)),
+        3 => row(Form::Expire(TimeUnit::SecondsFromNow), AtLeast(4)),
+        4 => row(Form::Expire(TimeUnit::Seconds), AtLeast(4)),
+        5 => row(Form::Expire(TimeUnit::MillisecondsFromNow), AtLeast(4)),
+        6 => row(Form::Expire(TimeUnit::Milliseconds), AtLeast(4)),
+        7 => row(Form::Persist, Exactly(3)),
+        8 => row(Form::Renumber, Exactly(4)),
+        9 => row(Form::Ask(Question::Milliseconds), Exactly(3)),
+        10 => row(Form::Ask(Question::Seconds), Exactly(3)),
+        11 => row(Form::Ask(Question::Version), Exactly(3)),
+        12 => row(Form::Ask(Question::Value), Exactly(3)),
+        13 => row(Form::Ask(Question::Length), Exactly(3)),
+        14 => row(Form::Ask(Question::Exists), Exactly(3)),
+        15 => row(Form::Ask(Question::Versioned), Exactly(3)),
+        16 => row(Form::GetMany(Question::Value), AtLeast(3)),
+        17 => row(Form::GetMany(Question::Versioned), AtLeast(3)),
+        18 => row(Form::Delete, AtLeast(3)),
+        19 => row(Form::Count, AtLeast(2)),
+        20 => row(Form::List(Listing::Fields), Exactly(2)),
+        21 => row(Form::List(Listing::Values), Exactly(2)),
+        _ => row(Form::List(Listing::Both), Exactly(2)),
     }
 }
 
-// A number of a command's row.
-pub fn command_datum(row: usize, place: usize) -> usize
-    requires { (row < command_count) × (place < data_size) }
-    ensures { result ≡ get_or (command_data (command_of row)) place 0 }
+// The row of the command that a word names.
+pub fn command_named(word: &[u8]) -> Option<CommandRow>
+    ensures { option_map row_meant result ≡ option_map row_parts (command_named commands word.now) }
 {
-    number_at(command_numbers(row), place)
+    let i = find(&COMMANDS, word)?;
+    Some(command_row(i))
 }
 
-// The number of the option that a word names.
-pub fn option_named(word: &[u8]) -> Option<usize>
-    ensures { result ≡ row_named option_table word.now }
+// A row of a group, what is said there, and whether an operand follows.
+fn option(group: usize, said: usize, operand: bool) -> OptionRow
+    ensures { result ≡ record { group = group; said = said; operand = operand } }
 {
-    find(&OPTIONS, word)
-}
-
-// The numbers of an option's row, a byte each, the first lowest.
-fn option_numbers(row: usize) -> u64
-    requires { row < option_count }
-    ensures { result ≡ from_le (option_data (option_of row)) }
-{
-    match row {
-        0 => 0x02_00_00,
-        1 => 0x02_01_00,
-        2 => 0x02_02_00,
-        3 => 0x02_03_00,
-        4 => 0x01_04_00,
-        5 => 0x01_00_01,
-        6 => 0x01_01_01,
-        7 => 0x02_00_02,
-        8 => 0x02_01_02,
-        9 => 0x02_02_02,
-        10 => 0x02_00_03,
-        11 => 0x02_00_04,
-        _ => 0x01_00_05,
+    OptionRow {
+        group,
+        said,
+        operand,
     }
 }
 
-// A number of an option's row.
-pub fn option_datum(row: usize, place: usize) -> usize
-    requires { (row < option_count) × (place < data_size) }
-    ensures { result ≡ get_or (option_data (option_of row)) place 0 }
+// The row of an option by its place among the names.
+#[tactic(auto, unfolding(crate::proofs::TableRows::tables))]
+fn option_row(i: usize) -> OptionRow
+    requires { i < option_count }
+    ensures { result ≡ option_said (option_of i) }
 {
-    number_at(option_numbers(row), place)
+    match i {
+        0 => option(EXPIRY_GROUP, SECONDS_FROM_NOW, true),
+        1 => option(EXPIRY_GROUP, SECONDS_SINCE, true),
+        2 => option(EXPIRY_GROUP, MS_FROM_NOW, true),
+        3 => option(EXPIRY_GROUP, MS_SINCE, true),
+        4 => option(EXPIRY_GROUP, KEPT, false),
+        5 => option(CONDITION_GROUP, IF_MISSING, false),
+        6 => option(CONDITION_GROUP, IF_LIVE, false),
+        7 => option(VERSION_GROUP, MATCHED, true),
+        8 => option(VERSION_GROUP, EXACT, true),
+        9 => option(VERSION_GROUP, ABOVE, true),
+        10 => option(MIN_GROUP, 0, true),
+        11 => option(MAX_GROUP, 0, true),
+        _ => option(NO_EXP_GROUP, 0, false),
+    }
+}
+
+// The row of the option that a word names.
+pub fn option_named(word: &[u8]) -> Option<OptionRow>
+    ensures { result ≡ option_map (λ i. option_said (option_of i)) (row_named option_table word.now) }
+{
+    let i = find(&OPTIONS, word)?;
+    Some(option_row(i))
 }

@@ -8,9 +8,6 @@ pub loop-i-init : goal.loop-i-init
 unfolding any_over
 loop-i-init c = refl
 
-pub word-requires : goal.word-requires
-word-requires c = c.requires
-
 pub returns-then-word-gt-FIELD_MOST : goal.returns-then-word-gt-FIELD_MOST
 returns-then-word-gt-FIELD_MOST c = over_found _ (length_words _ _) c.loop-i.i c.loop-i.invariant c.loop-i-test.true c.word.ensures c.if-word-gt-FIELD_MOST.true
 

@@ -1,5 +1,4 @@
 use mathlib.Core.Path.{◌≡◌}
-use Prim.Native.Nat.{◌-◌}
 use lib.Dec.{ltb}
 use lib.ListN.{length, drop}
 use Rattle.wire.specs.Lists.{any}
@@ -8,9 +7,6 @@ use Rattle.store.specs.Layout.{field_most}
 use Rattle.commands.specs.ParsePromises.{any_over}
 use Rattle.commands.proofs.counts.any_over.Given as goal
 
--- What is left does the same; the measure is how many words are left.
+-- What is left does the same.
 abbrev pub invariant-loop-i : goal.invariant-loop-i
 invariant-loop-i l = any_over (words_in l.command l.places) ≡ any (λ f. ltb field_most (length f)) (drop l.i (words_in l.command l.places))
-
-abbrev pub decreases-loop-i : goal.decreases-loop-i
-decreases-loop-i l = length l.places - l.i

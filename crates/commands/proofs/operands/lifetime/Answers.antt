@@ -21,4 +21,4 @@ instant-requires c = ((natural_value time_limit c.word.ensures c.read_natural-re
 
 pub returns : goal.returns
 returns c =
-    lifetime_until _ c.args.time c.in-Some.is c.if-option-eq-KEPT.false c.in_ok-n.n (natural_value time_limit c.word.ensures c.read_natural-read.ensures c.in_ok-n.n c.in_ok-n.ensures.ok_part).0 c.instant.ensures
+    lifetime_until _ c.args.time c.in-Some.is c.if-option-eq-KEPT.false c.in_ok-n.n (natural_value time_limit c.word.ensures c.read_natural-read.ensures c.in_ok-n.n c.in_ok-n.ensures.ok_part).0 _ c.unit_said.ensures c.instant.ensures

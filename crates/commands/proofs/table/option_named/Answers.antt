@@ -1,5 +1,5 @@
 use Rattle.commands.specs.TablePromises.{option_table}
-use Rattle.commands.proofs.TableRows.{tables, option_table_lem}
+use Rattle.commands.proofs.TableRows.{tables, option_table_lem, option_number}
 use Rattle.commands.proofs.table.option_named.Goals as goal
 
 -- The bytes of the code are those of the definition, computed.
@@ -7,6 +7,14 @@ pub find-requires : goal.find-requires
 unfolding tables option_table
 find-requires c = option_table_lem
 
+pub returns-in_err-i : goal.returns-in_err-i
+unfolding tables option_table
+returns-in_err-i c = rw (c.from_residual.ensures, ← c.find.ensures, c.in_err-i.was)
+
+pub option_row-requires : goal.option_row-requires
+unfolding tables option_table
+option_row-requires c = option_number _ c.find.ensures c.in_ok-i.i c.in_ok-i.was
+
 pub returns : goal.returns
 unfolding tables option_table
-returns c = c.find.ensures
+returns c = rw (← c.find.ensures, c.in_ok-i.was, c.option_row.ensures)
