@@ -112,12 +112,12 @@ holds_self w = record { means = refl; well = w }
 
 module _ (b : List ℕ) (w : well_formed b ≡ true) (k f : List ℕ) where
   -- no entry of a name was found: the sweep changes nothing
-  pub sweeps_nothing : (time : ℕ) → None ≡ (lowest_slot (holds k f) (decode b).slots) → Holds b (swept time k (f ∷ []) (decode b))
+  pub sweeps_nothing : (time : ℕ) → None ≡ lowest_slot (holds k f) (decode b).slots → Holds b (swept time k (f ∷ []) (decode b))
   unfolding sweep
   sweeps_nothing time h =
       holds_slots (swept_nowhere time k f (decode b).slots (found_nothing (lowest_slot (holds k f) (decode b).slots) h)) (holds_self w)
 
-  module _ (i : ℕ) (h : Some i ≡ (lowest_slot (holds k f) (decode b).slots)) where
+  module _ (i : ℕ) (h : Some i ≡ lowest_slot (holds k f) (decode b).slots) where
     named : lowest_slot (holds k f) (decode b).slots ≡ Some i
     named = found_at (lowest_slot (holds k f) (decode b).slots) i h
 

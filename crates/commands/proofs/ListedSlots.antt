@@ -64,7 +64,7 @@ keep_nothing p (s ∷ ss) h = keep_none p s ss (p s) (lowest_slot p ss) h (keep_
 
 module _ (p : Slot → Bool) (ss : List Slot) (from : ℕ) where
   -- from a slot on
-  pub keep_from : (i : ℕ) → Some i ≡ (lowest_from from p ss)
+  pub keep_from : (i : ℕ) → Some i ≡ lowest_from from p ss
       → (from ≤ i) × (keep p (drop from ss) ≡ get_or ss i None ∷ keep p (drop (i + 1) ss))
   unfolding lowest_from
   keep_from i h = go (lowest_slot p (drop from ss)) refl (found_at (option_map (λ j. from + j) (lowest_slot p (drop from ss))) i h)
@@ -79,7 +79,7 @@ module _ (p : Slot → Bool) (ss : List Slot) (from : ℕ) where
             keep_lowest p (drop from ss) j q ∙ rw (get_or-drop from ss j None, z, drop-drop (suc j) from ss, n),
           )
 
-  pub keep_over : None ≡ (lowest_from from p ss) → keep p (drop from ss) ≡ []
+  pub keep_over : None ≡ lowest_from from p ss → keep p (drop from ss) ≡ []
   unfolding lowest_from
   keep_over h = go (lowest_slot p (drop from ss)) refl (found_nothing (option_map (λ j. from + j) (lowest_slot p (drop from ss))) h)
     where
@@ -124,9 +124,9 @@ shown_from now b k l from = flatten (flat_map (listed_slot l) (keep (live_of_key
 -- the next live entry of a key from a slot on stands in slot i
 pub record NextLive (now : ℕ) (b : List ℕ) (k : Word) (from i : ℕ) : Type 0 where
   pub well : well_formed b ≡ true
-  pub found : Some i ≡ (lowest_from from (live_of_key now k) (decode b).slots)
+  pub found : Some i ≡ lowest_from from (live_of_key now k) (decode b).slots
 
-pub next_live : {now : ℕ} {b : List ℕ} {k : Word} {from i : ℕ} → well_formed b ≡ true → Some i ≡ (lowest_from from (live_of_key now k) (decode b).slots)
+pub next_live : {now : ℕ} {b : List ℕ} {k : Word} {from i : ℕ} → well_formed b ≡ true → Some i ≡ lowest_from from (live_of_key now k) (decode b).slots
     → NextLive now b k from i
 next_live w h = record { well = w; found = h }
 
@@ -152,7 +152,7 @@ module _ {now : ℕ} {b : List ℕ} {k : Word} {from i : ℕ} (n : NextLive now 
 
 module _ (now : ℕ) (b : List ℕ) (k : Word) (l : Listing) (from : ℕ) where
   -- there is none
-  pub shown_end : None ≡ (lowest_from from (live_of_key now k) (decode b).slots) → shown_from now b k l from ≡ []
+  pub shown_end : None ≡ lowest_from from (live_of_key now k) (decode b).slots → shown_from now b k l from ≡ []
   unfolding shown_from flat_map flatten
   shown_end h = rw (keep_over (live_of_key now k) (decode b).slots from h)
 
@@ -224,7 +224,7 @@ module _ (k f : Word) (now : ℕ) (ss : List Slot) where
             both_ways (rw (get_or-drop (suc i) ss j None) at t.here) away
 
 -- what removing the entry that was looked for leaves, and how many that was
-module _ (k f : Word) (b : List ℕ) (w : well_formed b ≡ true) {r : Option ℕ} (h : r ≡ (lowest_slot (holds k f) (decode b).slots)) where
+module _ (k f : Word) (b : List ℕ) (w : well_formed b ≡ true) {r : Option ℕ} (h : r ≡ lowest_slot (holds k f) (decode b).slots) where
   pub removes_nothing : r ≡ None → Removes k f (decode b) b 0
   removes_nothing q =
       let nowhere : lowest_slot (holds k f) (decode b).slots ≡ None = found_nothing (lowest_slot (holds k f) (decode b).slots) (sym q ∙ h) in

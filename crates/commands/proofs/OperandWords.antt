@@ -28,7 +28,7 @@ use Rattle.commands.specs.ParsePromises.{numbered, option_given, instant_in, lif
 -- ---- numbers
 
 -- what reading the bytes v of a word w answered
-module _ (hi : ℕ) {v w : Word} {r : Option ℕ} (ev : v ≡ w) (er : r ≡ (read_natural hi v)) where
+module _ (hi : ℕ) {v w : Word} {r : Option ℕ} (ev : v ≡ w) (er : r ≡ read_natural hi v) where
   -- a number that was read
   pub natural_value : (n : ℕ) → r ≡ Some n → (read_integer (pos 0) (pos hi) w ≡ Some (pos n)) × (n ≤ hi)
   natural_value n h =

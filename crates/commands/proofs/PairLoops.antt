@@ -171,7 +171,7 @@ named_times f (g ∷ gs) = go (same g f) (named_times f gs)
     go false q = q
 
 -- one more field that is missing, or not
-missing_more : (k f : Word) (fs : List Word) (ss : List Slot) {found : Option ℕ} {again : ℕ} → found ≡ (lowest_slot (holds k f) ss)
+missing_more : (k f : Word) (fs : List Word) (ss : List Slot) {found : Option ℕ} {again : ℕ} → found ≡ lowest_slot (holds k f) ss
     → again ≡ times_in f fs
     → missing k (f ∷ fs) ss ≡ new_field found again + missing k fs ss
 unfolding missing new_field
@@ -222,7 +222,7 @@ module _ {k : Word} {fields rest : List Word} {ss : List Slot} {n : ℕ} (s : Su
     surveying_over h = rw (← passes_here, lt-ltb version_most (held + (again + 1)) h)
 
     -- or not
-    pub surveying_on : held + (again + 1) ≤ version_most → {r : ℕ} → found ≡ (lowest_slot (holds k f) ss)
+    pub surveying_on : held + (again + 1) ≤ version_most → {r : ℕ} → found ≡ lowest_slot (holds k f) ss
         → r ≡ new_field found again
         → Surveying k fields more ss (n + r)
     surveying_on h g w =
@@ -340,7 +340,7 @@ placed_pair now k f v s {d = d} q h = subst (λ (e : Entry). Holds d (with_put n
 -- What the code knows of the field at i tells whether it passes the largest version.
 abbrev pub Passing : List ℕ → List (List ℕ) → List ℕ → Word → ℕ → Type 0
 Passing s places b k i = (f : Word) (found : Option ℕ) (held again : ℕ) → i < length places / 2 → f ≡ word_at (2 * i) (words_in s places)
-    → found ≡ (lowest_slot (holds k f) (decode b).slots) → held ≡ held_version (entry_for (decode b).slots found)
+    → found ≡ lowest_slot (holds k f) (decode b).slots → held ≡ held_version (entry_for (decode b).slots found)
     → Telling found held (times_in (word_at (2 * i) (words_in s places)) (fields_in (drop (2 * (i + 1)) (words_in s places)))) again → version_most < held + (again + 1)
     → Err VersionOverflow ≡ survey_of k (fields_in (words_in s places)) (decode b).slots
 

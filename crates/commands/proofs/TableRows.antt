@@ -251,14 +251,14 @@ unfolding table_of command_table
 command_below w i e = omega (arith, commands_counted, number_inside (λ r. r.name) commands w i commands_fit e)
 
 -- what the code says of the row that it found
-pub row_found : (w : Word) {r : Option ℕ} → r ≡ (row_named command_table w) → (i : ℕ) → r ≡ Some i → (c : code.CommandRow) → row_meant c ≡ row_parts (command_of i)
+pub row_found : (w : Word) {r : Option ℕ} → r ≡ row_named command_table w → (i : ℕ) → r ≡ Some i → (c : code.CommandRow) → row_meant c ≡ row_parts (command_of i)
     → option_map row_meant (Some c) ≡ option_map row_parts (command_named commands w)
 row_found w er i h c e = rw (command_row w, ← er, h, e)
 
-pub row_not_found : (w : Word) {r : Option ℕ} → r ≡ (row_named command_table w) → r ≡ None → option_map row_meant None ≡ option_map row_parts (command_named commands w)
+pub row_not_found : (w : Word) {r : Option ℕ} → r ≡ row_named command_table w → r ≡ None → option_map row_meant None ≡ option_map row_parts (command_named commands w)
 row_not_found w er h = rw (command_row w, ← er, h)
 
-pub command_number : (w : Word) {r : Option ℕ} → r ≡ (row_named command_table w) → (i : ℕ) → r ≡ Some i → i < command_count
+pub command_number : (w : Word) {r : Option ℕ} → r ≡ row_named command_table w → (i : ℕ) → r ≡ Some i → i < command_count
 command_number w e i h = command_below w i (row_at (row_named command_table w) i (sym e ∙ h))
 
 -- no name is another's
@@ -321,5 +321,5 @@ option_below : (w : Word) (i : ℕ) → row_named option_table w ≡ Some i → 
 unfolding table_of option_table
 option_below w i e = omega (arith, options_counted, number_inside (λ r. r.name) options w i options_fit e)
 
-pub option_number : (w : Word) {r : Option ℕ} → r ≡ (row_named option_table w) → (i : ℕ) → r ≡ Some i → i < option_count
+pub option_number : (w : Word) {r : Option ℕ} → r ≡ row_named option_table w → (i : ℕ) → r ≡ Some i → i < option_count
 option_number w e i h = option_below w i (row_at (row_named option_table w) i (sym e ∙ h))

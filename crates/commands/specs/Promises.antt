@@ -41,7 +41,7 @@ use Rattle.commands.specs.ParsePromises.{refusal_number}
 
 -- a look for a key and a field found its slot, or that there is none
 abbrev pub Looked : List ℕ → List ℕ → List ℕ → Option ℕ → Type 0
-Looked b k f r = r ≡ (lowest_slot (holds k f) (decode b).slots)
+Looked b k f r = r ≡ lowest_slot (holds k f) (decode b).slots
 
 -- the slot for an entry of a key and a field
 unfoldable pub look_for : ℕ → List ℕ → List ℕ → List Slot → Option ℕ

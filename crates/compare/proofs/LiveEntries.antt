@@ -67,7 +67,7 @@ module _ (b k f : List ℕ) (instant : ℕ) (w : well_formed b ≡ true) where
   apart : Apart (decode b).slots
   apart = (decode_valid b w).apart
 
-  pub named_nowhere : None ≡ (lowest_slot (holds k f) (decode b).slots) → None ≡ (live_slot_of instant k f (decode b).slots)
+  pub named_nowhere : None ≡ lowest_slot (holds k f) (decode b).slots → None ≡ live_slot_of instant k f (decode b).slots
   unfolding live_of
   named_nowhere h = rw (live_none instant k f (decode b).slots dead)
     where
@@ -77,7 +77,7 @@ module _ (b k f : List ℕ) (instant : ℕ) (w : well_formed b ≡ true) where
       dead : (i : ℕ) → live_of instant k f (get_or (decode b).slots i None) ≡ false
       dead i = rw (missing i)
 
-  module _ (i : ℕ) (h : Some i ≡ (lowest_slot (holds k f) (decode b).slots)) where
+  module _ (i : ℕ) (h : Some i ≡ lowest_slot (holds k f) (decode b).slots) where
     here : holds k f (get_or (decode b).slots i None) ≡ true
     here = (lowest_some (holds k f) (decode b).slots i (found_at (lowest_slot (holds k f) (decode b).slots) i h)).here
 
@@ -85,10 +85,10 @@ module _ (b k f : List ℕ) (instant : ℕ) (w : well_formed b ≡ true) where
     found_inside =
         (w, rw (← length_decode b) (lowest_some (holds k f) (decode b).slots i (found_at (lowest_slot (holds k f) (decode b).slots) i h)).inside)
 
-    pub named_live : live_slot instant (get_or (decode b).slots i None) ≡ true → Some i ≡ (live_slot_of instant k f (decode b).slots)
+    pub named_live : live_slot instant (get_or (decode b).slots i None) ≡ true → Some i ≡ live_slot_of instant k f (decode b).slots
     named_live l = rw (live_only instant k f (decode b).slots i apart (live_both instant k f (get_or (decode b).slots i None) here l))
 
-    pub named_dead_lem : live_slot instant (get_or (decode b).slots i None) ≡ false → None ≡ (live_slot_of instant k f (decode b).slots)
+    pub named_dead_lem : live_slot instant (get_or (decode b).slots i None) ≡ false → None ≡ live_slot_of instant k f (decode b).slots
     unfolding live_of
     named_dead_lem l = rw (live_none instant k f (decode b).slots dead)
       where

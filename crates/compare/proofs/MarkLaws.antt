@@ -38,7 +38,7 @@ module _ (e other : Entry) where
 -- ---- a slot that was found
 
 -- a slot in which a name is live holds an entry
-pub live_held : (b k f : List ℕ) (instant : ℕ) {found : Option ℕ} → well_formed b ≡ true → found ≡ (live_slot_of instant k f (decode b).slots) → HeldIn b found
+pub live_held : (b k f : List ℕ) (instant : ℕ) {found : Option ℕ} → well_formed b ≡ true → found ≡ live_slot_of instant k f (decode b).slots → HeldIn b found
 unfolding live_slot_of
 live_held b k f instant w h i e = named_held (live_of instant k f) b i (live_empty instant k f) w (sym e ∙ h)
 
@@ -59,7 +59,7 @@ module _ (instant : ℕ) (e : Entry) (other : List Slot) where
   second_mark_lem None = refl
   second_mark_lem (Some j) = refl
 
-  module _ {found : Option ℕ} {r : ℕ} (h : found ≡ (live_slot_of instant e.key e.field other)) where
+  module _ {found : Option ℕ} {r : ℕ} (h : found ≡ live_slot_of instant e.key e.field other) where
     pub mark_first : r ≡ first_mark_for e other found → r ≡ mark_for passes.First instant other e
     unfolding mark_for pass_mark first_mark
     mark_first q = q ∙ rw h (first_mark_lem (live_slot_of instant e.key e.field other))
