@@ -164,7 +164,7 @@ place_or_end p s = go (nat_lt (position_or_len p s) (length s)) refl
     go true q = refl
     go false q = omega (arith, ltb-false (position_or_len p s) (length s) q, prefix_len-le-length (λ b. not (p b)) s)
 
-pub pass_others : (s : List ℕ) (from : ℕ) → from ≤ length s → {o : core.Option ℕ} {n : ℕ}
+pub pass_others : (s : List ℕ) (from : ℕ) → from ≤ length s → {o : Option ℕ} {n : ℕ}
     → o ≡ position (λ b. b == first_mark) (take (length s - from) (drop from s)) → n ≡ unwrap_or o (length s - from)
     → UnmarkedUpTo s from (from + n)
 pass_others s from l {n = n} q r =
