@@ -1,7 +1,7 @@
 -- Lines and their text: one line, the lines of one slot, and those of the slots that are left.
-use Rattle.std.specs.Prelude.{Option, None, Some, unwrap_or}
+use Rattle.std.specs.Prelude.{Option, None, Some}
 use mathlib.Core.Path.{◌≡◌, refl, sym, subst, ◌∙◌}
-use mathlib.Core.Bool.{Bool, true, false, not}
+use mathlib.Core.Bool.{true, false}
 use mathlib.Core.List.{List, [], ◌∷◌, ◌++◌, map, flatten, append_assoc, append-nil, map-append}
 use Prim.Native.Nat.{ℕ, ◌+◌, ◌-◌, ◌≤◌, ◌<◌}
 use native.Mathlib.Numerals.{add-one}
@@ -9,7 +9,7 @@ use native.Mathlib.Omega.{arith}
 use lib.ListN.{length, take, drop, get_or, set, length-append, length-set, drop_of_length-le}
 use lib.Seq.{drop-cons}
 use borrow.Rule.Slice.PartMut.{put_mid}
-use Rattle.wire.specs.Lists.{only_if, or_else}
+use Rattle.wire.specs.Lists.{or_else}
 use Rattle.wire.specs.Bytes.{text}
 use Rattle.wire.specs.Integers.{natural_text}
 use Rattle.wire.specs.Promises.{Laid}
@@ -17,15 +17,14 @@ use Rattle.wire.proofs.Lists.{impossible}
 use Rattle.wire.proofs.ReplyLaws.{flatten_append}
 use Rattle.wire.proofs.ReplyLaying.{laid_first, laid_more, laid_length, length_tail, front_room}
 use Rattle.wire.proofs.Elements.{Next}
-use Rattle.store.specs.Store.{Entry, Slot, blank, decode, slot_count, well_formed, entry_at}
+use Rattle.store.specs.Store.{Slot, blank, decode, slot_count, well_formed, entry_at}
 use Rattle.store.specs.Time.{empty_slot, live_slot}
 use Rattle.store.specs.Promises.{Held}
 use Rattle.store.proofs.Encode.{length_decode}
 use Rattle.compare.specs.declared.Pass.{Pass}
 use Rattle.compare.specs.declared.Pass.TheVariants as passes
-use Rattle.compare.specs.Listing.{agree, only_first, only_second, first_mark, second_mark, live_slot_of, different, Line, line_of, lines_from, lines, spaced, line_text, listing_of, listing}
-use Rattle.compare.specs.Promises.{no_mark, pass_mark, mark_for, marked, slot_text, pass_text}
-use Rattle.compare.proofs.CallChecks.{given_some}
+use Rattle.compare.specs.Listing.{first_mark, second_mark, Line, line_of, lines_from, lines, spaced, line_text, listing_of, listing}
+use Rattle.compare.specs.Promises.{pass_mark, marked, slot_text, pass_text}
 
 -- ---- one line
 
@@ -88,25 +87,6 @@ pub listing_append : (ls ms : List Line) → listing_of (ls ++ ms) ≡ listing_o
 unfolding listing_of
 listing_append ls ms = rw (map-append line_text ls ms) (flatten_append (map line_text ls) (map line_text ms))
 
--- no mark is 0
-mark_none : (pass : Pass) (instant : ℕ) (other : List Slot) (e : Entry) → mark_for pass instant other e ≡ no_mark → pass_mark pass instant other e ≡ None
-unfolding mark_for pass_mark first_mark second_mark or_else only_if
-mark_none passes.First instant other e = go (live_slot_of instant e.key e.field other)
-  where
-    agreed : (t : Bool) → unwrap_or (only_if (not t) different) no_mark ≡ no_mark → only_if (not t) different ≡ None
-    agreed true h = refl
-    agreed false h = absurd (omega (arith, h))
-
-    go : (o : Option ℕ) → unwrap_or (or_else o (Some only_first) (λ j. only_if (not (agree e (entry_at other j))) different)) no_mark ≡ no_mark
-        → or_else o (Some only_first) (λ j. only_if (not (agree e (entry_at other j))) different) ≡ None
-    go None h = absurd (omega (arith, h))
-    go (Some j) h = agreed (agree e (entry_at other j)) h
-mark_none passes.Second instant other e = go (live_slot_of instant e.key e.field other)
-  where
-    go : (o : Option ℕ) → unwrap_or (or_else o (Some only_second) (λ j. None)) no_mark ≡ no_mark → or_else o (Some only_second) (λ j. None) ≡ None
-    go None h = absurd (omega (arith, h))
-    go (Some j) h = refl
-
 -- a slot of a store, and one whose entry is live
 module _ (b : List ℕ) (i : ℕ) (w : well_formed b ≡ true) (l : i < length (decode b).slots) where
   pub slot_inside : (well_formed b ≡ true) × (i < slot_count b)
@@ -130,28 +110,28 @@ module _ (pass : Pass) (instant : ℕ) (b other : List ℕ) (i : ℕ) where
       go None h = refl
       go (Some e) h = rw h
 
-  module _ (l : live_slot instant (get_or (decode b).slots i None) ≡ true) {m : ℕ} (h : m ≡ mark_for pass instant (decode other).slots (entry_at (decode b).slots i)) where
+  module _ (l : live_slot instant (get_or (decode b).slots i None) ≡ true) {o : Option ℕ} (h : o ≡ pass_mark pass instant (decode other).slots (entry_at (decode b).slots i)) where
     -- nor has one whose entry gets no mark
-    pub slot_unmarked : m ≡ no_mark → slot_text pass instant b other i ≡ []
+    pub slot_unmarked : o ≡ None → slot_text pass instant b other i ≡ []
     unfolding slot_text line_of listing_of flatten live_slot or_else entry_at
     slot_unmarked z = go (get_or (decode b).slots i None) l (sym h ∙ z)
       where
-        go : (s : Slot) → live_slot instant s ≡ true → mark_for pass instant (decode other).slots (or_else s blank (λ e. e)) ≡ no_mark
+        go : (s : Slot) → live_slot instant s ≡ true → pass_mark pass instant (decode other).slots (or_else s blank (λ e. e)) ≡ None
             → listing_of (line_of instant (pass_mark pass instant (decode other).slots) i s) ≡ []
         go None x q = refl
-        go (Some e) x q = rw (x, mark_none pass instant (decode other).slots e q)
+        go (Some e) x q = rw (x, q)
 
     -- the line of the others
-    pub slot_marked : (m ≡ no_mark → ⊥)
+    pub slot_marked : {m : ℕ} → o ≡ Some m
         → slot_text pass instant b other i ≡ marked m (length (entry_at (decode b).slots i).key) (length (entry_at (decode b).slots i).field) i
-    unfolding slot_text line_of listing_of line_text marked flatten live_slot or_else entry_at mark_for
-    slot_marked d = go (get_or (decode b).slots i None) l h
+    unfolding slot_text line_of listing_of line_text marked flatten live_slot or_else entry_at
+    slot_marked {m} z = go (get_or (decode b).slots i None) l (sym h ∙ z)
       where
-        go : (s : Slot) → live_slot instant s ≡ true → m ≡ mark_for pass instant (decode other).slots (or_else s blank (λ e. e))
+        go : (s : Slot) → live_slot instant s ≡ true → pass_mark pass instant (decode other).slots (or_else s blank (λ e. e)) ≡ Some m
             → listing_of (line_of instant (pass_mark pass instant (decode other).slots) i s)
             ≡ marked m (length (or_else s blank (λ e. e)).key) (length (or_else s blank (λ e. e)).field) i
         go None x q = impossible cc
-        go (Some e) x q = rw (x, given_some (pass_mark pass instant (decode other).slots e) m q d) (append-nil _)
+        go (Some e) x q = rw (x, q) (append-nil _)
 
 -- ---- the lines of the slots from slot i on
 

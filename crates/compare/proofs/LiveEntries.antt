@@ -1,6 +1,7 @@
 -- The slot in which a key and a field are live: what a search says of it.
 use Rattle.std.specs.Prelude.{Option, None, Some}
-use mathlib.Core.Path.{◌≡◌, refl, ap}
+use Rattle.std.specs.Bool.{then_some}
+use mathlib.Core.Path.{◌≡◌, refl, sym, ap}
 use mathlib.Core.Bool.{Bool, true, false, ◌&&◌}
 use mathlib.Core.List.{List}
 use Prim.Native.Nat.{ℕ, ◌<◌}
@@ -85,16 +86,21 @@ module _ (b k f : List ℕ) (instant : ℕ) (w : well_formed b ≡ true) where
     found_inside =
         (w, rw (← length_decode b) (lowest_some (holds k f) (decode b).slots i (found_at (lowest_slot (holds k f) (decode b).slots) i h)).inside)
 
-    pub named_live : live_slot instant (get_or (decode b).slots i None) ≡ true → Some i ≡ live_slot_of instant k f (decode b).slots
-    named_live l = rw (live_only instant k f (decode b).slots i apart (live_both instant k f (get_or (decode b).slots i None) here l))
+    live : live_slot instant (get_or (decode b).slots i None) ≡ true → Some i ≡ (live_slot_of instant k f (decode b).slots)
+    live l = rw (live_only instant k f (decode b).slots i apart (live_both instant k f (get_or (decode b).slots i None) here l))
 
-    pub named_dead_lem : live_slot instant (get_or (decode b).slots i None) ≡ false → None ≡ live_slot_of instant k f (decode b).slots
+    dead : live_slot instant (get_or (decode b).slots i None) ≡ false → None ≡ (live_slot_of instant k f (decode b).slots)
     unfolding live_of
-    named_dead_lem l = rw (live_none instant k f (decode b).slots dead)
+    dead l = rw (live_none instant k f (decode b).slots nowhere)
       where
-        dead : (j : ℕ) → live_of instant k f (get_or (decode b).slots j None) ≡ false
-        dead j = go (holds k f (get_or (decode b).slots j None)) refl
+        nowhere : (j : ℕ) → live_of instant k f (get_or (decode b).slots j None) ≡ false
+        nowhere j = go (holds k f (get_or (decode b).slots j None)) refl
           where
             go : (t : Bool) → holds k f (get_or (decode b).slots j None) ≡ t → (t && live_slot instant (get_or (decode b).slots j None)) ≡ false
             go true q = rw (holds_only k f (decode b).slots apart j i q here) l
             go false q = refl
+
+    -- it is the answer exactly if it is live
+    pub named_live : {t : Bool} → t ≡ live_slot instant (get_or (decode b).slots i None) → then_some t i ≡ (live_slot_of instant k f (decode b).slots)
+    named_live {t = true} h = live (sym h)
+    named_live {t = false} h = dead (sym h)

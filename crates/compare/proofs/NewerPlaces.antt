@@ -2,11 +2,13 @@
 use Rattle.std.specs.Prelude.{Option, None, Some}
 use mathlib.Core.Path.{◌≡◌, refl, sym, ◌∙◌}
 use mathlib.Core.Bool.{Bool, true, false, cond}
-use mathlib.Core.List.{List}
+use mathlib.Core.Logic.{◌⊎◌, inl, inr}
+use mathlib.Core.List.{List, []}
 use Prim.Native.Nat.{ℕ, ◌≤◌, ◌<◌}
 use lib.Dec.{leb}
 use borrow.Author.Tests.{leb-true, leb-false}
 use Rattle.wire.specs.Lists.{or_else}
+use Rattle.wire.specs.Bytes.{part}
 use Rattle.wire.specs.Checks.{first_applying}
 use Rattle.wire.proofs.Lists.{impossible}
 use Rattle.store.specs.Store.{Slot, decode, entry_at}
@@ -17,16 +19,10 @@ use Rattle.compare.specs.declared.Which.TheVariants.{First, Second, Neither, Ref
 use Rattle.compare.specs.Listing.{live_slot_of}
 use Rattle.compare.specs.Newer.{newer_of, newer_slot, place_of, part_at}
 use Rattle.compare.specs.Calls.{checks, newer_in}
-use Rattle.compare.specs.Promises.{slot_in, newer_for}
 use Rattle.compare.proofs.MarkLaws.{live_held}
 use Rattle.compare.proofs.CallChecks.{Passed, passed}
 
 -- ---- what the code finds
-
-slot_found : (o : Option ℕ) → slot_in (o) ≡ o
-unfolding slot_in
-slot_found None = refl
-slot_found (Some i) = refl
 
 module _ (first second k f : List ℕ) (instant : ℕ) where
   pub newer_refused : {n : ℕ} → first_applying (checks first second instant) ≡ Some n → Refused n ≡ newer_in first second k f instant
@@ -34,11 +30,10 @@ module _ (first second k f : List ℕ) (instant : ℕ) where
   newer_refused h = rw h
 
   pub newer_found : {left right : Option ℕ} {r : Which} → Passed first second instant
-      → left ≡ live_slot_of instant k f (decode first).slots → right ≡ live_slot_of instant k f (decode second).slots
-      → r ≡ newer_for (decode first).slots (decode second).slots left right → r ≡ newer_in first second k f instant
-  unfolding newer_in or_else newer_slot newer_for
-  newer_found p l m h =
-      h ∙ rw (p.clear, l, m, slot_found (live_slot_of instant k f (decode first).slots), slot_found (live_slot_of instant k f (decode second).slots))
+      → left ≡ (live_slot_of instant k f (decode first).slots) → right ≡ (live_slot_of instant k f (decode second).slots)
+      → r ≡ newer_of (decode first).slots (decode second).slots left right → r ≡ newer_in first second k f instant
+  unfolding newer_in or_else newer_slot
+  newer_found p l m h = h ∙ rw (p.clear, l, m)
 
 -- ---- what an answer says
 
@@ -110,3 +105,8 @@ module _ (first second k f : List ℕ) (instant : ℕ) where
         → v ≡ part_at first second (place_of first second (newer_in first second k f instant))
     unfolding part_at place_of
     second_shown j h e = e ∙ rw h (sym (value_part (second_held j h)))
+
+pub neither_shown : (first second : List ℕ) (w : Which) → (w ≡ Neither) ⊎ ((n : ℕ) × (w ≡ Refused n)) → [] ≡ part_at first second (place_of first second w)
+unfolding part_at place_of part
+neither_shown first second w (inl h) = rw h
+neither_shown first second w (inr (n, h)) = rw h

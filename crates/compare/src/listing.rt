@@ -5,9 +5,9 @@ ghost use Rattle.store.specs.Store.{decode, well_formed, entry_at};
 ghost use Rattle.store.specs.Promises.{Held};
 ghost use Rattle.compare.specs.Listing.{listing};
 ghost use Rattle.compare.specs.Calls.{compare};
-ghost use Rattle.compare.specs.Promises.{HeldIn, first_mark_for, second_mark_for, mark_for, slot_text, pass_text};
+ghost use Rattle.compare.specs.Promises.{HeldIn, first_mark_for, second_mark_for, pass_mark, slot_text, pass_text, compared_of};
 
-use crate::check::refusal;
+use crate::check::{Refusal, check_call};
 use crate::line::put_line;
 use crate::live::{agree, live_near};
 use crate::{Compared, Pass};
@@ -16,9 +16,7 @@ use store::read;
 // The least size of an output.
 pub const OUTPUT_LEAST: usize = 16000;
 
-// How a line begins; no line begins with 0.
-const NO_MARK: u8 = 0;
-
+// How a line begins.
 const ONLY_FIRST: u8 = b'<';
 
 const ONLY_SECOND: u8 = b'>';
@@ -26,33 +24,32 @@ const ONLY_SECOND: u8 = b'>';
 const DIFFERENT: u8 = b'~';
 
 // The mark of an entry of the first store, whose key and field were looked for in the second.
-fn first_mark(first: &[u8], i: usize, second: &[u8], found: Option<usize>) -> u8
+fn first_mark(first: &[u8], i: usize, second: &[u8], found: Option<usize>) -> Option<u8>
     requires { (Held first.now i) × (HeldIn second.now found) }
     ensures { result ≡ first_mark_for (entry_at (decode first.now).slots i) (decode second.now).slots found }
 {
-    let Some(j) = found else {
-        return ONLY_FIRST;
-    };
-    if agree(first, i, second, j) {
-        return NO_MARK;
+    match found {
+        None => Some(ONLY_FIRST),
+        Some(j) if agree(first, i, second, j) => None,
+        Some(_) => Some(DIFFERENT),
     }
-    DIFFERENT
 }
 
 // The mark of an entry of the second store, whose key and field were looked for in the first.
-fn second_mark(found: Option<usize>) -> u8
+#[tactic(auto, unfolding(wire::specs::Lists::or_else))]
+fn second_mark(found: Option<usize>) -> Option<u8>
     ensures { result ≡ second_mark_for found }
 {
     match found {
-        Some(_) => NO_MARK,
-        None => ONLY_SECOND,
+        Some(_) => None,
+        None => Some(ONLY_SECOND),
     }
 }
 
 // The mark of the entry in slot i of a store beside the other.
-fn mark_of(pass: Pass, store: &[u8], i: usize, other: &[u8], instant: u64) -> u8
+fn mark_of(pass: Pass, store: &[u8], i: usize, other: &[u8], instant: u64) -> Option<u8>
     requires { (Held store.now i) × (well_formed other.now ≡ true) }
-    ensures { result ≡ mark_for pass instant (decode other.now).slots (entry_at (decode store.now).slots i) }
+    ensures { result ≡ pass_mark pass instant (decode other.now).slots (entry_at (decode store.now).slots i) }
 {
     let found = live_near(
         other,
@@ -76,10 +73,9 @@ fn put_slot(pass: Pass, store: &[u8], i: usize, other: &[u8], instant: u64, out:
     if !read::is_live(store, i, instant) {
         return 0;
     }
-    let mark = mark_of(pass, store, i, other, instant);
-    if mark == NO_MARK {
+    let Some(mark) = mark_of(pass, store, i, other, instant) else {
         return 0;
-    }
+    };
     put_line(
         mark,
         read::key(store, i).len(),
@@ -95,12 +91,9 @@ fn put_lines(pass: Pass, store: &[u8], other: &[u8], instant: u64, out: &mut [u8
     requires other_in_bounds { length (pass_text pass instant store.now other.now) ≤ length out.old }
     ensures { Laid (pass_text pass instant store.now other.now) out.old out.new result }
 {
-    let count = read::slots(store);
     let mut at = 0;
-    let mut i = 0;
-    while i < count {
-        at = put_slot(pass, store, i, other, instant, &mut out[at..]) + at;
-        i += 1;
+    for i in 0..read::slots(store) {
+        at += put_slot(pass, store, i, other, instant, &mut out[at..]);
     }
     at
 }
@@ -116,27 +109,31 @@ fn put_listing(first: &[u8], second: &[u8], instant: u64, out: &mut [u8]) -> usi
     put_lines(Pass::Second, second, first, instant, &mut out[at..]) + at
 }
 
+// The listing's length, or why the call is refused.
+fn list(first: &[u8], second: &[u8], instant: u64, out: &mut [u8]) -> Result<usize, Refusal>
+    ensures { record { compared = compared_of result; output = out.new }
+        ≡ compare first.now second.now instant out.old }
+{
+    check_call(first, second, instant)?;
+    if out.len() < OUTPUT_LEAST {
+        return Err(Refusal::OutputShort);
+    }
+    Ok(put_listing(first, second, instant, out))
+}
+
 // The listing's call. It asks nothing: damage is refused by number.
 pub fn compare(first: &[u8], second: &[u8], instant: u64, out: &mut [u8]) -> Compared
     ensures { record { compared = result; output = out.new }
         ≡ compare first.now second.now instant out.old }
 {
-    let number = refusal(first, second, instant);
-    if number != 0 {
-        return Compared {
-            refusal: number,
+    match list(first, second, instant, out) {
+        Ok(written) => Compared {
+            refusal: 0,
+            written,
+        },
+        Err(refusal) => Compared {
+            refusal: refusal.number(),
             written: 0,
-        };
-    }
-    if out.len() < OUTPUT_LEAST {
-        return Compared {
-            refusal: 3,
-            written: 0,
-        };
-    }
-    let written = put_listing(first, second, instant, out);
-    Compared {
-        refusal: 0,
-        written,
+        },
     }
 }

@@ -1,19 +1,18 @@
 use mathlib.Core.Path.{sym, ◌∙◌}
-use Rattle.compare.specs.Promises.{first_mark_for}
+use Rattle.wire.specs.Lists.{only_if, or_else}
 use Rattle.compare.proofs.listing.first_mark.Goals as goal
 
-pub returns-in_default : goal.returns-in_default
-unfolding first_mark_for
-returns-in_default c = rw c.in_default.is
-
 pub agree-requires : goal.agree-requires
-agree-requires c =
-    (c.requires.0, c.requires.1 _ c.in-Some.is)
+agree-requires c = (c.requires.0, c.requires.1 _ c.in-Some.is)
 
-pub returns-then-agree : goal.returns-then-agree
-unfolding first_mark_for
-returns-then-agree c = rw (c.in-Some.is, sym c.agree.ensures ∙ c.if-agree.true)
+pub returns-in-None : goal.returns-in-None
+unfolding or_else
+returns-in-None c = rw c.in-None.is
 
-pub returns : goal.returns
-unfolding first_mark_for
-returns c = rw (c.in-Some.is, sym c.agree.ensures ∙ c.if-agree.false)
+pub returns-in-Some : goal.returns-in-Some
+unfolding or_else only_if
+returns-in-Some c = rw (c.in-Some.is, sym c.agree.ensures ∙ c.if-agree.true)
+
+pub returns-in-Some-2 : goal.returns-in-Some-2
+unfolding or_else only_if
+returns-in-Some-2 c = rw (c.in-Some.is, sym c.agree.ensures ∙ c.if-agree.false)

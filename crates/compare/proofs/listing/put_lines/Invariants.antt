@@ -1,5 +1,4 @@
 use mathlib.Core.Path.{◌≡◌}
-use Prim.Native.Nat.{◌-◌}
 use lib.ListN.{length}
 use Rattle.wire.proofs.Elements.{Going}
 use Rattle.store.specs.Store.{decode}
@@ -7,10 +6,7 @@ use Rattle.compare.specs.Promises.{pass_text}
 use Rattle.compare.proofs.LineTexts.{rest_text}
 use Rattle.compare.proofs.listing.put_lines.Given as goal
 
--- What is left does the same; the measure is how many slots are left.
+-- What is left does the same.
 abbrev pub invariant-loop-i : goal.invariant-loop-i
 invariant-loop-i l =
-    Going (pass_text l.pass l.instant l.store l.other) (rest_text l.pass l.instant l.store l.other l.i) l.initial.out l.out l.at × (l.count ≡ length (decode l.store).slots)
-
-abbrev pub decreases-loop-i : goal.decreases-loop-i
-decreases-loop-i l = l.count - l.i
+    Going (pass_text l.pass l.instant l.store l.other) (rest_text l.pass l.instant l.store l.other l.i) l.initial.out l.out l.at × (l.i-end ≡ length (decode l.store).slots)

@@ -1,23 +1,20 @@
-use mathlib.Core.Path.{sym, ◌∙◌}
-use borrow.Author.Tests.{not-true, not-false}
-use Rattle.store.specs.Store.{decode, entry_at}
-use Rattle.compare.proofs.MarkLaws.{other_value, other_version, same_version}
+use mathlib.Core.Path.{refl, sym, ◌∙◌}
+use mathlib.Core.Bool.{true, false}
+use Rattle.wire.proofs.Lists.{both_ways}
+use Rattle.compare.proofs.MarkLaws.{agree_by}
+use Rattle.compare.proofs.live.agree.Goals.{then-equal, else-equal}
 use Rattle.compare.proofs.live.agree.Goals as goal
-
--- the values are compared as the code reads them
-pub returns-then-not-equal : goal.returns-then-not-equal
-returns-then-not-equal c =
-    other_value (entry_at (decode c.args.first.now).slots c.args.i) (entry_at (decode c.args.second.now).slots c.args.j)
-    (rw (← c.value.ensures, ← c.value-2.ensures) (sym c.equal.ensures ∙ not-true _ c.if-not-equal.true-raw))
 
 pub returns-then-version : goal.returns-then-version
 returns-then-version c =
-    other_version (entry_at (decode c.args.first.now).slots c.args.i) (entry_at (decode c.args.second.now).slots c.args.j)
-    (rw (← c.value.ensures, ← c.value-2.ensures) (sym c.equal.ensures ∙ not-false _ c.if-not-equal.false-raw))
-    c.version.ensures c.version-2.ensures c.if-version.true
+    elim c.if-equal.branch [
+      | then-equal w ↦ agree_by _ _ true true (rw (← c.value.ensures, ← c.value-2.ensures) (sym c.equal.ensures ∙ w.if-equal.true)) w.version.ensures w.version-then-equal.ensures (sym w.value-is ∙ c.if-version.true) (rw (← c.expiry.ensures, ← c.expiry-then-version.ensures) c.eq.ensures)
+      | else-equal w ↦ both_ways c.if-version.true (w.value-is ∙ w.if-equal.false)
+    ]
 
-pub returns : goal.returns
-returns c =
-    same_version (entry_at (decode c.args.first.now).slots c.args.i) (entry_at (decode c.args.second.now).slots c.args.j)
-    (rw (← c.value.ensures, ← c.value-2.ensures) (sym c.equal.ensures ∙ not-false _ c.if-not-equal.false-raw))
-    c.version.ensures c.version-2.ensures c.if-version.false (rw (← c.expiry.ensures, ← c.expiry-2.ensures) c.same_expiry.ensures)
+pub returns-else-version : goal.returns-else-version
+returns-else-version c =
+    elim c.if-equal.branch [
+      | then-equal w ↦ c.if-version.false ∙ agree_by _ _ true false (rw (← c.value.ensures, ← c.value-2.ensures) (sym c.equal.ensures ∙ w.if-equal.true)) w.version.ensures w.version-then-equal.ensures (sym w.value-is ∙ c.if-version.false) refl
+      | else-equal w ↦ c.if-version.false ∙ agree_by _ _ false _ (rw (← c.value.ensures, ← c.value-2.ensures) (sym c.equal.ensures ∙ w.if-equal.false)) refl refl refl refl
+    ]
