@@ -25,23 +25,24 @@ pub fn look(bytes: &mut [u8], key: &[u8], field: &[u8], time: u64) -> Option<usi
     None
 }
 
-// Removes the dead entries of a key and some fields, each the first of STEP words. The slot that each has is kept as a hint, a missing one's is any.
+// Removes the dead entries of a key and some fields, each the first of STEP words, and answers hints: the slot that each has, any where it is missing.
 pub fn sweep<const STEP: usize>(
     command: &[u8],
     places: &[[usize; 2]],
     bytes: &mut [u8],
     key: &[u8],
     time: u64,
-    hints: &mut [usize; WORDS_MOST],
-)
+) -> [usize; WORDS_MOST]
     requires { (Inside command.now places.now) × (well_formed bytes.old ≡ true) × (1 ≤ STEP) }
     ensures { let fs = each_first STEP (words_in command.now places.now) in
         Holds bytes.new (swept time key.now fs (decode bytes.old)) }
 {
+    let mut hints = [0; WORDS_MOST];
     for i in 0..places.len() / STEP {
         let found = look(bytes, key, word(command, places, STEP * i), time);
         hints[i] = found.unwrap_or(0);
     }
+    hints
 }
 
 // The slot for an entry: its own, else the lowest empty one, else the lowest dead one.

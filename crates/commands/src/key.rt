@@ -77,8 +77,7 @@ fn get_many(
     ensures { let c = get_many key.now (words_in command.now fields.now) question in
         Does (run_on time c (decode bytes.old)) bytes.new out.old out.new result }
 {
-    let mut hints = [0; WORDS_MOST];
-    sweep::<1>(command, fields, bytes, key, time, &mut hints);
+    let hints = sweep::<1>(command, fields, bytes, key, time);
     let at = put_header(fields.len() as u64, out);
     let asking = Asking { question, time };
     put_answers(command, fields, bytes, asking, key, &hints, &mut out[at..]) + at
@@ -129,8 +128,7 @@ fn delete(
     ensures { let c = delete key.now (words_in command.now fields.now) in
         Does (run_on time c (decode bytes.old)) bytes.new out.old out.new result }
 {
-    let mut hints = [0; WORDS_MOST];
-    sweep::<1>(command, fields, bytes, key, time, &mut hints);
+    let hints = sweep::<1>(command, fields, bytes, key, time);
     let n = remove_fields(command, fields, bytes, key, &hints);
     put_number(n, out)
 }

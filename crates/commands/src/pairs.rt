@@ -143,8 +143,7 @@ pub fn set_many(
     ensures { let c = set_many key.now (pairs_of (words_in command.now pairs.now)) in
         Does (run_on time c (decode bytes.old)) bytes.new out.old out.new result }
 {
-    let mut hints = [0; WORDS_MOST];
-    sweep::<2>(command, pairs, bytes, key, time, &mut hints);
+    let hints = sweep::<2>(command, pairs, bytes, key, time);
     let survey = survey_pairs(command, pairs, bytes, key, &hints);
     match survey {
         Err(refusal) => put_error(refusal, out),
