@@ -86,10 +86,10 @@ module _ (b k f : List ℕ) (instant : ℕ) (w : well_formed b ≡ true) where
     found_inside =
         (w, rw (← length_decode b) (lowest_some (holds k f) (decode b).slots i (found_at (lowest_slot (holds k f) (decode b).slots) i h)).inside)
 
-    live : live_slot instant (get_or (decode b).slots i None) ≡ true → Some i ≡ (live_slot_of instant k f (decode b).slots)
+    live : live_slot instant (get_or (decode b).slots i None) ≡ true → Some i ≡ live_slot_of instant k f (decode b).slots
     live l = rw (live_only instant k f (decode b).slots i apart (live_both instant k f (get_or (decode b).slots i None) here l))
 
-    dead : live_slot instant (get_or (decode b).slots i None) ≡ false → None ≡ (live_slot_of instant k f (decode b).slots)
+    dead : live_slot instant (get_or (decode b).slots i None) ≡ false → None ≡ live_slot_of instant k f (decode b).slots
     unfolding live_of
     dead l = rw (live_none instant k f (decode b).slots nowhere)
       where
@@ -101,6 +101,6 @@ module _ (b k f : List ℕ) (instant : ℕ) (w : well_formed b ≡ true) where
             go false q = refl
 
     -- it is the answer exactly if it is live
-    pub named_live : {t : Bool} → t ≡ live_slot instant (get_or (decode b).slots i None) → then_some t i ≡ (live_slot_of instant k f (decode b).slots)
+    pub named_live : {t : Bool} → t ≡ live_slot instant (get_or (decode b).slots i None) → then_some t i ≡ live_slot_of instant k f (decode b).slots
     named_live {t = true} h = live (sym h)
     named_live {t = false} h = dead (sym h)

@@ -30,7 +30,7 @@ module _ (first second k f : List ℕ) (instant : ℕ) where
   newer_refused h = rw h
 
   pub newer_found : {left right : Option ℕ} {r : Which} → Passed first second instant
-      → left ≡ (live_slot_of instant k f (decode first).slots) → right ≡ (live_slot_of instant k f (decode second).slots)
+      → left ≡ live_slot_of instant k f (decode first).slots → right ≡ live_slot_of instant k f (decode second).slots
       → r ≡ newer_of (decode first).slots (decode second).slots left right → r ≡ newer_in first second k f instant
   unfolding newer_in or_else newer_slot
   newer_found p l m h = h ∙ rw (p.clear, l, m)
