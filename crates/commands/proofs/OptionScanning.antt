@@ -288,6 +288,11 @@ flag_some a false = refl
 
 pub ruleset given_rules = (mapped_some, flag_some)
 
+-- to compute with an option in the place of its group
+unfoldable pub placing : Unit {0}
+unfolding kind_meant group operand_range given_by
+placing = tt
+
 map_none : (o : Option (List Given)) → o ≡ option_map (λ more. [] ++ more) o
 map_none None = refl
 map_none (Some gs) = refl

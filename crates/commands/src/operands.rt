@@ -4,7 +4,8 @@ ghost use Rattle.wire.specs.Promises.{words_in, Inside};
 ghost use Rattle.store.specs.Layout.{time_limit};
 ghost use Rattle.commands.specs.Options.{expiry_group, version_group};
 ghost use Rattle.commands.specs.Parse.{is_zero, beyond};
-ghost use Rattle.commands.specs.ParsePromises.{expiry_given, version_given, given_at, by_number, terms_for, instant_in, timed_for, versioned_for, bound_for, sum_of};
+ghost use Rattle.commands.specs.ParsePromises.{expiry_given, version_given, given_at};
+ghost use Rattle.commands.specs.ParsePromises.{by_number, terms_for, instant_in, timed_for, versioned_for, bound_for, sum_of};
 
 use crate::options::{ExpiryOption, ScannedOptions, VersionGiven};
 use crate::refusal::Refusal;

@@ -65,7 +65,7 @@ fn option_at(
 }
 
 // Whether an option of the same group was given.
-#[tactic(auto, using(crate::proofs::OptionScanning::given_rules), unfolding(crate::specs::TablePromises::kind_meant, crate::specs::Options::group))]
+#[tactic(auto, using(crate::proofs::OptionScanning::given_rules), unfolding(crate::proofs::OptionScanning::placing))]
 fn is_given(options: ScannedOptions, kind: OptionKind) -> bool
     ensures { (ws : List Word) → result ≡ is_some (given_at ws options (group (kind_meant kind))) }
 {
@@ -80,43 +80,23 @@ fn is_given(options: ScannedOptions, kind: OptionKind) -> bool
 }
 
 // One option more, the number of its last word with it.
-#[tactic(auto, unfolding(crate::specs::TablePromises::kind_meant, crate::specs::Options::group, crate::specs::Options::operand_range, crate::specs::ParsePromises::given_by))]
-fn give(options: ScannedOptions, kind: OptionKind, last: usize) -> ScannedOptions
-    ensures { WithOption options kind last result }
+#[tactic(auto, unfolding(crate::proofs::OptionScanning::placing))]
+fn give(options: &mut ScannedOptions, kind: OptionKind, last: usize)
+    ensures { WithOption options.old kind last options.new }
 {
-    let mut options = options;
     match kind {
-        OptionKind::Expires(unit) => {
-            options.expiry = Some(ExpiryOption::Expires(unit, last));
-            options
-        },
-        OptionKind::KeepTtl => {
-            options.expiry = Some(ExpiryOption::KeepTtl);
-            options
-        },
-        OptionKind::Only(condition) => {
-            options.condition = Some(condition);
-            options
-        },
+        OptionKind::Expires(unit) => options.expiry = Some(ExpiryOption::Expires(unit, last)),
+        OptionKind::KeepTtl => options.expiry = Some(ExpiryOption::KeepTtl),
+        OptionKind::Only(condition) => options.condition = Some(condition),
         OptionKind::Versioned(option) => {
             options.version = Some(VersionGiven {
                 option,
                 operand: last,
-            });
-            options
+            })
         },
-        OptionKind::Min => {
-            options.min = Some(last);
-            options
-        },
-        OptionKind::Max => {
-            options.max = Some(last);
-            options
-        },
-        OptionKind::NoExp => {
-            options.no_exp = true;
-            options
-        },
+        OptionKind::Min => options.min = Some(last),
+        OptionKind::Max => options.max = Some(last),
+        OptionKind::NoExp => options.no_exp = true,
     }
 }
 
@@ -144,7 +124,7 @@ pub fn scan(
         if is_given(options, found.kind) {
             return Err(Refusal::Syntax);
         }
-        options = give(options, found.kind, found.last);
+        give(&mut options, found.kind, found.last);
         i = found.last + 1;
     }
     Ok(options)

@@ -22,7 +22,7 @@ pub overflow_add-i : goal.overflow_add-i
 overflow_add-i c = omega (arith, c.in_ok-found.ensures.inside, length_words c.args.command.now c.args.places.now, c.requires.most)
 
 pub loop-i-preserved : goal.loop-i-preserved
-loop-i-preserved c = scanning_on c.loop-i.invariant c.in_ok-found.ensures (sym c.if-is_given.false ∙ c.is_given.ensures _) _ c.give-options.ensures
+loop-i-preserved c = scanning_on c.loop-i.invariant c.in_ok-found.ensures (sym c.if-is_given.false ∙ c.is_given.ensures _) _ c.give.ensures
 
 pub returns : goal.returns
 returns c = scanning_ends c.loop-i.invariant (length_words _ _) c.loop-i-test.false
