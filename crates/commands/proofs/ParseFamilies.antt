@@ -39,7 +39,7 @@ use Rattle.commands.specs.Parse.{Form, allowed, option_words, number_range, pair
 use Rattle.commands.specs.Parse.Form.{set_form, set_many_form, increment_form, expire_form, persist_form, renumber_form, ask_form, get_many_form, delete_form, count_form, list_form}
 use Rattle.commands.specs.Parse.Parsed.{accepted}
 use Rattle.commands.specs.TablePromises.{unit_meant}
-use Rattle.commands.specs.ParsePromises.{given_at, instant_in, read_of, by_number, versioned_for, terms_for, on_integer, sum_for, lowest_signed, highest_signed, bound_for, sum_of, parse_rest, deed_of, command_for, meant}
+use Rattle.commands.specs.ParsePromises.{given_at, instant_in, read_of, by_number, versioned_for, terms_for, sum_for, lowest_signed, highest_signed, bound_for, sum_of, parse_rest, deed_of, command_for, meant}
 use Rattle.commands.proofs.OperandWords.{instant_read}
 use Rattle.commands.proofs.OptionScanning.{flag_some}
 use Rattle.commands.proofs.Parsing.{given_in, unclean, all_read, rest_16, rest_17, rest_18, rest_said, Takes, Ready, version_said, version_refused, terms_refused, terms_said, condition_said, condition_read, no_exp_read, has_read, integer_read, integer_value, bound_readable, bound_said}
@@ -74,7 +74,7 @@ module _ (time : ℕ) {ws : List Word} {r : ScannedOptions} (y : Ready set_form 
 -- ---- EXHINCRBY
 
 sum_refused : (a l g : Option Signed) {n : Refusal} → sum_for a l g ≡ Err n → (has_read a && (has_read l && has_read g) ≡ false) × (n ≡ NotInteger)
-unfolding sum_for on_integer has_read
+unfolding sum_for has_read
 sum_refused (Some x) (Some y) (Some z) e = impossible cc
 sum_refused (Some x) (Some y) None e = (refl, cc)
 sum_refused (Some x) None g e = (refl, cc)
@@ -82,7 +82,7 @@ sum_refused None l g e = (refl, cc)
 
 pub sum_value : (a l g : Option Signed) (s : Sum) → sum_for a l g ≡ Ok s
     → (a ≡ Some s.amount) × (l ≡ Some s.least) × (g ≡ Some s.greatest)
-unfolding sum_for on_integer
+unfolding sum_for
 sum_value (Some x) (Some y) (Some z) s e =
     let q : ◌≡◌ {A = Sum} (record { amount = x; least = y; greatest = z }) s = cc in
     (rw (← q), rw (← q), rw (← q))
@@ -92,20 +92,20 @@ sum_value None l g s e = impossible cc
 
 -- what the code answers at each of the three
 pub sum_0 : (a l g : Option Signed) → a ≡ None → Err NotInteger ≡ sum_for a l g
-unfolding sum_for on_integer
+unfolding sum_for
 sum_0 a l g e = rw e
 
 pub sum_1 : (a l g : Option Signed) (x : Signed) → a ≡ Some x → l ≡ None → Err NotInteger ≡ sum_for a l g
-unfolding sum_for on_integer
+unfolding sum_for
 sum_1 a l g x e f = rw (e, f)
 
 pub sum_2 : (a l g : Option Signed) (x y : Signed) → a ≡ Some x → l ≡ Some y → g ≡ None → Err NotInteger ≡ sum_for a l g
-unfolding sum_for on_integer
+unfolding sum_for
 sum_2 a l g x y e f h = rw (e, f, h)
 
 pub sum_3 : (a l g : Option Signed) (x y z : Signed) → a ≡ Some x → l ≡ Some y → g ≡ Some z
     → Ok (record { amount = x; least = y; greatest = z }) ≡ sum_for a l g
-unfolding sum_for on_integer
+unfolding sum_for
 sum_3 a l g x y z e f h = rw (e, f, h)
 
 -- a test that fails among five

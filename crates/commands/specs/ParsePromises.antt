@@ -1,5 +1,5 @@
 -- What the functions that parse a command ask and answer, in the terms of the other definitions.
-use Rattle.std.specs.Prelude.{Option, None, Some, option_map, unwrap_or, is_some, Result, Ok, Err}
+use Rattle.std.specs.Prelude.{Option, None, Some, option_map, option_and_then, unwrap_or, is_some, Result, Ok, Err, ok_or}
 use Rattle.std.specs.Prelude.{◌≡◌, Bool, true, false, cond, not, ◌&&◌, ◌||◌, List, [], ◌∷◌, ℕ, ◌+◌, ◌*◌, ◌≤◌, ◌<◌, ltb, eqb, length, drop, get_or, set}
 use Rattle.wire.specs.Lists.{any, or_else}
 use Rattle.wire.specs.Integers.{read_integer, lowest64, highest64}
@@ -161,17 +161,11 @@ terms_for time x y = or_else (first_applying (term_checks time x y)) (Ok (record
 unfoldable pub bound_for : Signed → List Word → Option ℕ → Option Signed
 bound_for unbounded ws x = or_else x (Some unbounded) (λ n. option_map signed_for (read_integer lowest64 highest64 (word_at n ws)))
 
--- what is done with an integer that was read, and where none was
-unfoldable pub on_integer : Option Signed → Result Sum Refusal → (Signed → Result Sum Refusal) → Result Sum Refusal
-on_integer (Some z) b f = f z
-on_integer None b f = b
-
 -- what EXHINCRBY adds and its bounds, where all three are integers
 unfoldable pub sum_for : Option Signed → Option Signed → Option Signed → Result Sum Refusal
 sum_for a l g =
-    on_integer a (Err refusals.NotInteger) λ x.
-    on_integer l (Err refusals.NotInteger) λ y.
-    on_integer g (Err refusals.NotInteger) λ z. Ok (record { amount = x; least = y; greatest = z })
+    let bounded : Signed → Signed → Option Sum = λ x y. option_map (λ z. record { amount = x; least = y; greatest = z }) g in
+    ok_or (option_and_then (λ x. option_and_then (bounded x) l) a) refusals.NotInteger
 
 -- the ends of signed 64 bits, as sign and magnitude
 abbrev pub lowest_signed : Signed
