@@ -1,14 +1,15 @@
 -- The scan of the options, one option after the other.
 use Rattle.std.specs.List.{list_any}
 use Rattle.std.specs.Prelude.{Option, None, Some, option_map, is_some, Ok, Err}
-use mathlib.Core.Path.{◌≡◌, refl, sym, ap, ◌∙◌}
+use mathlib.Core.Path.{◌≡◌, refl, sym, ap, subst, ◌∙◌}
 use mathlib.Core.Bool.{Bool, true, false, cond, not, ◌||◌}
 use mathlib.Core.List.{List, [], ◌∷◌, ◌++◌, append_assoc, append-nil}
 use Prim.Native.Nat.{ℕ, suc, ◌+◌, ◌≤◌, ◌<◌}
+use native.Mathlib.Numerals.{add-one}
 use native.Mathlib.Omega.{arith}
 use borrow.Author.Tests.{not-true, not-false, eq-eqb, eqb-true, eqb-false}
 use lib.Dec.{eqb}
-use lib.ListN.{length, get_or, drop, set, replicate, length-set, get_or-replicate, drop_of_length-le}
+use lib.ListN.{length, get_or, drop, set, get_or-replicate, drop_of_length-le}
 use lib.Seq.{drop-cons, get_or-set_same, get_or-set_other}
 use Rattle.wire.specs.Lists.{any, only_if, or_else}
 use Rattle.wire.specs.Words.{Word, word_at}
@@ -18,13 +19,13 @@ use Rattle.wire.proofs.ByteLaws.{eqb_sym}
 use Rattle.wire.proofs.WordPlaces.{next_end, next_at}
 use Rattle.commands.specs.declared.refusal.Refusal.{Refusal}
 use Rattle.commands.specs.declared.refusal.Refusal.TheVariants.{Syntax}
-use Rattle.commands.specs.declared.options.Given as given
-use Rattle.commands.specs.declared.options.ScannedOptions as code
+use Rattle.commands.specs.declared.options.ScannedOptions as scanned
 use Rattle.commands.specs.Options.{OptionKind, Range, Given, ◌with◌, options, group, group_count, operand_range, option_named, scan, conflicting, given_of}
-use Rattle.commands.specs.declared.table.OptionRow.{OptionRow}
-use Rattle.commands.specs.TablePromises.{kind_in, said_of, option_said, option_table, option_of}
-use Rattle.commands.specs.ParsePromises.{numbered, option_given, given_at, FoundOption, Scanned}
-use Rattle.commands.proofs.TableRows.{meant, option_row, option_number, row_kind, row_below}
+use Rattle.commands.specs.declared.table.OptionKind as kind
+use Rattle.commands.specs.declared.table.OptionKind.TheVariants as kinds
+use Rattle.commands.specs.TablePromises.{kind_meant, option_table, option_of}
+use Rattle.commands.specs.ParsePromises.{given_by, given_list, given_at, WithOption, FoundOption, Scanned}
+use Rattle.commands.proofs.TableRows.{meant, option_row}
 
 -- ---- the groups that are allowed
 
@@ -165,118 +166,132 @@ module _ (al : List ℕ) (ws : List Word) (i : ℕ) (l : i < length ws) where
 abbrev kind_of : ℕ → OptionKind
 kind_of k = (option_of k).kind
 
--- a word names option k, whose row the code found
-record Naming (w : Word) (o : OptionRow) : Type 0 where
+-- a word names option k, which the code found
+record Naming (w : Word) (o : kind.OptionKind) : Type 0 where
   k : ℕ
   number : row_named option_table w ≡ Some k
-  said : option_said (option_of k) ≡ o
+  said : kind_meant o ≡ kind_of k
 
 module _ (ws : List Word) (allowed : List ℕ) (i : ℕ) {count : ℕ} (size : length ws ≡ count) (l : i < count)
-    {w : Word} (ew : w ≡ word_at i ws) {row : Option OptionRow} (er : row ≡ option_map (λ k. option_said (option_of k)) (row_named option_table w)) where
+    {w : Word} (ew : w ≡ word_at i ws) (row : Option kind.OptionKind) (er : option_map kind_meant row ≡ option_map kind_of (row_named option_table w)) where
   inside : i < length ws
   inside = omega arith
 
-  found_so : {r : Option OptionRow} → row ≡ r → option_map (λ k. option_said (option_of k)) (row_named option_table (word_at i ws)) ≡ r
-  found_so h = rw ew at (sym er ∙ h)
+  found_so : {r : Option kind.OptionKind} → row ≡ r → option_map kind_of (row_named option_table (word_at i ws)) ≡ option_map kind_meant r
+  found_so h = rw ew at (sym er ∙ ap (option_map kind_meant) h)
 
   -- it names no option
   pub option_unknown : row ≡ None → scan allowed None (drop i ws) ≡ None
   unfolding or_else
   option_unknown h = none_here allowed ws i inside (option_row (word_at i ws) allowed ∙ go (row_named option_table (word_at i ws)) (found_so h))
     where
-      go : (r : Option ℕ) → option_map (λ k. option_said (option_of k)) r ≡ None → or_else r None (λ k. meant (word_at i ws) allowed (option_of k)) ≡ None
+      go : (r : Option ℕ) → option_map kind_of r ≡ None → or_else r None (λ k. meant (word_at i ws) allowed (option_of k)) ≡ None
       go None q = refl
       go (Some k) q = impossible cc
 
   -- it names an option
-  module _ (o : OptionRow) (h : row ≡ Some o) where
+  module _ (o : kind.OptionKind) (h : row ≡ Some o) where
     naming : Naming (word_at i ws) o
     naming = go (row_named option_table (word_at i ws)) refl (found_so h)
       where
-        go : (r : Option ℕ) → row_named option_table (word_at i ws) ≡ r → option_map (λ k. option_said (option_of k)) r ≡ Some o → Naming (word_at i ws) o
+        go : (r : Option ℕ) → row_named option_table (word_at i ws) ≡ r → option_map kind_of r ≡ Some (kind_meant o) → Naming (word_at i ws) o
         go None e q = impossible cc
         go (Some k) e q = record { k = k; number = e; said = cc }
 
-    abbrev kind : OptionKind
-    kind = kind_of naming.k
+    abbrev m : OptionKind
+    m = kind_meant o
 
-    parts : (o.group ≡ group kind) × (o.said ≡ said_of kind) × (o.operand ≡ is_some (operand_range kind))
-    unfolding option_said
-    parts = (ap (λ r. r.group) (sym naming.said), ap (λ r. r.said) (sym naming.said), ap (λ r. r.operand) (sym naming.said))
-
-    below : o.group < group_count
-    below = omega (arith, parts.0, row_below naming.k (option_number (word_at i ws) refl naming.k naming.number))
-
-    named_so : option_named options allowed (word_at i ws) ≡ only_if (any (eqb o.group) allowed) kind
+    named_so : option_named options allowed (word_at i ws) ≡ only_if (any (eqb (group m)) allowed) m
     unfolding or_else
-    named_so = option_row (word_at i ws) allowed ∙ (rw naming.number) ∙ ap (λ g. only_if (any (eqb g) allowed) kind) (sym parts.0)
+    named_so = option_row (word_at i ws) allowed ∙ (rw naming.number) ∙ ap (λ (n : OptionKind). only_if (any (eqb (group n)) allowed) n) (sym naming.said)
 
-    module _ {t : Bool} (et : t ≡ any (eqb o.group) allowed) where
+    module _ {g : ℕ} (eg : g ≡ group m) {t : Bool} (et : t ≡ any (eqb g) allowed) where
+      taken_so : any (eqb (group m)) allowed ≡ t
+      taken_so = rw (← eg) (sym et)
+
       -- of a group that is not allowed
       pub option_barred : not t ≡ true → scan allowed None (drop i ws) ≡ None
       unfolding only_if
-      option_barred z = none_here allowed ws i inside (named_so ∙ rw (← et, not-true t z))
+      option_barred z = none_here allowed ws i inside (named_so ∙ rw (taken_so, not-true t z))
 
       -- of one that is
-      module _ (a : not t ≡ false) where
-        known_so : option_named options allowed (word_at i ws) ≡ Some kind
+      module _ (a : not t ≡ false) {b : Bool} (eb : b ≡ is_some (operand_range m)) where
+        known_so : option_named options allowed (word_at i ws) ≡ Some m
         unfolding only_if
-        known_so = named_so ∙ rw (← et, not-false t a)
-
-        -- its last word is there
-        ends_at : (last : ℕ) → i ≤ last → last < count
-            → scan allowed None (drop i ws) ≡ option_map (λ gs. kind with cond (is_some (operand_range kind)) (word_at last ws) [] ∷ gs) (scan allowed None (drop (last + 1) ws))
-            → FoundOption ws allowed i o.group o.said last
-        unfolding numbered
-        ends_at last b n e =
-            let same : kind_in o.group o.said ≡ kind = cc (parts.0, parts.1, row_kind naming.k) in
-            record {
-              left = rw same e;
-              member = rw same (sym parts.0);
-              grouped = below;
-              after = b;
-              inside = omega arith;
-            }
+        known_so = named_so ∙ rw (taken_so, not-false t a)
 
         -- it takes no operand
-        pub option_bare : not o.operand ≡ true → FoundOption ws allowed i o.group o.said i
-        option_bare z = ends_at i (omega arith) l (scan_alone allowed ws i inside kind known_so (sym parts.2 ∙ not-true o.operand z))
+        pub option_bare : not b ≡ true → FoundOption ws allowed i o i
+        unfolding given_by
+        option_bare z =
+            record {
+              left = scan_alone allowed ws i inside m known_so (sym eb ∙ not-true b z);
+              after = omega arith;
+              inside = inside;
+            }
 
         -- it takes one; the code looked for the word after it
-        module _ (z : not o.operand ≡ false) {next : Option ℕ} (ee : next ≡ next_of count (i + 1)) where
+        module _ (z : not b ≡ false) {next : Option ℕ} (ee : next ≡ next_of count (i + 1)) where
           -- which is not there
           pub option_short : next ≡ None → scan allowed None (drop i ws) ≡ None
-          option_short q = scan_short allowed ws i inside kind known_so (sym parts.2 ∙ not-false o.operand z) (omega (arith, next_end count (i + 1) ee q))
+          option_short q = scan_short allowed ws i inside m known_so (sym eb ∙ not-false b z) (omega (arith, next_end count (i + 1) ee q))
 
           -- which is there
-          pub option_found : (last : ℕ) → next ≡ Some last → FoundOption ws allowed i o.group o.said last
+          pub option_found : (last : ℕ) → next ≡ Some last → FoundOption ws allowed i o last
+          unfolding given_by
           option_found last q =
               let at : (last ≡ i + 1) × (i + 1 < count) = next_at count (i + 1) last ee q in
               let n : suc i ≡ last = omega arith in
-              ends_at last (omega arith) (omega arith) (rw n at (scan_both allowed ws i inside kind known_so (sym parts.2 ∙ not-false o.operand z) (omega arith)))
+              record {
+                left = rw n at (scan_both allowed ws i inside m known_so (sym eb ∙ not-false b z) (omega arith));
+                after = omega arith;
+                inside = omega arith;
+              }
 
 -- ---- the loop
 
 -- The words up to i were scanned: what is left does the same as all words after the options found, none of which conflict, and which the code has by their groups.
-pub record Scanning (ws : List Word) (allowed : List ℕ) (from i : ℕ) (r : code.ScannedOptions) : Type 0 where
+pub record Scanning (ws : List Word) (allowed : List ℕ) (from i : ℕ) (r : scanned.ScannedOptions) : Type 0 where
   pub found : List Given
   pub left : scan allowed None (drop from ws) ≡ option_map (λ more. found ++ more) (scan allowed None (drop i ws))
   pub clean : conflicting found ≡ false
   pub entries : (g : ℕ) → g < group_count → given_of g found ≡ given_at ws r g
-  pub size : length r.given ≡ group_count
 
--- an option is given where the code has one
-pub given_some : (ws : List Word) (g : ℕ) (x : Option given.Given) → is_some (option_given ws g x) ≡ is_some x
-given_some ws g None = refl
-given_some ws g (Some o) = refl
+-- an option that was given is there
+here_if : {A : Type 0} (o : Option A) → is_some o ≡ true → (z : A) × (o ≡ Some z)
+here_if None e = impossible cc
+here_if (Some z) e = (z, refl)
 
-given_none : (ws : List Word) (g : ℕ) (x : Option given.Given) → is_some x ≡ false → option_given ws g x ≡ None
-given_none ws g None e = refl
-given_none ws g (Some o) e = impossible cc
+none_if : {A : Type 0} (o : Option A) → is_some o ≡ false → o ≡ None
+none_if None e = refl
+none_if (Some z) e = impossible cc
 
-given_here : (ws : List Word) (g : ℕ) (x : Option given.Given) → is_some x ≡ true → (z : Given) × (option_given ws g x ≡ Some z)
-given_here ws g None e = impossible cc
-given_here ws g (Some o) e = (numbered ws g o.said o.operand, refl)
+-- each option is of one of the groups
+kind_grouped : (k : kind.OptionKind) → group (kind_meant k) < group_count
+unfolding kind_meant group
+kind_grouped (kinds.Expires u) = omega arith
+kind_grouped kinds.KeepTtl = omega arith
+kind_grouped (kinds.Only c) = omega arith
+kind_grouped (kinds.Versioned v) = omega arith
+kind_grouped kinds.Min = omega arith
+kind_grouped kinds.Max = omega arith
+kind_grouped kinds.NoExp = omega arith
+
+-- what the code has of a group is given where it has something
+pub mapped_some : {A B : Type 0} (f : A → B) (o : Option A) → is_some (option_map f o) ≡ is_some o
+mapped_some f None = refl
+mapped_some f (Some a) = refl
+
+pub flag_some : {A : Type 0} (a : A) (t : Bool) → is_some (cond t (Some a) None) ≡ t
+flag_some a true = refl
+flag_some a false = refl
+
+pub ruleset given_rules = (mapped_some, flag_some)
+
+-- to compute with an option in the place of its group
+unfoldable pub placing : Unit {0}
+unfolding kind_meant group operand_range given_by
+placing = tt
 
 map_none : (o : Option (List Given)) → o ≡ option_map (λ more. [] ++ more) o
 map_none None = refl
@@ -288,18 +303,17 @@ map_last gs x None = refl
 map_last gs x (Some more) = ap Some (sym (append_assoc gs (x ∷ []) more))
 
 pub scanning_begins : (ws : List Word) (allowed : List ℕ) (from : ℕ)
-    → Scanning ws allowed from from (record { given = replicate group_count None })
+    → Scanning ws allowed from from (record { expiry = None; condition = None; version = None; min = None; max = None; no_exp = false })
 unfolding conflicting given_of
 scanning_begins ws allowed from =
     record {
       found = [];
       left = map_none (scan allowed None (drop from ws));
       clean = refl;
-      entries = λ g l. rw (get_or-replicate {A = Option given.Given} group_count g None None l) refl;
-      size = refl;
+      entries = λ g l. sym (get_or-replicate {A = Option Given} group_count g None None l);
     }
 
-module _ {ws : List Word} {allowed : List ℕ} {from i : ℕ} {r : code.ScannedOptions} (s : Scanning ws allowed from i r) where
+module _ {ws : List Word} {allowed : List ℕ} {from i : ℕ} {r : scanned.ScannedOptions} (s : Scanning ws allowed from i r) where
   -- the scan of what is left fails
   pub scanning_fails : {n : Refusal} → (n ≡ Syntax) × (scan allowed None (drop i ws) ≡ None) → Scanned ws allowed from (Err n)
   unfolding or_else
@@ -314,61 +328,63 @@ module _ {ws : List Word} {allowed : List ℕ} {from i : ℕ} {r : code.ScannedO
       record { clean = rw all s.clean; given = λ g b. rw all (s.entries g b) }
 
   -- an option was found
-  module _ {g : ℕ} {o : given.Given} (f : FoundOption ws allowed i g o.said o.operand) where
+  module _ {k : kind.OptionKind} {last : ℕ} (f : FoundOption ws allowed i k last) where
+    abbrev g : ℕ
+    g = group (kind_meant k)
+
     abbrev x : Given
-    x = numbered ws g o.said o.operand
+    x = given_by ws k last
 
     member_so : group x.kind ≡ g
-    unfolding numbered
-    member_so = f.member
+    unfolding given_by
+    member_so = refl
 
     -- of a group that was given before
-    pub scanning_again : is_some (get_or r.given g None) ≡ true → Scanned ws allowed from (Err Syntax)
+    pub scanning_again : true ≡ is_some (given_at ws r g) → Scanned ws allowed from (Err Syntax)
     unfolding or_else
-    scanning_again b = (refl, rw (s.left, f.left) (go (scan allowed None (drop (o.operand + 1) ws))))
+    scanning_again b = (refl, rw (s.left, f.left) (go (scan allowed None (drop (last + 1) ws))))
       where
-        here : (z : Given) × (option_given ws g (get_or r.given g None) ≡ Some z)
-        here = given_here ws g (get_or r.given g None) b
+        here : (z : Given) × (given_at ws r g ≡ Some z)
+        here = here_if (given_at ws r g) (sym b)
 
         before : given_of (group x.kind) s.found ≡ Some here.0
-        before = rw member_so (s.entries g f.grouped ∙ here.1)
+        before = rw member_so (s.entries g (kind_grouped k) ∙ here.1)
 
         go : (o : Option (List Given)) → or_else (option_map (λ more. s.found ++ more) (option_map (λ gs. x ∷ gs) o)) true conflicting ≡ true
         go None = refl
         go (Some more) = conflict_again x s.found more _ before
 
     -- of another group
-    module _ (free : is_some (get_or r.given g None) ≡ false) where
+    module _ (free : false ≡ is_some (given_at ws r g)) where
       none_before : given_of (group x.kind) s.found ≡ None
-      none_before = rw member_so (s.entries g f.grouped ∙ given_none ws g (get_or r.given g None) free)
+      none_before = rw member_so (s.entries g (kind_grouped k) ∙ none_if (given_at ws r g) (sym free))
 
-      abbrev next : code.ScannedOptions
-      next = record { given = set r.given g (Some o) }
+      module _ (next : scanned.ScannedOptions) (w : WithOption r k last next) where
+        entry : (h : ℕ) → given_at ws next h ≡ get_or (set (given_list ws r) g (Some x)) h None
+        entry h = ap (λ (l : List (Option Given)). get_or l h None) (w ws)
 
-      next_entries : (h : ℕ) → h < group_count → given_of h (s.found ++ (x ∷ [])) ≡ given_at ws next h
-      next_entries h b = go (eqb g h) refl
-        where
-          go : (t : Bool) → eqb g h ≡ t → given_of h (s.found ++ (x ∷ [])) ≡ given_at ws next h
-          go true q =
-              let e : g ≡ h = eqb-true g h q in
-              let this : given_of g (s.found ++ (x ∷ [])) ≡ Some x = rw member_so at (given_same x s.found none_before) in
-              let inside : g < length r.given = omega (arith, s.size, f.grouped) in
-              rw (← e, get_or-set_same r.given g (Some o) None inside) this
-          go false q =
-              let ne : h ≡ g → ⊥ = λ e. eqb-false g h q (sym e) in
-              let other : eqb (group x.kind) h ≡ false = rw member_so q in
-              given_other x h s.found other ∙ s.entries h b ∙ rw (get_or-set_other r.given g h (Some o) None ne)
+        next_entries : (h : ℕ) → h < group_count → given_of h (s.found ++ (x ∷ [])) ≡ given_at ws next h
+        next_entries h b = go (eqb g h) refl
+          where
+            go : (t : Bool) → eqb g h ≡ t → given_of h (s.found ++ (x ∷ [])) ≡ given_at ws next h
+            go true q =
+                let e : g ≡ h = eqb-true g h q in
+                let this : given_of g (s.found ++ (x ∷ [])) ≡ Some x = rw member_so at (given_same x s.found none_before) in
+                subst (λ (n : ℕ). given_of n (s.found ++ (x ∷ [])) ≡ given_at ws next n) e (this ∙ sym (get_or-set_same (given_list ws r) g (Some x) None (kind_grouped k)) ∙ sym (entry g))
+            go false q =
+                let ne : h ≡ g → ⊥ = λ e. eqb-false g h q (sym e) in
+                let other : eqb (group x.kind) h ≡ false = rw member_so q in
+                given_other x h s.found other ∙ s.entries h b ∙ sym (get_or-set_other (given_list ws r) g h (Some x) None ne) ∙ sym (entry h)
 
-      -- it is one option more
-      pub scanning_on : Scanning ws allowed from (o.operand + 1) next
-      scanning_on =
-          record {
-            found = s.found ++ (x ∷ []);
-            left =
-                s.left
-                ∙ ap (option_map (λ more. s.found ++ more)) f.left
-                ∙ map_last s.found x (scan allowed None (drop (o.operand + 1) ws));
-            clean = conflict_none x s.found s.clean none_before;
-            entries = next_entries;
-            size = length-set r.given g (Some o) ∙ s.size;
-          }
+        -- it is one option more
+        pub scanning_on : Scanning ws allowed from (last + 1) next
+        scanning_on =
+            record {
+              found = s.found ++ (x ∷ []);
+              left =
+                  s.left
+                  ∙ ap (option_map (λ more. s.found ++ more)) f.left
+                  ∙ map_last s.found x (scan allowed None (drop (last + 1) ws));
+              clean = conflict_none x s.found s.clean none_before;
+              entries = next_entries;
+            }

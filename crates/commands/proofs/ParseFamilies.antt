@@ -1,5 +1,5 @@
 -- Each family of commands, from the scan of its options to what it says.
-use Rattle.std.specs.Prelude.{Result, Ok, Err, Option, None, Some, option_map, is_some}
+use Rattle.std.specs.Prelude.{Result, Ok, Err, Option, None, Some, option_map, unwrap_or, is_some}
 use mathlib.Core.Path.{◌≡◌, refl, sym, ap, ◌∙◌}
 use mathlib.Core.Bool.{Bool, true, false, cond, ◌&&◌, and-true, and-false}
 use mathlib.Core.List.{List, [], ◌∷◌}
@@ -7,7 +7,7 @@ use Prim.Native.Nat.{ℕ, ◌≤◌, ◌<◌}
 use native.Mathlib.Omega.{arith}
 use borrow.Author.Tests.{lt-ltb, le-ltb}
 use lib.IntN.{ℤ, pos}
-use lib.ListN.{get_or, drop}
+use lib.ListN.{drop}
 use Rattle.wire.specs.declared.integers.Signed.{Signed}
 use Rattle.wire.specs.Lists.{all, or_else}
 use Rattle.wire.specs.Integers.{read_integer, lowest64, highest64}
@@ -28,6 +28,9 @@ use Rattle.commands.specs.declared.refusal.Refusal.{Refusal}
 use Rattle.commands.specs.declared.refusal.Refusal.TheVariants.{NotInteger, InvalidVersion, InvalidExpireTime}
 use Rattle.commands.specs.declared.options.ScannedOptions.{ScannedOptions}
 use Rattle.commands.specs.declared.table.TimeUnit.{TimeUnit}
+use Rattle.commands.specs.declared.Condition.TheVariants as conditions
+use Rattle.commands.specs.Options.{◌with◌}
+use Rattle.commands.specs.Options.OptionKind.{no_exp}
 use Rattle.commands.specs.Command.{Deed, Command}
 use Rattle.commands.specs.Command.Deed.{persist, ask}
 use Rattle.commands.specs.Command.Command.{on_field, set_many, get_many, delete, count_live, count_held, list}
@@ -35,11 +38,11 @@ use Rattle.commands.specs.Options.{signed64, expiry_group, condition_group, vers
 use Rattle.commands.specs.Parse.{Form, allowed, option_words, number_range, pairs_of, build, is_zero, deed_versioning, beyond, deed_lifetime, on_deed, said_by}
 use Rattle.commands.specs.Parse.Form.{set_form, set_many_form, increment_form, expire_form, persist_form, renumber_form, ask_form, get_many_form, delete_form, count_form, list_form}
 use Rattle.commands.specs.Parse.Parsed.{accepted}
-use Rattle.commands.specs.TablePromises.{unit_meant, kind_in}
-use Rattle.commands.specs.ParsePromises.{given_at, instant_in, read_of, by_number, versioned_for, terms_for, condition_for, sum_for, lowest_signed, highest_signed, bound_given, sum_of, parse_rest, deed_of, command_for, meant}
+use Rattle.commands.specs.TablePromises.{unit_meant}
+use Rattle.commands.specs.ParsePromises.{given_at, instant_in, read_of, by_number, versioned_for, terms_for, sum_for, lowest_signed, highest_signed, bound_for, sum_of, parse_rest, deed_of, command_for, meant}
 use Rattle.commands.proofs.OperandWords.{instant_read}
-use Rattle.commands.proofs.OptionScanning.{given_some}
-use Rattle.commands.proofs.Parsing.{given_in, unclean, all_read, rest_16, rest_17, rest_18, rest_said, Takes, Ready, version_said, version_refused, terms_refused, terms_said, condition_said, bare_read, has_read, integer_read, integer_value, bound_readable, bound_said}
+use Rattle.commands.proofs.OptionScanning.{flag_some}
+use Rattle.commands.proofs.Parsing.{given_in, unclean, all_read, rest_16, rest_17, rest_18, rest_said, Takes, Ready, version_said, version_refused, terms_refused, terms_said, condition_said, condition_read, no_exp_read, has_read, integer_read, integer_value, bound_readable, bound_said}
 
 -- the option of a group that a command of a form was given
 abbrev given_option : Form → ℕ → List Word → Bool
@@ -54,14 +57,14 @@ set_takes = record { groups = refl; words = λ ws. refl }
 module _ (time : ℕ) {ws : List Word} {r : ScannedOptions} (y : Ready set_form ws r)
     (m : Result Stamping Refusal) (em : by_number m ≡ terms_for time (given_at ws r expiry_group) (given_at ws r version_group)) where
   set_left : all_read set_form ws ≡ given_option set_form expiry_group ws && given_option set_form version_group ws
-  unfolding allowed number_range or_else all kind_in operand_range
-  set_left = y.read ∙ rw (bare_read y condition_group (omega arith) (λ s. refl), and-true (given_option set_form version_group ws))
+  unfolding allowed number_range or_else all operand_range
+  set_left = y.read ∙ rw (condition_read y, and-true (given_option set_form version_group ws))
 
   pub set_refused : {n : Refusal} → m ≡ Err n → meant ws (Err n) ≡ parse_rest time set_form ws
   unfolding build on_deed deed_versioning deed_lifetime
   set_refused q = terms_refused y time m em set_left refl refl q
 
-  pub set_done : {s : Stamping} → m ≡ Ok s → {c : Condition} → c ≡ condition_for (get_or r.given condition_group None)
+  pub set_done : {s : Stamping} → m ≡ Ok s → {c : Condition} → c ≡ unwrap_or r.condition conditions.Always
       → meant ws (Ok (parses.OnField (fieldDeeds.Assign c s))) ≡ parse_rest time set_form ws
   unfolding build on_deed deed_versioning deed_lifetime meant deed_of
   set_done q ec =
@@ -124,10 +127,10 @@ module _ (time : ℕ) {ws : List Word} {r : ScannedOptions} (y : Ready increment
   amount = read_integer lowest64 highest64 (word_at 3 ws)
 
   abbrev low : Option Signed
-  low = bound_given lowest_signed min_group ws r
+  low = bound_for lowest_signed ws r.min
 
   abbrev high : Option Signed
-  high = bound_given highest_signed max_group ws r
+  high = bound_for highest_signed ws r.max
 
   increment_all : all_read increment_form ws
       ≡ is_some amount && (number_read expiry_group && (number_read version_group && (number_read min_group && (number_read max_group && true))))
@@ -135,12 +138,10 @@ module _ (time : ℕ) {ws : List Word} {r : ScannedOptions} (y : Ready increment
   increment_all = ap (λ b. is_some amount && b) y.read
 
   low_read : has_read low ≡ number_read min_group
-  unfolding kind_in
-  low_read = bound_readable y min_group (omega arith) (λ s. refl) lowest_signed
+  low_read = bound_readable y min_group (omega arith) r.min refl lowest_signed
 
   high_read : has_read high ≡ number_read max_group
-  unfolding kind_in
-  high_read = bound_readable y max_group (omega arith) (λ s. refl) highest_signed
+  high_read = bound_readable y max_group (omega arith) r.max refl highest_signed
 
   module _ {x : Result Sum Refusal} (ex : x ≡ sum_of ws r) where
     pub increment_unread : {n : Refusal} → x ≡ Err n → meant ws (Err n) ≡ parse_rest time increment_form ws
@@ -175,12 +176,12 @@ module _ (time : ℕ) {ws : List Word} {r : ScannedOptions} (y : Ready increment
       amount_said = integer_value amount sum.amount parts.0
 
       low_said : bound_in min_group lowest64 (given_in increment_form ws) ≡ integer_of sum.least
-      unfolding integer_of kind_in
-      low_said = bound_said y min_group (omega arith) (λ s. refl) lowest_signed parts.1
+      unfolding integer_of
+      low_said = bound_said y min_group (omega arith) r.min refl lowest_signed parts.1
 
       high_said : bound_in max_group highest64 (given_in increment_form ws) ≡ integer_of sum.greatest
-      unfolding integer_of kind_in
-      high_said = bound_said y max_group (omega arith) (λ s. refl) highest_signed parts.2
+      unfolding integer_of
+      high_said = bound_said y max_group (omega arith) r.max refl highest_signed parts.2
 
       pub increment_done : {s : Stamping} → m ≡ Ok s → meant ws (Ok (parses.OnField (fieldDeeds.Increment sum s))) ≡ parse_rest time increment_form ws
       unfolding build on_deed deed_versioning deed_lifetime meant deed_of
@@ -263,8 +264,8 @@ count_takes = record { groups = refl; words = λ ws. refl }
 
 module _ (time : ℕ) {ws : List Word} {r : ScannedOptions} (y : Ready count_form ws r) where
   count_read : all_read count_form ws ≡ true
-  unfolding allowed number_range or_else all kind_in operand_range
-  count_read = y.read ∙ rw (bare_read y no_exp_group (omega arith) (λ s. refl))
+  unfolding allowed number_range or_else all operand_range
+  count_read = y.read ∙ rw (no_exp_read y)
 
   abbrev counted : Bool → Command
   counted t = cond t (count_live (word_at 1 ws)) (count_held (word_at 1 ws))
@@ -281,13 +282,13 @@ module _ (time : ℕ) {ws : List Word} {r : ScannedOptions} (y : Ready count_for
       no_deed test true = refl
       no_deed test false = refl
 
-  pub count_live_lem : is_some (get_or r.given no_exp_group None) ≡ true → meant ws (Ok (parses.OnKey keyDeeds.CountLive)) ≡ parse_rest time count_form ws
+  pub count_live_lem : r.no_exp ≡ true → meant ws (Ok (parses.OnKey keyDeeds.CountLive)) ≡ parse_rest time count_form ws
   unfolding meant command_for
-  count_live_lem e = count_said true (rw (y.given no_exp_group (omega arith)) (given_some ws no_exp_group (get_or r.given no_exp_group None) ∙ e))
+  count_live_lem e = count_said true (rw (y.given no_exp_group (omega arith)) (flag_some (no_exp with []) r.no_exp ∙ e))
 
-  pub count_held_lem : is_some (get_or r.given no_exp_group None) ≡ false → meant ws (Ok (parses.OnKey keyDeeds.CountHeld)) ≡ parse_rest time count_form ws
+  pub count_held_lem : r.no_exp ≡ false → meant ws (Ok (parses.OnKey keyDeeds.CountHeld)) ≡ parse_rest time count_form ws
   unfolding meant command_for
-  count_held_lem e = count_said false (rw (y.given no_exp_group (omega arith)) (given_some ws no_exp_group (get_or r.given no_exp_group None) ∙ e))
+  count_held_lem e = count_said false (rw (y.given no_exp_group (omega arith)) (flag_some (no_exp with []) r.no_exp ∙ e))
 
 -- ---- commands of fixed words with no number among them
 

@@ -6,7 +6,7 @@ use mathlib.Core.List.{List, []}
 use Prim.Native.Nat.{ℕ, ◌<◌}
 use native.Mathlib.Omega.{arith}
 use lib.IntN.{ℤ, pos}
-use lib.ListN.{get_or, drop}
+use lib.ListN.{drop}
 use Rattle.wire.specs.declared.integers.Signed.{Signed}
 use Rattle.wire.specs.Lists.{all, or_else}
 use Rattle.wire.specs.Integers.{read_integer, lowest64, highest64}
@@ -14,21 +14,20 @@ use Rattle.wire.specs.Words.{Word, word_at}
 use Rattle.wire.specs.Promises.{signed_for, integer_of}
 use Rattle.wire.proofs.Lists.{impossible}
 use Rattle.wire.proofs.IntegerSigns.{sign_said}
+use Rattle.commands.specs.declared.Condition.{Condition}
 use Rattle.commands.specs.declared.Condition.TheVariants as conditions
 use Rattle.commands.specs.declared.Lifetime.{Lifetime}
 use Rattle.commands.specs.declared.Versioning.{Versioning}
 use Rattle.commands.specs.declared.Stamping.{Stamping}
 use Rattle.commands.specs.declared.refusal.Refusal.{Refusal}
 use Rattle.commands.specs.declared.refusal.Refusal.TheVariants.{Syntax, NotInteger, InvalidVersion, InvalidExpireTime}
-use Rattle.commands.specs.declared.options.Given as code
 use Rattle.commands.specs.declared.options.ScannedOptions.{ScannedOptions}
 use Rattle.wire.specs.Checks.{first_applying}
-use Rattle.commands.specs.Options.{Given, signed64, expiry_group, condition_group, version_group, group_count, operand_range, scan, conflicting, given_of, read_in, readable, number_in, readable_operand, condition_of, lifetime, versioning, condition, bound_in}
-use Rattle.commands.specs.Options.OptionKind.{bound}
+use Rattle.commands.specs.Options.{◌with◌, Given, signed64, expiry_group, condition_group, version_group, group_count, operand_range, scan, conflicting, given_of, read_in, readable, number_in, readable_operand, condition_of, lifetime, versioning, condition, bound_in, no_exp_group}
+use Rattle.commands.specs.Options.OptionKind.{only, bound, no_exp}
 use Rattle.commands.specs.Parse.{Form, allowed, option_words, number_range, is_zero, deed_versioning, beyond, deed_lifetime, on_deed, later_checks, scanned_of, said_by}
 use Rattle.commands.specs.Parse.Parsed.{refused, accepted}
-use Rattle.commands.specs.TablePromises.{kind_in}
-use Rattle.commands.specs.ParsePromises.{refusal_number, by_number, numbered, option_given, given_at, CleanScan, Scanned, lifetime_by, version_by, read_of, timed_for, versioned_for, term_checks, terms_for, condition_for, bound_for, bound_given, parse_rest, meant}
+use Rattle.commands.specs.ParsePromises.{refusal_number, by_number, given_at, CleanScan, Scanned, lifetime_by, version_by, read_of, timed_for, versioned_for, term_checks, terms_for, bound_for, parse_rest, meant}
 use Rattle.wire.proofs.Checks.{check_applies, check_passed, checks_end}
 use Rattle.commands.proofs.OptionsOneEach.{scan_allowed, all_groups}
 
@@ -217,10 +216,6 @@ module _ {f : Form} {ws : List Word} {r : ScannedOptions} (y : Ready f ws r) whe
   abbrev found : ℕ → Option Given
   found n = given_of n (given_in f ws)
 
-  -- the option of a group as the code has it
-  abbrev entry : ℕ → Option code.Given
-  entry n = get_or r.given n None
-
   module _ {v : Result Versioning Refusal} (e : v ≡ versioned_for (given_at ws r version_group)) where
     pub version_said : {n : Versioning} → v ≡ Ok n → (read_of (found version_group) ≡ true) × (versioning (given_in f ws) ≡ n)
     unfolding versioning version_by
@@ -229,43 +224,51 @@ module _ {f : Form} {ws : List Word} {r : ScannedOptions} (y : Ready f ws r) whe
     pub version_refused : {n : Refusal} → v ≡ Err n → (read_of (found version_group) ≡ false) × (n ≡ NotInteger)
     version_refused h = versioned_refused (found version_group) (rw (y.given version_group (omega arith)) e) h
 
-  pub condition_said : condition (given_in f ws) ≡ condition_for (entry condition_group)
-  unfolding condition condition_for condition_of numbered kind_in or_else
-  condition_said = rw (y.given condition_group (omega arith)) (go (entry condition_group))
+  pub condition_said : condition (given_in f ws) ≡ unwrap_or r.condition conditions.Always
+  unfolding condition condition_of or_else
+  condition_said = rw (y.given condition_group (omega arith)) (go r.condition)
     where
-      go : (x : Option code.Given) → or_else (option_given ws condition_group x) conditions.Always (λ g. condition_of g.kind) ≡ condition_for x
+      go : (x : Option Condition) → or_else (option_map (λ c. only c with []) x) conditions.Always (λ g. condition_of g.kind) ≡ unwrap_or x conditions.Always
       go None = refl
-      go (Some o) = refl
+      go (Some c) = refl
 
   -- what takes no operand has none to be read
-  pub bare_read : (n : ℕ) → n < group_count → ((s : ℕ) → operand_range (kind_in n s) ≡ None) → read_of (found n) ≡ true
-  unfolding read_of or_else readable_operand numbered
-  bare_read n l h = rw (y.given n l) (go (entry n))
+  pub condition_read : read_of (found condition_group) ≡ true
+  unfolding read_of or_else readable_operand operand_range
+  condition_read = rw (y.given condition_group (omega arith)) (go r.condition)
     where
-      go : (x : Option code.Given) → read_of (option_given ws n x) ≡ true
+      go : (x : Option Condition) → read_of (option_map (λ c. only c with []) x) ≡ true
       go None = refl
-      go (Some o) = rw (h o.said)
+      go (Some c) = refl
 
-  -- a bound that was read, or that was not given
-  module _ (n : ℕ) (l : n < group_count) (m : (s : ℕ) → kind_in n s ≡ bound n) (u : Signed) where
-    abbrev number : code.Given → Option ℤ
-    number o = read_integer lowest64 highest64 (word_at o.operand ws)
+  pub no_exp_read : read_of (found no_exp_group) ≡ true
+  unfolding read_of or_else readable_operand operand_range
+  no_exp_read = rw (y.given no_exp_group (omega arith)) (go r.no_exp)
+    where
+      go : (t : Bool) → read_of (cond t (Some (no_exp with [])) None) ≡ true
+      go true = refl
+      go false = refl
 
-    pub bound_readable : has_read (bound_given u n ws r) ≡ read_of (found n)
-    unfolding bound_given bound_for read_of or_else readable_operand numbered operand_range readable read_in has_read
-    bound_readable = rw (y.given n l) (go (entry n))
+  -- a bound that was read, or that was not given: x is the number of its operand's word
+  module _ (n : ℕ) (l : n < group_count) (x : Option ℕ) (m : given_at ws r n ≡ option_map (λ k. bound n with word_at k ws) x) (u : Signed) where
+    abbrev number : ℕ → Option ℤ
+    number k = read_integer lowest64 highest64 (word_at k ws)
+
+    pub bound_readable : has_read (bound_for u ws x) ≡ read_of (found n)
+    unfolding bound_for read_of or_else readable_operand operand_range readable read_in has_read
+    bound_readable = go x ∙ ap read_of (sym m ∙ sym (y.given n l))
       where
-        go : (x : Option code.Given) → has_read (bound_for u ws x) ≡ read_of (option_given ws n x)
+        go : (z : Option ℕ) → has_read (bound_for u ws z) ≡ read_of (option_map (λ k. bound n with word_at k ws) z)
         go None = refl
-        go (Some o) = rw (m o.said) (integer_read (number o))
+        go (Some k) = integer_read (number k)
 
-    pub bound_said : {z : Signed} → bound_given u n ws r ≡ Some z → bound_in n (integer_of u) (given_in f ws) ≡ integer_of z
-    unfolding bound_given bound_for bound_in or_else numbered operand_range number_in read_in
-    bound_said {z} e = rw (y.given n l) (go (entry n) e)
+    pub bound_said : {z : Signed} → bound_for u ws x ≡ Some z → bound_in n (integer_of u) (given_in f ws) ≡ integer_of z
+    unfolding bound_for bound_in or_else number_in read_in
+    bound_said {z} e = rw (y.given n l ∙ m) (go x e)
       where
-        go : (x : Option code.Given) → bound_for u ws x ≡ Some z → or_else (option_given ws n x) (integer_of u) (λ g. number_in signed64 g.operand) ≡ integer_of z
+        go : (t : Option ℕ) → bound_for u ws t ≡ Some z → or_else (option_map (λ k. bound n with word_at k ws) t) (integer_of u) (λ g. number_in signed64 g.operand) ≡ integer_of z
         go None k = let same : u ≡ z = cc in rw same
-        go (Some o) k = rw (m o.said) (integer_value (number o) z k)
+        go (Some j) k = integer_value (number j) z k
 
   -- what the options say of the version and the expiry, where these two are what is left to be read
   module _ (time : ℕ) (m : Result Stamping Refusal) (e : by_number m ≡ terms_for time (given_at ws r expiry_group) (given_at ws r version_group))

@@ -9,27 +9,27 @@ use Prim.Native.String.{String}
 use native.Mathlib.Omega.{arith}
 use borrow.Author.Tests.{ltb-true, not-true}
 use lib.Dec.{ltb, eqb}
-use lib.ListN.{length, get_or, drop, length-append, length-drop, get_or-map}
+use lib.ListN.{length, get_or, drop, length-append, length-drop}
 use lib.Seq.{get_or_at, get_or-append-add, drop_at, take-append_seam}
 use Rattle.wire.specs.Lists.{all, any, only_if, or_else}
 use Rattle.wire.specs.Bytes.{part, same, text, upper, spells}
 use Rattle.wire.specs.Words.{Word}
 use Rattle.wire.specs.Promises.{row_size, name_in, row_from, row_named, Table}
-use Rattle.wire.proofs.Lists.{and_left, and_right, all_at}
+use Rattle.wire.proofs.Lists.{and_left, and_right}
 use Rattle.wire.proofs.NameRows.{row_at}
 use Rattle.wire.proofs.ByteLaws.{same_true}
-use Rattle.commands.specs.Options.{OptionRow, OptionKind, ◌means◌, options, option_count, group_count, group, option_named}
+use Rattle.commands.specs.Options.{OptionRow, OptionKind, ◌means◌, options, option_count, group, option_named}
 use Rattle.commands.specs.Options.OptionKind.{no_exp}
 use Rattle.commands.specs.Parse.{CommandRow, row, commands, command_count, command_named}
 use Rattle.commands.specs.Parse.Count.{at_least}
 use Rattle.commands.specs.Parse.Form.{set_form}
-use Rattle.commands.specs.TablePromises.{filler, name_row, unit_meant, form_meant, count_meant, row_parts, row_meant, command_table, command_of, unit_number, unit_of, condition_number, versioning_number, said_of, expiry_kind, condition_by, versioning_by, kind_in, option_said, option_table, option_of}
+use Rattle.commands.specs.TablePromises.{filler, name_row, unit_meant, form_meant, count_meant, row_parts, row_meant, command_table, command_of, version_meant, kind_meant, option_table, option_of}
 use Rattle.commands.specs.declared.table.CommandRow as code
 use Rattle.commands.proofs.Computing.{computing}
 
 -- to compute with the tables
 unfoldable pub tables : Unit {0}
-unfolding computing name_row unit_meant form_meant count_meant command_of option_of unit_number unit_of condition_number versioning_number said_of option_said expiry_kind condition_by versioning_by kind_in
+unfolding computing name_row unit_meant form_meant count_meant command_of option_of version_meant kind_meant
 tables = tt
 
 -- ---- rows of names
@@ -208,31 +208,6 @@ command_table_lem = table_of_lem (λ r. r.name) commands commands_fit
 pub option_table_lem : Table option_table
 unfolding table_of option_table
 option_table_lem = table_of_lem (λ r. r.name) options options_fit
-
--- ---- what a row's numbers mean
-
--- an option follows from its group and what it says
-kinds_back : map (λ r. kind_in (group r.kind) (said_of r.kind)) options ≡ map (λ r. r.kind) options
-unfolding tables
-kinds_back = refl
-
-pub row_kind : (i : ℕ) → kind_in (group (option_of i).kind) (said_of (option_of i).kind) ≡ (option_of i).kind
-unfolding option_of kind_in group
-row_kind i =
-    let last : OptionRow = "NOEXP" means no_exp in
-    sym (get_or-map (λ r. kind_in (group r.kind) (said_of r.kind)) options i last)
-    ∙ ap (λ l. get_or l i no_exp) kinds_back
-    ∙ get_or-map (λ r. r.kind) options i last
-
--- its group is one of the groups
-options_below : all (λ r. ltb (group r.kind) group_count) options ≡ true
-unfolding tables
-options_below = refl
-
-pub row_below : (i : ℕ) → i < option_count → group (option_of i).kind < group_count
-unfolding option_of
-row_below i l =
-    ltb-true (group (option_of i).kind) group_count (all_at (λ r. ltb (group r.kind) group_count) options ("NOEXP" means no_exp) options_below i (omega (arith, options_counted)))
 
 -- ---- what a row's number means
 

@@ -1,6 +1,6 @@
 -- What the functions that parse a command ask and answer, in the terms of the other definitions.
 use Rattle.std.specs.Prelude.{Option, None, Some, option_map, option_and_then, unwrap_or, is_some, Result, Ok, Err, ok_or}
-use Rattle.std.specs.Prelude.{◌≡◌, Bool, true, false, cond, not, ◌&&◌, ◌||◌, List, [], ◌∷◌, ℕ, ◌+◌, ◌*◌, ◌≤◌, ◌<◌, ltb, eqb, length, drop, get_or}
+use Rattle.std.specs.Prelude.{◌≡◌, Bool, true, false, cond, not, ◌&&◌, ◌||◌, List, [], ◌∷◌, ℕ, ◌+◌, ◌*◌, ◌≤◌, ◌<◌, ltb, eqb, length, drop, get_or, set}
 use Rattle.wire.specs.Lists.{any, or_else}
 use Rattle.wire.specs.Integers.{read_integer, lowest64, highest64}
 use Rattle.wire.specs.Words.{Word, word_at, words_of}
@@ -17,24 +17,26 @@ use Rattle.commands.specs.declared.Parsed.{Parsed}
 use Rattle.commands.specs.declared.Parsed.TheVariants as parses
 use Rattle.commands.specs.declared.Lifetime.{Lifetime}
 use Rattle.commands.specs.declared.Lifetime.TheVariants as lifetimes
-use Rattle.commands.specs.declared.Condition.{Condition}
-use Rattle.commands.specs.declared.Condition.TheVariants as conditions
 use Rattle.commands.specs.declared.Versioning.{Versioning}
 use Rattle.commands.specs.declared.Versioning.TheVariants as versionings
 use Rattle.commands.specs.declared.Stamping.{Stamping}
 use Rattle.commands.specs.declared.Sum.{Sum}
 use Rattle.commands.specs.declared.table.TimeUnit.{TimeUnit}
-use Rattle.commands.specs.declared.options.Given as code
-use Rattle.commands.specs.declared.options.GroupedOption.{GroupedOption}
+use Rattle.commands.specs.declared.table.OptionKind as code
+use Rattle.commands.specs.declared.options.ExpiryOption.{ExpiryOption}
+use Rattle.commands.specs.declared.options.ExpiryOption.TheVariants as expiries
+use Rattle.commands.specs.declared.options.VersionGiven.{VersionGiven}
+use Rattle.commands.specs.declared.options.PlacedOption.{PlacedOption}
 use Rattle.commands.specs.declared.options.ScannedOptions.{ScannedOptions}
 use Rattle.wire.specs.Checks.{Check, ◌when◌, first_applying}
 use Rattle.commands.specs.Command.{Deed, Command}
 use Rattle.commands.specs.Command.Deed.{assign, increment, expire, persist, renumber, ask}
 use Rattle.commands.specs.Command.Command.{on_field, set_many, get_many, delete, count_held, count_live, list}
+use Rattle.commands.specs.Options.OptionKind.{expires, keep_ttl, only, versioned, bound, no_exp}
 use Rattle.commands.specs.Options.{Given, ◌with◌, min_group, max_group, group, group_count, operand_range, scan, conflicting, readable_operand, given_of, lifetime_of, versioning_of}
 use Rattle.commands.specs.Parse as P
 use Rattle.commands.specs.Parse.{Form, pairs_of, beyond, allowed, option_words, build, later_checks, is_zero}
-use Rattle.commands.specs.TablePromises.{unit_meant, condition_by, kind_in}
+use Rattle.commands.specs.TablePromises.{unit_meant, version_meant, kind_meant}
 
 -- ---- words
 
@@ -69,29 +71,45 @@ by_number (Err r) = Err (refusal_number r)
 
 -- ---- options that were given
 
--- an option as it was given, by what it says in its group and the number of its operand's word
-unfoldable pub numbered : List Word → ℕ → ℕ → ℕ → Given
-numbered ws g said operand = kind_in g said with cond (is_some (operand_range (kind_in g said))) (word_at operand ws) []
+-- an option as it was given, with the number of its last word, its operand if it takes one
+unfoldable pub given_by : List Word → code.OptionKind → ℕ → Given
+given_by ws k last = kind_meant k with cond (is_some (operand_range (kind_meant k))) (word_at last ws) []
 
--- the option of a group as the code has it
-abbrev pub option_given : List Word → ℕ → Option code.Given → Option Given
-option_given ws g x = option_map (λ o. numbered ws g o.said o.operand) x
+-- the options of the groups as the code has them
+abbrev pub expiry_given : List Word → ExpiryOption → Given
+expiry_given ws (expiries.Expires u n) = expires (unit_meant u) with word_at n ws
+expiry_given ws expiries.KeepTtl = keep_ttl with []
+
+abbrev pub version_given : List Word → VersionGiven → Given
+version_given ws v = versioned (version_meant v.option) with word_at v.operand ws
+
+abbrev pub given_list : List Word → ScannedOptions → List (Option Given)
+given_list ws r =
+    option_map (expiry_given ws) r.expiry
+    ∷ option_map (λ c. only c with []) r.condition
+    ∷ option_map (version_given ws) r.version
+    ∷ option_map (λ n. bound min_group with word_at n ws) r.min
+    ∷ option_map (λ n. bound max_group with word_at n ws) r.max
+    ∷ cond r.no_exp (Some (no_exp with [])) None
+    ∷ []
 
 abbrev pub given_at : List Word → ScannedOptions → ℕ → Option Given
-given_at ws r g = option_given ws g (get_or r.given g None)
+given_at ws r g = get_or (given_list ws r) g None
+
+-- one option more, in the place of its group
+abbrev pub WithOption : ScannedOptions → code.OptionKind → ℕ → ScannedOptions → Type 0
+WithOption r k last next = (ws : List Word) → given_list ws next ≡ set (given_list ws r) (group (kind_meant k)) (Some (given_by ws k last))
 
 -- an option stands at word i: what is left of a scan there is that option, and what is left behind its last word
-pub record FoundOption (ws : List Word) (allowed : List ℕ) (i g said last : ℕ) : Type 0 where
+pub record FoundOption (ws : List Word) (allowed : List ℕ) (i : ℕ) (kind : code.OptionKind) (last : ℕ) : Type 0 where
   pub left : scan allowed None (drop i ws)
-      ≡ option_map (λ gs. numbered ws g said last ∷ gs) (scan allowed None (drop (last + 1) ws))
-  pub member : group (kind_in g said) ≡ g
-  pub grouped : g < group_count
+      ≡ option_map (λ gs. given_by ws kind last ∷ gs) (scan allowed None (drop (last + 1) ws))
   pub after : i ≤ last
   pub inside : last < length ws
 
 -- what the code found there; a scan fails where it refuses
-abbrev pub FoundBy : List Word → List ℕ → ℕ → Result GroupedOption Refusal → Type 0
-FoundBy ws allowed i (Ok x) = FoundOption ws allowed i x.group x.given.said x.given.operand
+abbrev pub FoundBy : List Word → List ℕ → ℕ → Result PlacedOption Refusal → Type 0
+FoundBy ws allowed i (Ok x) = FoundOption ws allowed i x.kind x.last
 FoundBy ws allowed i (Err r) = (r ≡ refusals.Syntax) × (scan allowed None (drop i ws) ≡ None)
 
 -- a scan of the words from one on that is not refused, and what it found
@@ -139,13 +157,9 @@ term_checks time x y =
 unfoldable pub terms_for : ℕ → Option Given → Option Given → Result Stamping ℕ
 terms_for time x y = or_else (first_applying (term_checks time x y)) (Ok (record { versioning = version_by y; lifetime = lifetime_by time x })) Err
 
--- what NX or XX says
-unfoldable pub condition_for : Option code.Given → Condition
-condition_for x = or_else x conditions.Always (λ o. condition_by o.said)
-
 -- the number of MIN or MAX, or an end where it is not given
-unfoldable pub bound_for : Signed → List Word → Option code.Given → Option Signed
-bound_for unbounded ws x = or_else x (Some unbounded) (λ o. option_map signed_for (read_integer lowest64 highest64 (word_at o.operand ws)))
+unfoldable pub bound_for : Signed → List Word → Option ℕ → Option Signed
+bound_for unbounded ws x = or_else x (Some unbounded) (λ n. option_map signed_for (read_integer lowest64 highest64 (word_at n ws)))
 
 -- what EXHINCRBY adds and its bounds, where all three are integers
 unfoldable pub sum_for : Option Signed → Option Signed → Option Signed → Result Sum Refusal
@@ -160,14 +174,10 @@ lowest_signed = record { negative = true; magnitude = 0x8000_0000_0000_0000 }
 abbrev pub highest_signed : Signed
 highest_signed = record { negative = false; magnitude = 0x7fff_ffff_ffff_ffff }
 
--- MIN or MAX of a scan
-unfoldable pub bound_given : Signed → ℕ → List Word → ScannedOptions → Option Signed
-bound_given unbounded g ws r = bound_for unbounded ws (get_or r.given g None)
-
 -- what EXHINCRBY adds and its bounds: word 3, MIN and MAX
 unfoldable pub sum_of : List Word → ScannedOptions → Result Sum Refusal
 sum_of ws r =
-    sum_for (option_map signed_for (read_integer lowest64 highest64 (word_at 3 ws))) (bound_given lowest_signed min_group ws r) (bound_given highest_signed max_group ws r)
+    sum_for (option_map signed_for (read_integer lowest64 highest64 (word_at 3 ws))) (bound_for lowest_signed ws r.min) (bound_for highest_signed ws r.max)
 
 -- ---- lengths of words
 

@@ -1,11 +1,8 @@
 -- What the code's tables of commands and options hold, computed from the definitions: the forms of its contracts.
-use Rattle.std.specs.Prelude.{is_some}
-use Rattle.std.specs.Prelude.{true, false, cond, ℕ, eqb, length, drop, get_or}
-use mathlib.Core.List.{List, [], ◌∷◌, ◌++◌, flat_map}
+use Rattle.std.specs.Prelude.{true, false, ℕ, length, drop, get_or}
+use mathlib.Core.List.{List, ◌∷◌, ◌++◌, flat_map}
 use Prim.Native.String.{String}
 use Rattle.wire.specs.Bytes.{text}
-use Rattle.commands.specs.declared.Condition.{Condition}
-use Rattle.commands.specs.declared.Condition.TheVariants as conditions
 use Rattle.commands.specs.declared.Versioning.{Versioning}
 use Rattle.commands.specs.declared.Versioning.TheVariants as versionings
 use Rattle.commands.specs.declared.table.TimeUnit.{TimeUnit}
@@ -15,9 +12,12 @@ use Rattle.commands.specs.declared.table.Form.TheVariants as forms
 use Rattle.commands.specs.declared.table.WordCount.{WordCount}
 use Rattle.commands.specs.declared.table.WordCount.TheVariants as counts
 use Rattle.commands.specs.declared.table.CommandRow.{CommandRow}
-use Rattle.commands.specs.declared.table.OptionRow.{OptionRow}
+use Rattle.commands.specs.declared.table.VersionOption.{VersionOption}
+use Rattle.commands.specs.declared.table.VersionOption.TheVariants as versions
+use Rattle.commands.specs.declared.table.OptionKind.{OptionKind}
+use Rattle.commands.specs.declared.table.OptionKind.TheVariants as kinds
 use Rattle.commands.specs.Options as O
-use Rattle.commands.specs.Options.{in_seconds, in_ms, OptionKind, ◌means◌, options, min_group, max_group, group, operand_range}
+use Rattle.commands.specs.Options.{in_seconds, in_ms, ◌means◌, options, min_group, max_group}
 use Rattle.commands.specs.Options.OptionKind.{expires, keep_ttl, only, versioned, bound, no_exp}
 use Rattle.commands.specs.Parse as P
 use Rattle.commands.specs.Parse.{row, commands}
@@ -80,88 +80,20 @@ command_of i = get_or commands i (row "EXHSET" (at_least 4) set_form)
 
 -- ---- the table of options
 
--- the units by their numbers, those of EX, EXAT, PX and PXAT
-abbrev pub seconds_from_now : ℕ
-seconds_from_now = 0
+-- what the code's options say
+unfoldable pub version_meant : VersionOption → ℕ → Versioning
+version_meant versions.Match = versionings.Match
+version_meant versions.Exactly = versionings.Exactly
+version_meant versions.Above = versionings.Above
 
-abbrev pub seconds_since : ℕ
-seconds_since = 1
-
-abbrev pub ms_from_now : ℕ
-ms_from_now = 2
-
-abbrev pub ms_since : ℕ
-ms_since = 3
-
-unfoldable pub unit_number : O.TimeUnit → ℕ
-unit_number u = cond (eqb u.ms 1) (cond u.from_now ms_from_now ms_since) (cond u.from_now seconds_from_now seconds_since)
-
-unfoldable pub unit_of : ℕ → O.TimeUnit
-unit_of n = cond (eqb n seconds_from_now) (in_seconds true) (cond (eqb n seconds_since) (in_seconds false) (cond (eqb n ms_from_now) (in_ms true) (in_ms false)))
-
--- what an option says in its group, by a number: a unit or that the expiry is kept; missing or live; VER, ABS or GT
-abbrev pub kept : ℕ
-kept = 4
-
-abbrev pub if_missing : ℕ
-if_missing = 0
-
-abbrev pub if_live : ℕ
-if_live = 1
-
-abbrev pub matched : ℕ
-matched = 0
-
-abbrev pub exact : ℕ
-exact = 1
-
-abbrev pub above : ℕ
-above = 2
-
-unfoldable pub condition_number : Condition → ℕ
-condition_number conditions.Always = 0
-condition_number conditions.Missing = if_missing
-condition_number conditions.Live = if_live
-
-unfoldable pub versioning_number : Versioning → ℕ
-versioning_number versionings.Next = 0
-versioning_number (versionings.Match v) = matched
-versioning_number (versionings.Exactly v) = exact
-versioning_number (versionings.Above v) = above
-
-unfoldable pub said_of : OptionKind → ℕ
-said_of (expires u) = unit_number u
-said_of keep_ttl = kept
-said_of (only c) = condition_number c
-said_of (versioned f) = versioning_number (f 0)
-said_of (bound n) = 0
-said_of no_exp = 0
-
-unfoldable pub expiry_kind : ℕ → OptionKind
-expiry_kind n = cond (eqb n kept) keep_ttl (expires (unit_of n))
-
-unfoldable pub condition_by : ℕ → Condition
-condition_by n = cond (eqb n if_missing) conditions.Missing conditions.Live
-
-unfoldable pub versioning_by : ℕ → ℕ → Versioning
-versioning_by n = cond (eqb n matched) versionings.Match (cond (eqb n exact) versionings.Exactly versionings.Above)
-
--- the option of a group that says n
-unfoldable pub kind_in : ℕ → ℕ → OptionKind
-kind_in g n =
-    get_or
-    (expiry_kind n
-    ∷ only (condition_by n)
-    ∷ versioned (versioning_by n)
-    ∷ bound min_group
-    ∷ bound max_group
-    ∷ [])
-    g
-    no_exp
-
--- what the code's row of an option says
-unfoldable pub option_said : O.OptionRow → OptionRow
-option_said r = record { group = group r.kind; said = said_of r.kind; operand = is_some (operand_range r.kind) }
+unfoldable pub kind_meant : OptionKind → O.OptionKind
+kind_meant (kinds.Expires u) = expires (unit_meant u)
+kind_meant kinds.KeepTtl = keep_ttl
+kind_meant (kinds.Only c) = only c
+kind_meant (kinds.Versioned v) = versioned (version_meant v)
+kind_meant kinds.Min = bound min_group
+kind_meant kinds.Max = bound max_group
+kind_meant kinds.NoExp = no_exp
 
 unfoldable pub option_table : List ℕ
 option_table = flat_map (λ r. name_row r.name) options

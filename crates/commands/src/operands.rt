@@ -1,19 +1,16 @@
 // What the options of a command say: each is given by what it says in its group and the number of its operand's word.
-ghost use Rattle.std.specs.Prelude.{◌≡◌, ◌≤◌, ◌<◌};
+ghost use Rattle.std.specs.Prelude.{◌≡◌, ◌≤◌, ◌<◌, option_map};
 ghost use Rattle.wire.specs.Promises.{words_in, Inside};
 ghost use Rattle.store.specs.Layout.{time_limit};
 ghost use Rattle.commands.specs.Options.{expiry_group, version_group};
 ghost use Rattle.commands.specs.Parse.{is_zero, beyond};
-ghost use Rattle.commands.specs.TablePromises.{unit_meant, unit_of};
-ghost use Rattle.commands.specs.ParsePromises.{option_given, given_at, by_number, terms_for, instant_in, timed_for, versioned_for, condition_for, bound_for, sum_of};
+ghost use Rattle.commands.specs.ParsePromises.{expiry_given, version_given, given_at};
+ghost use Rattle.commands.specs.ParsePromises.{by_number, terms_for, instant_in, timed_for, versioned_for, bound_for, sum_of};
 
-use crate::options::{Given, ScannedOptions};
+use crate::options::{ExpiryOption, ScannedOptions, VersionGiven};
 use crate::refusal::Refusal;
-use crate::table::{
-    EXACT, EXPIRY_GROUP, IF_MISSING, KEPT, MATCHED, MAX_GROUP, MIN_GROUP, MS_FROM_NOW,
-    SECONDS_FROM_NOW, SECONDS_SINCE, TimeUnit, VERSION_GROUP,
-};
-use crate::{Condition, Lifetime, Stamping, Sum, Versioning};
+use crate::table::{TimeUnit, VersionOption};
+use crate::{Lifetime, Stamping, Sum, Versioning};
 use store::layout::{TIME_LIMIT, VERSION_MOST};
 use wire::integers::{Signed, read_integer, read_natural};
 use wire::words::word;
@@ -35,58 +32,45 @@ pub fn instant(unit: TimeUnit, n: u64, time: u64) -> u64
     }
 }
 
-// The unit that an option of the expiry group says.
-#[tactic(auto, unfolding(crate::specs::TablePromises::unit_of, crate::specs::TablePromises::unit_meant))]
-fn unit_said(said: usize) -> TimeUnit
-    ensures { unit_meant result ≡ unit_of said }
-{
-    match said {
-        SECONDS_FROM_NOW => TimeUnit::SecondsFromNow,
-        SECONDS_SINCE => TimeUnit::Seconds,
-        MS_FROM_NOW => TimeUnit::MillisecondsFromNow,
-        _ => TimeUnit::Milliseconds,
-    }
-}
-
 // What EX, EXAT, PX, PXAT or KEEPTTL says.
 pub fn lifetime(
     command: &[u8],
     places: &[[usize; 2]],
-    given: Option<Given>,
+    given: Option<ExpiryOption>,
     time: u64,
 ) -> Result<Lifetime, Refusal>
     requires { (Inside command.now places.now) × (time < time_limit) }
-    ensures { let ws = words_in command.now places.now in result ≡ timed_for time (option_given ws expiry_group given) }
+    ensures { let ws = words_in command.now places.now in result ≡ timed_for time (option_map (expiry_given ws) given) }
 {
     let Some(option) = given else {
         return Ok(Lifetime::Clear);
     };
-    if option.said == KEPT {
+    let ExpiryOption::Expires(unit, operand) = option else {
         return Ok(Lifetime::Keep);
-    }
-    let read = read_natural(word(command, places, option.operand), TIME_LIMIT);
+    };
+    let read = read_natural(word(command, places, operand), TIME_LIMIT);
     let n = read.ok_or(Refusal::NotInteger)?;
-    Ok(Lifetime::Until(instant(unit_said(option.said), n, time)))
+    Ok(Lifetime::Until(instant(unit, n, time)))
 }
 
 // What VER, ABS or GT says.
 pub fn versioning(
     command: &[u8],
     places: &[[usize; 2]],
-    given: Option<Given>,
+    given: Option<VersionGiven>,
 ) -> Result<Versioning, Refusal>
     requires { Inside command.now places.now }
-    ensures { let ws = words_in command.now places.now in result ≡ versioned_for (option_given ws version_group given) }
+    ensures { let ws = words_in command.now places.now in result ≡ versioned_for (option_map (version_given ws) given) }
 {
-    let Some(option) = given else {
+    let Some(version) = given else {
         return Ok(Versioning::Next);
     };
-    let read = read_natural(word(command, places, option.operand), VERSION_MOST);
+    let read = read_natural(word(command, places, version.operand), VERSION_MOST);
     let n = read.ok_or(Refusal::NotInteger)?;
-    match option.said {
-        MATCHED => Ok(Versioning::Match(n)),
-        EXACT => Ok(Versioning::Exactly(n)),
-        _ => Ok(Versioning::Above(n)),
+    match version.option {
+        VersionOption::Match => Ok(Versioning::Match(n)),
+        VersionOption::Exactly => Ok(Versioning::Exactly(n)),
+        VersionOption::Above => Ok(Versioning::Above(n)),
     }
 }
 
@@ -124,8 +108,8 @@ pub fn read_terms(
     ensures { let ws = words_in command.now places.now in
         by_number result ≡ terms_for time (given_at ws options expiry_group) (given_at ws options version_group) }
 {
-    let until = lifetime(command, places, options.given[EXPIRY_GROUP], time)?;
-    let version = versioning(command, places, options.given[VERSION_GROUP])?;
+    let until = lifetime(command, places, options.expiry, time)?;
+    let version = versioning(command, places, options.version)?;
     if is_zero(version) {
         return Err(Refusal::InvalidVersion);
     }
@@ -138,31 +122,18 @@ pub fn read_terms(
     })
 }
 
-// What NX or XX says.
-pub fn condition(given: Option<Given>) -> Condition
-    ensures { result ≡ condition_for given }
-{
-    let Some(option) = given else {
-        return Condition::Always;
-    };
-    if option.said == IF_MISSING {
-        return Condition::Missing;
-    }
-    Condition::Live
-}
-
 // What MIN or MAX says, an end of signed 64 bits where it is not given.
 pub fn bound(
     command: &[u8],
     places: &[[usize; 2]],
-    given: Option<Given>,
+    given: Option<usize>,
     unbounded: Signed,
 ) -> Option<Signed>
     requires { Inside command.now places.now }
     ensures { let ws = words_in command.now places.now in result ≡ bound_for unbounded ws given }
 {
     match given {
-        Some(option) => read_integer(word(command, places, option.operand)),
+        Some(operand) => read_integer(word(command, places, operand)),
         None => Some(unbounded),
     }
 }
@@ -177,13 +148,13 @@ pub fn sum(command: &[u8], places: &[[usize; 2]], options: ScannedOptions) -> Re
         negative: true,
         magnitude: LOWEST,
     };
-    let low = bound(command, places, options.given[MIN_GROUP], lowest);
+    let low = bound(command, places, options.min, lowest);
     let least = low.ok_or(Refusal::NotInteger)?;
     let highest = Signed {
         negative: false,
         magnitude: LOWEST - 1,
     };
-    let high = bound(command, places, options.given[MAX_GROUP], highest);
+    let high = bound(command, places, options.max, highest);
     let greatest = high.ok_or(Refusal::NotInteger)?;
     Ok(Sum {
         amount,

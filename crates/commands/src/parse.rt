@@ -13,7 +13,7 @@ use crate::table::{
     CONDITION_GROUP, CommandRow, EXPIRY_GROUP, Form, MAX_GROUP, MIN_GROUP, NO_EXP_GROUP, TimeUnit,
     VERSION_GROUP, command_named,
 };
-use crate::{FieldDeed, KeyDeed, Parsed, operands};
+use crate::{Condition, FieldDeed, KeyDeed, Parsed, operands};
 use store::layout::{TIME_LIMIT, VERSION_MOST};
 use wire::integers::read_natural;
 use wire::words::word;
@@ -30,7 +30,7 @@ fn parse_set(command: &[u8], places: &[[usize; 2]], time: u64) -> Result<Parsed,
         &[EXPIRY_GROUP, CONDITION_GROUP, VERSION_GROUP],
     )?;
     let terms = operands::read_terms(command, places, options, time)?;
-    let condition = operands::condition(options.given[CONDITION_GROUP]);
+    let condition = options.condition.unwrap_or(Condition::Always);
     Ok(Parsed::OnField(FieldDeed::Assign(condition, terms)))
 }
 
@@ -63,7 +63,7 @@ fn parse_expire(
 {
     let options = scan(command, places, 4, &[VERSION_GROUP])?;
     let n = read_natural(word(command, places, 3), TIME_LIMIT).ok_or(Refusal::NotInteger)?;
-    let versioning = operands::versioning(command, places, options.given[VERSION_GROUP])?;
+    let versioning = operands::versioning(command, places, options.version)?;
     if operands::is_zero(versioning) {
         return Err(Refusal::InvalidVersion);
     }
@@ -91,7 +91,7 @@ fn parse_count(command: &[u8], places: &[[usize; 2]]) -> Result<Parsed, Refusal>
         ((time : ℕ) → meant ws result ≡ parse_rest time P.Form.count_form ws) }
 {
     let options = scan(command, places, 2, &[NO_EXP_GROUP])?;
-    if options.given[NO_EXP_GROUP].is_some() {
+    if options.no_exp {
         return Ok(Parsed::OnKey(KeyDeed::CountLive));
     }
     Ok(Parsed::OnKey(KeyDeed::CountHeld))

@@ -1,12 +1,12 @@
 // The commands and their options: for each its name, a row of a table, and what parsing asks of it.
-ghost use Rattle.std.specs.Prelude.{◌≡◌, ◌<◌, option_map};
+ghost use Rattle.std.specs.Prelude.{◌≡◌, ◌<◌, option_map, is_some};
 ghost use Rattle.wire.specs.Promises.{row_named};
-ghost use Rattle.commands.specs.Options.{option_count};
+ghost use Rattle.commands.specs.Options.{option_count, group, operand_range};
 ghost use Rattle.commands.specs.Parse.{command_count, command_named, commands};
-ghost use Rattle.commands.specs.TablePromises.{command_of, row_parts, row_meant, option_table, option_of, option_said};
+ghost use Rattle.commands.specs.TablePromises.{command_of, row_parts, row_meant, option_table, option_of, kind_meant};
 
 use self::WordCount::{AtLeast, EvenFrom, Exactly};
-use crate::{Listing, Question};
+use crate::{Condition, Listing, Question};
 use wire::names::{ROW_SIZE, find};
 
 // The unit of a time, that of EX, EXAT, PX and PXAT; from now, or else since 1970.
@@ -76,12 +76,24 @@ const COMMANDS: [u8; ROW_SIZE * COMMAND_COUNT] = *b"\x06EXHSETghijklmno\
     \x07EXHVALShijklmno\
     \x09EXHGETALLjklmno";
 
-// What the table says of an option: its group, what it says there, and whether the next word is its operand.
+// VER, ABS or GT.
 #[derive(Clone, Copy)]
-pub struct OptionRow {
-    pub group: usize,
-    pub said: usize,
-    pub operand: bool,
+pub enum VersionOption {
+    Match,
+    Exactly,
+    Above,
+}
+
+// What an option says.
+#[derive(Clone, Copy)]
+pub enum OptionKind {
+    Expires(TimeUnit),
+    KeepTtl,
+    Only(Condition),
+    Versioned(VersionOption),
+    Min,
+    Max,
+    NoExp,
 }
 
 // The groups of options: at most one of each is given.
@@ -96,31 +108,6 @@ pub const MIN_GROUP: usize = 3;
 pub const MAX_GROUP: usize = 4;
 
 pub const NO_EXP_GROUP: usize = 5;
-
-pub const GROUP_COUNT: usize = 6;
-
-// What an option of the expiry group says: a unit, or that the expiry is kept.
-pub const SECONDS_FROM_NOW: usize = 0;
-
-pub const SECONDS_SINCE: usize = 1;
-
-pub const MS_FROM_NOW: usize = 2;
-
-pub const MS_SINCE: usize = 3;
-
-pub const KEPT: usize = 4;
-
-// What an option of the condition group says: NX, XX.
-pub const IF_MISSING: usize = 0;
-
-pub const IF_LIVE: usize = 1;
-
-// What an option of the version group says: VER, ABS, GT.
-pub const MATCHED: usize = 0;
-
-pub const EXACT: usize = 1;
-
-pub const ABOVE: usize = 2;
 
 // The options.
 const OPTION_COUNT: usize = 13;
@@ -187,44 +174,60 @@ pub fn command_named(word: &[u8]) -> Option<CommandRow>
     Some(command_row(i))
 }
 
-// A row of a group, what is said there, and whether an operand follows.
-fn option(group: usize, said: usize, operand: bool) -> OptionRow
-    ensures { result ≡ record { group = group; said = said; operand = operand } }
-{
-    OptionRow {
-        group,
-        said,
-        operand,
-    }
-}
-
-// The row of an option by its place among the names.
+// The option of a row by its place among the names.
 #[tactic(auto, unfolding(crate::proofs::TableRows::tables))]
-fn option_row(i: usize) -> OptionRow
+fn option_kind(i: usize) -> OptionKind
     requires { i < option_count }
-    ensures { result ≡ option_said (option_of i) }
+    ensures { kind_meant result ≡ (option_of i).kind }
 {
     match i {
-        0 => option(EXPIRY_GROUP, SECONDS_FROM_NOW, true),
-        1 => option(EXPIRY_GROUP, SECONDS_SINCE, true),
-        2 => option(EXPIRY_GROUP, MS_FROM_NOW, true),
-        3 => option(EXPIRY_GROUP, MS_SINCE, true),
-        4 => option(EXPIRY_GROUP, KEPT, false),
-        5 => option(CONDITION_GROUP, IF_MISSING, false),
-        6 => option(CONDITION_GROUP, IF_LIVE, false),
-        7 => option(VERSION_GROUP, MATCHED, true),
-        8 => option(VERSION_GROUP, EXACT, true),
-        9 => option(VERSION_GROUP, ABOVE, true),
-        10 => option(MIN_GROUP, 0, true),
-        11 => option(MAX_GROUP, 0, true),
-        _ => option(NO_EXP_GROUP, 0, false),
+        0 => OptionKind::Expires(TimeUnit::SecondsFromNow),
+        1 => OptionKind::Expires(TimeUnit::Seconds),
+        2 => OptionKind::Expires(TimeUnit::MillisecondsFromNow),
+        3 => OptionKind::Expires(TimeUnit::Milliseconds),
+        4 => OptionKind::KeepTtl,
+        5 => OptionKind::Only(Condition::Missing),
+        6 => OptionKind::Only(Condition::Live),
+        7 => OptionKind::Versioned(VersionOption::Match),
+        8 => OptionKind::Versioned(VersionOption::Exactly),
+        9 => OptionKind::Versioned(VersionOption::Above),
+        10 => OptionKind::Min,
+        11 => OptionKind::Max,
+        _ => OptionKind::NoExp,
     }
 }
 
-// The row of the option that a word names.
-pub fn option_named(word: &[u8]) -> Option<OptionRow>
-    ensures { result ≡ option_map (λ i. option_said (option_of i)) (row_named option_table word.now) }
+// The option that a word names.
+pub fn option_named(word: &[u8]) -> Option<OptionKind>
+    ensures { option_map kind_meant result ≡ option_map (λ i. (option_of i).kind) (row_named option_table word.now) }
 {
     let i = find(&OPTIONS, word)?;
-    Some(option_row(i))
+    Some(option_kind(i))
+}
+
+// The group of an option.
+#[tactic(auto, unfolding(crate::specs::TablePromises::kind_meant, crate::specs::Options::group))]
+pub fn group(kind: OptionKind) -> usize
+    ensures { result ≡ group (kind_meant kind) }
+{
+    match kind {
+        OptionKind::Expires(_) | OptionKind::KeepTtl => EXPIRY_GROUP,
+        OptionKind::Only(_) => CONDITION_GROUP,
+        OptionKind::Versioned(_) => VERSION_GROUP,
+        OptionKind::Min => MIN_GROUP,
+        OptionKind::Max => MAX_GROUP,
+        OptionKind::NoExp => NO_EXP_GROUP,
+    }
+}
+
+// Whether the word after an option is its operand.
+#[tactic(auto, unfolding(crate::specs::TablePromises::kind_meant, crate::specs::Options::operand_range))]
+pub fn takes_operand(kind: OptionKind) -> bool
+    ensures { result ≡ is_some (operand_range (kind_meant kind)) }
+{
+    match kind {
+        OptionKind::Expires(_) | OptionKind::Versioned(_) => true,
+        OptionKind::Min | OptionKind::Max => true,
+        OptionKind::KeepTtl | OptionKind::Only(_) | OptionKind::NoExp => false,
+    }
 }

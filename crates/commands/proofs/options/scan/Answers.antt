@@ -15,14 +15,14 @@ pub returns-in_err-found : goal.returns-in_err-found
 returns-in_err-found c =
     rw (handed c.from_residual.result c.from_residual.ensures.1) (scanning_fails c.loop-i.invariant (rw c.in_err-found.was at c.option_at.ensures))
 
-pub returns-then-is_some : goal.returns-then-is_some
-returns-then-is_some c = scanning_again c.loop-i.invariant c.in_ok-found.ensures (sym c.is_some.ensures ∙ c.if-is_some.true)
+pub returns-then-is_given : goal.returns-then-is_given
+returns-then-is_given c = scanning_again c.loop-i.invariant c.in_ok-found.ensures (sym c.if-is_given.true ∙ c.is_given.ensures _)
 
 pub overflow_add-i : goal.overflow_add-i
 overflow_add-i c = omega (arith, c.in_ok-found.ensures.inside, length_words c.args.command.now c.args.places.now, c.requires.most)
 
 pub loop-i-preserved : goal.loop-i-preserved
-loop-i-preserved c = scanning_on c.loop-i.invariant c.in_ok-found.ensures (sym c.is_some.ensures ∙ c.if-is_some.false)
+loop-i-preserved c = scanning_on c.loop-i.invariant c.in_ok-found.ensures (sym c.if-is_given.false ∙ c.is_given.ensures _) _ c.give.ensures
 
 pub returns : goal.returns
 returns c = scanning_ends c.loop-i.invariant (length_words _ _) c.loop-i-test.false

@@ -13,4 +13,4 @@ returns-in_err-terms c =
     (set_refused c.args.time (ready set_takes _ c.in_ok-options.ensures) _ c.read_terms.ensures c.in_err-terms.was)
 
 pub returns : goal.returns
-returns c = set_done c.args.time (ready set_takes _ c.in_ok-options.ensures) _ c.read_terms.ensures c.in_ok-terms.was c.condition-condition.ensures
+returns c = set_done c.args.time (ready set_takes _ c.in_ok-options.ensures) _ c.read_terms.ensures c.in_ok-terms.was c.unwrap_or-condition.ensures

@@ -11,10 +11,10 @@ pub returns-in_err-i : goal.returns-in_err-i
 unfolding tables option_table
 returns-in_err-i c = rw (c.from_residual.ensures, ← c.find.ensures, c.in_err-i.was)
 
-pub option_row-requires : goal.option_row-requires
+pub option_kind-requires : goal.option_kind-requires
 unfolding tables option_table
-option_row-requires c = option_number _ c.find.ensures c.in_ok-i.i c.in_ok-i.was
+option_kind-requires c = option_number _ c.find.ensures c.in_ok-i.i c.in_ok-i.was
 
 pub returns : goal.returns
 unfolding tables option_table
-returns c = rw (← c.find.ensures, c.in_ok-i.was, c.option_row.ensures)
+returns c = rw (← c.find.ensures, c.in_ok-i.was, c.option_kind.ensures)
