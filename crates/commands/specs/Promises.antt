@@ -160,12 +160,12 @@ expiring x = with_expiry x blank
 
 -- ---- fields among words
 
--- the first words of n times so many words
+-- the first word of each of n groups of so many words
 unfoldable pub firsts : ℕ → ℕ → List Word → List Word
 firsts step zero ws = []
 firsts step (suc n) ws = word_at 0 ws ∷ firsts step n (drop step ws)
 
--- the first word of each so many
+-- the first word of each whole group of so many words
 unfoldable pub each_first : ℕ → List Word → List Word
 each_first step ws = firsts step (length ws / step) ws
 
