@@ -2,7 +2,7 @@
 use Rattle.std.specs.Prelude.{Option, None, Some, option_map}
 use mathlib.Core.Path.{◌≡◌, refl, sym, ap, ap₂, ◌∙◌}
 use mathlib.Core.Bool.{Bool, true, false, false≢true, cond, ◌&&◌}
-use mathlib.Core.List.{List, [], ◌∷◌, ◌++◌, append_assoc, append-nil, map-append}
+use mathlib.Core.List.{List, [], ◌∷◌, ◌++◌, map, append_assoc, append-nil, map-append}
 use Prim.Native.Nat.{ℕ, zero, suc, ◌+◌, ◌-◌, ◌≤◌, ◌<◌}
 use native.Mathlib.Numerals.{add-one}
 use native.Mathlib.Nat.{not-suc-le-zero, sub-zero}
@@ -11,7 +11,7 @@ use borrow.Author.Count.{below_more}
 use borrow.Author.Tests.{le-leb, ltb-true, ltb-false, ne_eqb, eq-eqb}
 use lib.Dec.{leb, ltb, eqb}
 use lib.ListN.{length, get_or, take, drop, set, length-append, length-take, length-drop, length-map, drop_of_length-le, get_or-map, get_or-eq_default}
-use lib.Seq.{drop-cons, drop-drop, drop-length, take_at, take-append_seam, drop-append_seam, get_or-set_same, get_or-set_other, get_or-take, take-suc-set, length-take-le, append_snoc}
+use lib.Seq.{take_all, get_or-drop, drop-cons, drop-drop, drop-length, take_at, take-append_seam, drop-append_seam, get_or-set_same, get_or-set_other, get_or-take, take-suc-set, length-take-le, append_snoc}
 use Rattle.std.proofs.lemmas.Option.{same_Some}
 use Rattle.wire.proofs.Lists.{impossible}
 use Rattle.wire.specs.declared.words.Counted.{Counted}
@@ -509,6 +509,28 @@ word_part s places i =
 pub word_past : (s : List ℕ) (places : List (List ℕ)) (i : ℕ) → length places ≤ i → [] ≡ word_at i (words_in s places)
 unfolding word_in part
 word_past s places i l = rw (word_of_place s places i, get_or-eq_default places [] l)
+
+map_drop : {A B : Type 0} (f : A → B) (n : ℕ) (l : List A) → map f (drop n l) ≡ drop n (map f l)
+map_drop f zero l = refl
+map_drop f (suc n) [] = refl
+map_drop f (suc n) (x ∷ l) = map_drop f n l
+
+module _ (s : List ℕ) (places : List (List ℕ)) (n : ℕ) where
+  -- the places from place n on are those of the words from word n on
+  part_drop : take (length places - n) (drop n places) ≡ drop n places
+  part_drop = take_all (length places - n) (drop n places) (rw length-drop (omega arith))
+
+  pub part_words : words_in s (take (length places - n) (drop n places)) ≡ drop n (words_in s places)
+  unfolding words_in
+  part_words = rw part_drop (map_drop (word_in s) n places)
+
+  pub part_inside : Inside s places → Inside s (take (length places - n) (drop n places))
+  part_inside w =
+      rw part_drop
+      (record {
+        most = rw length-drop (omega (arith, w.most));
+        inside = λ i l. rw (get_or-drop n places i []) (w.inside (n + i) (omega (arith, length-drop n places)));
+      })
 
 -- there is no word n, or it is there
 pub next_end : (count n : ℕ) {r : Option ℕ} → r ≡ next_of count n → r ≡ None → count ≤ n

@@ -5,6 +5,7 @@ ghost use Rattle.wire.specs.Words.{words_most, word_at, crlf, before_cr, read_co
 ghost use Rattle.wire.specs.Promises.{words_in, Inside, Places, next_of, counted_for, placed_for};
 
 use crate::integers::read_natural;
+use std::marker::Model;
 
 // The most words of a command.
 pub const WORDS_MOST: usize = 64;
@@ -126,15 +127,62 @@ pub fn split(s: &[u8], places: &mut [[usize; 2]]) -> usize
     head.count
 }
 
-// Word i of a command by its place, or no bytes where the command has fewer words.
-pub fn word<'a>(s: &'a [u8], places: &[[usize; 2]], i: usize) -> &'a [u8]
-    requires { Inside s.now places.now }
-    ensures { result.now ≡ word_at i (words_in s.now places.now) }
-{
-    if places.len() <= i {
-        return &s[0..0];
+// The words that stand at places of some bytes: a place is a word's start and its size. A clause sees the list of the words.
+#[derive(Drop)]
+pub struct Words<'a> {
+    bytes: &'a [u8],
+    places: &'a [[usize; 2]],
+}
+
+impl<'a> Model for Words<'a> {
+    ghost use Rattle.std.specs.Prelude.{List};
+    ghost use Rattle.wire.specs.Words.{Word};
+    ghost use Rattle.wire.specs.Promises.{words_in};
+    ghost use Rattle.wire.specs.Promises as promises;
+
+    ghost Value = { List Word };
+
+    ghost view = { λ w. words_in w.bytes.now w.places.now };
+
+    ghost invariant = { λ w. promises.Inside w.bytes.now w.places.now };
+}
+
+impl<'a> Words<'a> {
+    pub fn new(bytes: &'a [u8], places: &'a [[usize; 2]]) -> Words<'a>
+        requires { Inside bytes.now places.now }
+        ensures { result ≡ words_in bytes.now places.now }
+    {
+        Words { bytes, places }
     }
-    let start = places[i][0];
-    let end = start + places[i][1];
-    &s[start..end]
+
+    // How many words there are, at most as many as a command has.
+    pub fn len(&self) -> usize
+        ensures value { result ≡ length self.now }
+        ensures most { result ≤ words_most }
+    {
+        self.places.len()
+    }
+
+    // Word i, or no bytes where there are fewer words.
+    pub fn word(&self, i: usize) -> &'a [u8]
+        ensures { result.now ≡ word_at i self.now }
+    {
+        if self.places.len() <= i {
+            return &self.bytes[..0];
+        }
+        let start = self.places[i][0];
+        let end = start + self.places[i][1];
+        &self.bytes[start..end]
+    }
+
+    // The words from word i on.
+    pub fn after(&self, i: usize) -> Words<'a>
+        requires { i ≤ length self.now }
+        ensures { result ≡ drop i self.now }
+    {
+        Words {
+            bytes: self.bytes,
+            places: &self.places[i..],
+        }
+    }
 }
