@@ -56,8 +56,8 @@ module _ {s : List ℕ} {places : List (List ℕ)} {count : ℕ} (h : Places s p
   pub places_size : count ≡ length (take count places)
   places_size = sym (length-take-le count places h.room)
 
-  pub places_divided : Divided s (take count places)
-  places_divided = record { words = rw (← places_size) h.words; within = h.within }
+  pub places_divided : Divided s (words_in s (take count places))
+  places_divided = record { words = rw (length_words s (take count places), ← places_size) h.words }
 
 -- a command on a store whose clock was set
 pub clock_does : (now : ℕ) (c : Command) (s : Store) {b after d x : List ℕ} {r : ℕ} → Holds b (with_clock now s) → Does (run_on now c (decode b)) after d x r → Does (run now c s) after d x r
@@ -163,15 +163,15 @@ module _ (clock : ℕ) (command b : List ℕ) (w : well_formed b ≡ true) (ws :
     pub key_opened : {o : List ℕ} → buffer_least ≤ length o → Opened time b o
     key_opened l = record { well = w; soon = accepted_time clock command b w t key_command on_key; room = l }
 
-    pub key_words : (places : List (List ℕ)) → Divided command places → 2 ≤ length places
-    key_words places h = go (eqb (length places) 0) refl
+    pub key_words : Divided command ws → 2 ≤ length ws
+    key_words h = go (eqb (length ws) 0) refl
       where
-        go : (z : Bool) → eqb (length places) 0 ≡ z → 2 ≤ length places
+        go : (z : Bool) → eqb (length ws) 0 ≡ z → 2 ≤ length ws
         go true y =
             let a = parse_accepted time clock command key_command on_key in
             let e : None ≡ Some a.words = sym (h.words ∙ rw y) ∙ a.split in
             impossible cc
-        go false y = rw length_words at (two_words time clock command key_command (words_in command places) on_key (h.words ∙ rw y))
+        go false y = two_words time clock command key_command ws on_key (h.words ∙ rw y)
 
     pub key_done : {after o x : List ℕ} {r : ℕ} → Does (run time key_command (decode b)) after o x r → Does (exec clock command (decode b)) after o x r
     key_done h = accepted_done clock command b w t key_command on_key h

@@ -2,19 +2,18 @@
 use mathlib.Core.Path.{◌≡◌, refl, sym, ap, ◌∙◌}
 use mathlib.Core.Bool.{true}
 use mathlib.Core.List.{List, [], ◌∷◌, ◌++◌, map, flatten}
-use Prim.Native.Nat.{ℕ, zero, suc, ◌+◌, ◌-◌, ◌*◌, ◌/◌, ◌≤◌, ◌<◌}
+use Prim.Native.Nat.{ℕ, suc, ◌+◌, ◌-◌, ◌*◌, ◌/◌, ◌≤◌, ◌<◌}
 use native.Mathlib.Numerals.{add-one}
 use native.Mathlib.Omega.{arith}
-use lib.ListN.{length, take, drop, length-map, length-drop, drop_of_length-le}
-use lib.Seq.{drop-cons, take_all, get_or-drop, drop-drop}
+use lib.ListN.{length, drop, length-map, length-drop, drop_of_length-le}
+use lib.Seq.{drop-cons, get_or-drop, drop-drop}
 use Rattle.wire.specs.Lists.{keep, or_else}
 use Rattle.wire.specs.Words.{Word, word_at}
 use Rattle.wire.specs.Replies.{header, array}
-use Rattle.wire.specs.Promises.{word_in, words_in, Inside, Laid}
+use Rattle.wire.specs.Promises.{Laid}
 use Rattle.wire.proofs.Lists.{length_keep}
 use Rattle.wire.proofs.ReplyLaying.{laid_length}
 use Rattle.wire.proofs.ReplyLaws.{length_header}
-use Rattle.wire.proofs.WordPlaces.{length_words}
 use Rattle.store.specs.Layout.{slots_most}
 use Rattle.store.specs.Store.{Slot, Store, decode, well_formed}
 use Rattle.store.specs.Time.{live_of_key}
@@ -36,80 +35,49 @@ use Rattle.wire.proofs.Elements.{Next}
 use Rattle.commands.proofs.ListedSlots.{shown_count}
 use Rattle.commands.proofs.FieldSweeps.{named, keep_unnamed, dead_more, dead_none, count_more}
 
--- ---- the words of a part of the places
-
-map_drop : {A B : Type 0} (f : A → B) (n : ℕ) (l : List A) → map f (drop n l) ≡ drop n (map f l)
-map_drop f zero l = refl
-map_drop f (suc n) [] = refl
-map_drop f (suc n) (x ∷ l) = map_drop f n l
-
--- the places from place n on, as the code lends them
-abbrev pub places_from : List (List ℕ) → ℕ → List (List ℕ)
-places_from places n = take (length places - n) (drop n places)
-
-module _ (places : List (List ℕ)) (n : ℕ) where
-  from_drop : places_from places n ≡ drop n places
-  from_drop = take_all (length places - n) (drop n places) (rw length-drop (omega arith))
-
-  pub from_length : length (places_from places n) ≡ length places - n
-  from_length = rw (from_drop, length-drop)
-
-module _ (s : List ℕ) (places : List (List ℕ)) (n : ℕ) where
-  pub from_words : words_in s (places_from places n) ≡ drop n (words_in s places)
-  unfolding words_in
-  from_words = rw (from_drop places n) (map_drop (word_in s) n places)
-
-  pub from_inside : Inside s places → Inside s (places_from places n)
-  from_inside w =
-      rw (from_drop places n)
-      (record {
-        most = rw length-drop (omega (arith, w.most));
-        inside = λ i l. rw (get_or-drop n places i []) (w.inside (n + i) (omega (arith, length-drop n places)));
-      })
-
 -- the words from place i on
-unfoldable pub words_from : List ℕ → List (List ℕ) → ℕ → List Word
-words_from s places i = drop i (words_in s places)
+unfoldable pub words_from : List Word → ℕ → List Word
+words_from ws i = drop i ws
 
-module _ (s : List ℕ) (places : List (List ℕ)) (i : ℕ) where
-  pub next_word : i < length places → {f : Word} → f ≡ word_at i (words_in s places) → words_from s places i ≡ f ∷ words_from s places (i + 1)
+module _ (ws : List Word) (i : ℕ) where
+  pub next_word : i < length ws → {f : Word} → f ≡ word_at i ws → words_from ws i ≡ f ∷ words_from ws (i + 1)
   unfolding words_from word_at
-  next_word l q = drop-cons (words_in s places) i [] (rw (length_words s places) l) ∙ rw (q, add-one)
+  next_word l q = drop-cons ws i [] l ∙ rw (q, add-one)
 
-  pub no_word : length places ≤ i → words_from s places i ≡ []
+  pub no_word : length ws ≤ i → words_from ws i ≡ []
   unfolding words_from
-  no_word l = drop_of_length-le (words_in s places) {i = i} (rw (length_words s places) l)
+  no_word l = drop_of_length-le ws {i = i} l
 
-  pub length_from : length (words_from s places i) ≡ length places - i
+  pub length_from : length (words_from ws i) ≡ length ws - i
   unfolding words_from
-  length_from = rw (length-drop, length_words)
+  length_from = length-drop i ws
 
 -- ---- each first of so many words
 
-module _ (step : ℕ) (s : List ℕ) (places : List (List ℕ)) where
+module _ (step : ℕ) (ws : List Word) where
   -- those from number i on
   unfoldable pub firsts_from : ℕ → List Word
-  firsts_from i = firsts step (length places / step - i) (drop (step * i) (words_in s places))
+  firsts_from i = firsts step (length ws / step - i) (drop (step * i) ws)
 
-  pub all_firsts : firsts_from 0 ≡ each_first step (words_in s places)
+  pub all_firsts : firsts_from 0 ≡ each_first step ws
   unfolding firsts_from each_first
   all_firsts =
       let z : step * 0 ≡ 0 = omega arith in
-      let n : length places / step - 0 ≡ length places / step = omega arith in
-      rw (length_words s places, z, n) refl
+      let n : length ws / step - 0 ≡ length ws / step = omega arith in
+      rw (z, n) refl
 
-  pub next_first : (i : ℕ) → i < length places / step → {f : Word} → f ≡ word_at (step * i) (words_in s places)
+  pub next_first : (i : ℕ) → i < length ws / step → {f : Word} → f ≡ word_at (step * i) ws
       → firsts_from i ≡ f ∷ firsts_from (i + 1)
   unfolding firsts_from firsts word_at
   next_first i l q =
-      let n : length places / step - i ≡ suc (length places / step - (i + 1)) = omega arith in
+      let n : length ws / step - i ≡ suc (length ws / step - (i + 1)) = omega arith in
       let m : step * i + step ≡ step * (i + 1) = omega arith in
       let z : step * i + 0 ≡ step * i = omega arith in
-      rw (n, q, get_or-drop (step * i) (words_in s places) 0 [], drop-drop step (step * i) (words_in s places), m, z) refl
+      rw (n, q, get_or-drop (step * i) ws 0 [], drop-drop step (step * i) ws, m, z) refl
 
-  pub no_first : (i : ℕ) → length places / step ≤ i → firsts_from i ≡ []
+  pub no_first : (i : ℕ) → length ws / step ≤ i → firsts_from i ≡ []
   unfolding firsts_from firsts
-  no_first i l = let n : length places / step - i ≡ 0 = omega arith in rw n
+  no_first i l = let n : length ws / step - i ≡ 0 = omega arith in rw n
 
 -- one by one they are all, two by two the fields of pairs
 pub each_word : (ws : List Word) → each_first 1 ws ≡ ws
@@ -224,38 +192,38 @@ module _ {n : ℕ} (few : n ≤ elements_most) where
 -- ---- an answer about each field
 
 -- the answers from place i on
-unfoldable pub answers_from : (Word → List ℕ) → List ℕ → List (List ℕ) → ℕ → List ℕ
-answers_from g s places i = flatten (map g (words_from s places i))
+unfoldable pub answers_from : (Word → List ℕ) → List Word → ℕ → List ℕ
+answers_from g ws i = flatten (map g (words_from ws i))
 
-module _ (g : Word → List ℕ) (s : List ℕ) (places : List (List ℕ)) where
-  pub answers_next : (i : ℕ) → i < length places → {f : Word} → f ≡ word_at i (words_in s places)
-      → Next (answers_from g s places i) (g f) (answers_from g s places (i + 1))
+module _ (g : Word → List ℕ) (ws : List Word) where
+  pub answers_next : (i : ℕ) → i < length ws → {f : Word} → f ≡ word_at i ws
+      → Next (answers_from g ws i) (g f) (answers_from g ws (i + 1))
   unfolding answers_from flatten
-  answers_next i l q = record { parts = rw (next_word s places i l q) }
+  answers_next i l q = record { parts = rw (next_word ws i l q) }
 
-  pub answers_over : (i : ℕ) → length places ≤ i → answers_from g s places i ≡ []
+  pub answers_over : (i : ℕ) → length ws ≤ i → answers_from g ws i ≡ []
   unfolding answers_from flatten
-  answers_over i l = rw (no_word s places i l)
+  answers_over i l = rw (no_word ws i l)
 
   -- the header, and then the answers
-  pub answers_begin : header (length places) ++ flatten (map g (words_in s places)) ≡ array (map g (words_in s places))
+  pub answers_begin : header (length ws) ++ flatten (map g ws) ≡ array (map g ws)
   unfolding array
-  answers_begin = rw (length-map (words_in s places) g, length_words s places)
+  answers_begin = rw (length-map ws g)
 
 -- have room, and then there is room for one answer more
-module _ (now : ℕ) (b : List ℕ) (k : Word) (q : Question) (s : List ℕ) (places : List (List ℕ))
-    (w : well_formed b ≡ true) (few : length places ≤ fields_most) {n : ℕ} (big : buffer_least ≤ n) where
-  pub answers_spare : answer_most + length (header (length places) ++ flatten (answers_of now b k q (words_in s places))) ≤ n
+module _ (now : ℕ) (b : List ℕ) (k : Word) (q : Question) (ws : List Word)
+    (w : well_formed b ≡ true) (few : length ws ≤ fields_most) {n : ℕ} (big : buffer_least ≤ n) where
+  pub answers_spare : answer_most + length (header (length ws) ++ flatten (answers_of now b k q ws)) ≤ n
   unfolding effect fields_of answer_about
   answers_spare =
-      rw (answers_begin (answer_about now b k q) s places)
+      rw (answers_begin (answer_about now b k q) ws)
       (omega (
         arith,
-        (effect_short now (get_many k (words_in s places) q) (decode b).slots (decode_valid b w).fits (decode_valid b w).most
-            (rw (length_words s places) few) refl).short,
+        (effect_short now (get_many k ws q) (decode b).slots (decode_valid b w).fits (decode_valid b w).most
+            few refl).short,
       ))
 
-  pub answers_room : length (header (length places) ++ flatten (answers_of now b k q (words_in s places))) ≤ n
+  pub answers_room : length (header (length ws) ++ flatten (answers_of now b k q ws)) ≤ n
   answers_room = omega (arith, answers_spare)
 
 -- ---- what a listing shows

@@ -9,7 +9,7 @@ use lib.ListN.{length, drop}
 use Rattle.wire.specs.Lists.{any, keep, or_else}
 use Rattle.wire.specs.Words.{Word, word_at}
 use Rattle.wire.specs.Replies.{number, array}
-use Rattle.wire.specs.Promises.{words_in, Laid}
+use Rattle.wire.specs.Promises.{Laid}
 use Rattle.wire.proofs.Lists.{length_keep}
 use Rattle.store.specs.Layout.{slots_most}
 use Rattle.store.specs.Store.{Slot, Store, decode, well_formed, holds}
@@ -29,7 +29,6 @@ use Rattle.commands.specs.ParsePromises.{command_for}
 use Rattle.commands.specs.Promises.{WithinLimits, Does, Deletes, answer_about, answers_of, listed_of}
 use Rattle.commands.proofs.Settling.{does_answer}
 use Rattle.commands.proofs.FieldSweeps.{dead_none}
-use Rattle.commands.proofs.FieldLoops.{places_from, from_words}
 
 -- what settles on bytes that hold the swept store settles on that store
 module _ (now : ℕ) (c : Command) (s : Store) {b : List ℕ} (h : Holds b (swept now (key_of c) (fields_of c) s)) where
@@ -106,15 +105,15 @@ module _ (k : Word) (ws : List Word) {deed g : KeyDeed} (q : deed ≡ g) where
   deed_within w = rw q at w
 
 -- word 1 is the key, and the fields follow it
-module _ (s : List ℕ) (places : List (List ℕ)) {k : Word} (p : k ≡ word_at 1 (words_in s places)) (deed : KeyDeed) where
-  words_same : command_for k (words_in s (places_from places 2)) deed ≡ command_for (word_at 1 (words_in s places)) (drop 2 (words_in s places)) deed
-  words_same = rw (p, from_words s places 2)
+module _ (ws : List Word) {k : Word} (p : k ≡ word_at 1 ws) (deed : KeyDeed) where
+  words_same : command_for k (drop 2 ws) deed ≡ command_for (word_at 1 ws) (drop 2 ws) deed
+  words_same = rw p
 
   pub does_words : (now : ℕ) (t : Store) {after d x : List ℕ} {r : ℕ}
-      → Does (run_on now (command_for k (words_in s (places_from places 2)) deed) t) after d x r
-      → Does (run_on now (command_for (word_at 1 (words_in s places)) (drop 2 (words_in s places)) deed) t) after d x r
+      → Does (run_on now (command_for k (drop 2 ws) deed) t) after d x r
+      → Does (run_on now (command_for (word_at 1 ws) (drop 2 ws) deed) t) after d x r
   does_words now t w = rw words_same at w
 
-  pub words_within : WithinLimits (command_for (word_at 1 (words_in s places)) (drop 2 (words_in s places)) deed)
-      → WithinLimits (command_for k (words_in s (places_from places 2)) deed)
+  pub words_within : WithinLimits (command_for (word_at 1 ws) (drop 2 ws) deed)
+      → WithinLimits (command_for k (drop 2 ws) deed)
   words_within w = rw (← words_same) at w

@@ -10,8 +10,7 @@ use lib.Dec.{ltb, eqb}
 use lib.ListN.{length, drop, length-map}
 use Rattle.wire.specs.Lists.{any, keep}
 use Rattle.wire.specs.Bytes.{same}
-use Rattle.wire.specs.Words.{Word, words_most, word_at}
-use Rattle.wire.specs.Promises.{words_in, Inside}
+use Rattle.wire.specs.Words.{Word, word_at}
 use Rattle.wire.proofs.Lists.{impossible, or_left, or_right, or_neither, length_keep}
 use Rattle.store.specs.Layout.{key_most, field_most, value_most, version_most}
 use Rattle.store.specs.Store.{Entry, entry, Slot, Store, decode, holds, well_formed}
@@ -36,11 +35,11 @@ use Rattle.commands.proofs.PairOverflow.{next_is}
 -- ---- the next pair
 
 -- the pairs from pair i on, and their fields
-unfoldable pub pairs_from : List ℕ → List (List ℕ) → ℕ → List Pair
-pairs_from s places i = pairs_of (words_from s places (2 * i))
+unfoldable pub pairs_from : List Word → ℕ → List Pair
+pairs_from ws i = pairs_of (words_from ws (2 * i))
 
-unfoldable pub named_from : List ℕ → List (List ℕ) → ℕ → List Word
-named_from s places i = fields_in (words_from s places (2 * i))
+unfoldable pub named_from : List Word → ℕ → List Word
+named_from ws i = fields_in (words_from ws (2 * i))
 
 pairs_none : (ws : List Word) → length ws ≤ 1 → pairs_of ws ≡ []
 unfolding pairs_of
@@ -48,37 +47,37 @@ pairs_none [] l = refl
 pairs_none (w ∷ []) l = refl
 pairs_none (w ∷ v ∷ ws) l = absurd (let z : ⊥ = omega arith in z)
 
-module _ (s : List ℕ) (places : List (List ℕ)) (i : ℕ) where
-  pub next_pair : i < length places / 2 → {f v : Word} → f ≡ word_at (2 * i) (words_in s places) → v ≡ word_at (2 * i + 1) (words_in s places)
-      → pairs_from s places i ≡ record { field = f; value = v } ∷ pairs_from s places (i + 1)
+module _ (ws : List Word) (i : ℕ) where
+  pub next_pair : i < length ws / 2 → {f v : Word} → f ≡ word_at (2 * i) ws → v ≡ word_at (2 * i + 1) ws
+      → pairs_from ws i ≡ record { field = f; value = v } ∷ pairs_from ws (i + 1)
   unfolding pairs_from pairs_of
   next_pair l p q =
       let two : 2 * i + 1 + 1 ≡ 2 * (i + 1) = omega arith in
-      rw (next_word s places (2 * i) (omega arith) p, next_word s places (2 * i + 1) (omega arith) q, two)
+      rw (next_word ws (2 * i) (omega arith) p, next_word ws (2 * i + 1) (omega arith) q, two)
 
-  pub no_pair : length places / 2 ≤ i → pairs_from s places i ≡ []
+  pub no_pair : length ws / 2 ≤ i → pairs_from ws i ≡ []
   unfolding pairs_from
-  no_pair l = pairs_none (words_from s places (2 * i)) (rw (length_from s places (2 * i)) (omega arith))
+  no_pair l = pairs_none (words_from ws (2 * i)) (rw (length_from ws (2 * i)) (omega arith))
 
   -- and its field
-  pub next_named : i < length places / 2 → {f : Word} → f ≡ word_at (2 * i) (words_in s places) → named_from s places i ≡ f ∷ named_from s places (i + 1)
+  pub next_named : i < length ws / 2 → {f : Word} → f ≡ word_at (2 * i) ws → named_from ws i ≡ f ∷ named_from ws (i + 1)
   unfolding pairs_from named_from fields_in
   next_named l p = ap (map (λ x. x.field)) (next_pair l p refl)
 
-  pub none_named_lem : length places / 2 ≤ i → named_from s places i ≡ []
+  pub none_named_lem : length ws / 2 ≤ i → named_from ws i ≡ []
   unfolding pairs_from named_from fields_in
   none_named_lem l = ap (map (λ x. x.field)) (no_pair l)
 
   -- at most as many as a command has words
-  pub few_named : Inside s places → length (named_from s places i) ≤ words_most
+  pub few_named : length (named_from ws i) ≤ length ws
   unfolding named_from fields_in
-  few_named w =
-      rw (length-map (pairs_of (words_from s places (2 * i))) (λ x. x.field))
-      (omega (arith, pair_count (words_from s places (2 * i)), length_from s places (2 * i), w.most))
+  few_named =
+      rw (length-map (pairs_of (words_from ws (2 * i))) (λ x. x.field))
+      (omega (arith, pair_count (words_from ws (2 * i)), length_from ws (2 * i)))
 
-pub few_fields : (s : List ℕ) (places : List (List ℕ)) → Inside s places → length (fields_in (words_in s places)) ≤ words_most
+pub few_fields : (ws : List Word) → length (fields_in ws) ≤ length ws
 unfolding named_from words_from
-few_fields s places w = few_named s places 0 w
+few_fields ws = few_named ws 0
 
 -- ---- how often a field comes again
 
@@ -118,14 +117,14 @@ module _ {f : Word} {fields rest : List Word} {n : ℕ} (r : Repeating f fields 
     repeating_skip h = record { sum = omega (arith, r.sum, ap (times_in f) q, times_skip f g more (sym e ∙ h)) }
 
 -- the field of pair i comes again so often
-module _ (s : List ℕ) (places : List (List ℕ)) (i : ℕ) {f : Word} {r : ℕ} (q : f ≡ word_at (2 * i) (words_in s places))
-    (e : r ≡ times_in (word_at (2 * i) (words_in s places)) (fields_in (drop (2 * (i + 1)) (words_in s places)))) where
-  pub again_is : r ≡ times_in f (named_from s places (i + 1))
+module _ (ws : List Word) (i : ℕ) {f : Word} {r : ℕ} (q : f ≡ word_at (2 * i) ws)
+    (e : r ≡ times_in (word_at (2 * i) ws) (fields_in (drop (2 * (i + 1)) ws))) where
+  pub again_is : r ≡ times_in f (named_from ws (i + 1))
   unfolding named_from words_from
   again_is = rw q e
 
-  pub again_few : Inside s places → r ≤ words_most
-  again_few w = omega (arith, again_is, few_times f (named_from s places (i + 1)), few_named s places (i + 1) w)
+  pub again_few : r ≤ length ws
+  again_few = omega (arith, again_is, few_times f (named_from ws (i + 1)), few_named ws (i + 1))
 
 -- ---- what these times tell
 
@@ -134,7 +133,7 @@ pub telling_all : {found : Option ℕ} {held times n : ℕ} → n ≡ times → 
 telling_all e = record { most = omega arith; passes = rw e; added = rw e }
 
 -- of a field that is held, with a version far from the largest, 0 tells as much
-pub telling_none : {found : Option ℕ} {held times : ℕ} → is_some found ≡ true → held < version_most - words_most → times ≤ words_most → Telling found held times 0
+pub telling_none : {found : Option ℕ} {held times most : ℕ} → is_some found ≡ true → held < version_most - most → times ≤ most → Telling found held times 0
 unfolding new_field
 telling_none {found} {held} {times} e l m =
     record {
@@ -147,13 +146,13 @@ telling_none {found} {held} {times} e l m =
     go (Some i) q = refl
     go None q = impossible cc
 
-module _ (s : List ℕ) (places : List (List ℕ)) (i : ℕ) where
-  pub times_few : Inside s places → times_in (word_at (2 * i) (words_in s places)) (fields_in (drop (2 * (i + 1)) (words_in s places))) ≤ words_most
-  times_few w = again_few s places i refl refl w
+module _ (ws : List Word) (i : ℕ) where
+  pub times_few : times_in (word_at (2 * i) ws) (fields_in (drop (2 * (i + 1)) ws)) ≤ length ws
+  times_few = again_few ws i refl refl
 
-  pub telling_is : {found : Option ℕ} {held n : ℕ} {f : Word} → f ≡ word_at (2 * i) (words_in s places)
-      → Telling found held (times_in (word_at (2 * i) (words_in s places)) (fields_in (drop (2 * (i + 1)) (words_in s places)))) n
-      → Telling found held (times_in f (named_from s places (i + 1))) n
+  pub telling_is : {found : Option ℕ} {held n : ℕ} {f : Word} → f ≡ word_at (2 * i) ws
+      → Telling found held (times_in (word_at (2 * i) ws) (fields_in (drop (2 * (i + 1)) ws))) n
+      → Telling found held (times_in f (named_from ws (i + 1))) n
   unfolding named_from words_from
   telling_is q t = rw q t
 
@@ -338,13 +337,13 @@ pub placed_pair : (now : ℕ) (k f v : Word) (s : Store) {n : ℕ} {d : List ℕ
 placed_pair now k f v s {d = d} q h = subst (λ (e : Entry). Holds d (with_put now e s)) (placed_entry k f v s.slots q) h
 
 -- What the code knows of the field at i tells whether it passes the largest version.
-abbrev pub Passing : List ℕ → List (List ℕ) → List ℕ → Word → ℕ → Type 0
-Passing s places b k i = (f : Word) (found : Option ℕ) (held again : ℕ) → i < length places / 2 → f ≡ word_at (2 * i) (words_in s places)
+abbrev pub Passing : List Word → List ℕ → Word → ℕ → Type 0
+Passing ws b k i = (f : Word) (found : Option ℕ) (held again : ℕ) → i < length ws / 2 → f ≡ word_at (2 * i) ws
     → found ≡ lowest_slot (holds k f) (decode b).slots → held ≡ held_version (entry_for (decode b).slots found)
-    → Telling found held (times_in (word_at (2 * i) (words_in s places)) (fields_in (drop (2 * (i + 1)) (words_in s places)))) again → version_most < held + (again + 1)
-    → Err VersionOverflow ≡ survey_of k (fields_in (words_in s places)) (decode b).slots
+    → Telling found held (times_in (word_at (2 * i) ws) (fields_in (drop (2 * (i + 1)) ws))) again → version_most < held + (again + 1)
+    → Err VersionOverflow ≡ survey_of k (fields_in ws) (decode b).slots
 
-pub survey_passes : (s : List ℕ) (places : List (List ℕ)) (b : List ℕ) (k : Word) (i : ℕ) {n : ℕ} → well_formed b ≡ true
-    → Surveying k (fields_in (words_in s places)) (named_from s places i) (decode b).slots n → Passing s places b k i
-survey_passes s places b k i w now f found held again l e q v t h =
-    surveying_over now (next_named _ _ _ l e) (version_sought (record { well = w; looked = q }) v) (telling_is _ _ _ e t) h
+pub survey_passes : (ws : List Word) (b : List ℕ) (k : Word) (i : ℕ) {n : ℕ} → well_formed b ≡ true
+    → Surveying k (fields_in ws) (named_from ws i) (decode b).slots n → Passing ws b k i
+survey_passes ws b k i w now f found held again l e q v t h =
+    surveying_over now (next_named _ _ l e) (version_sought (record { well = w; looked = q }) v) (telling_is _ _ e t) h

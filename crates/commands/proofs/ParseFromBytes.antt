@@ -8,8 +8,6 @@ use borrow.Author.Tests.{not-true, not-false, le-leb, lt-leb, ne_eqb}
 use lib.ListN.{length}
 use Rattle.wire.specs.Lists.{or_else}
 use Rattle.wire.specs.Words.{Word, words_of, word_at}
-use Rattle.wire.specs.Promises.{words_in}
-use Rattle.wire.proofs.WordPlaces.{length_words}
 use Rattle.store.specs.Layout.{time_limit}
 use Rattle.commands.specs.declared.table.CommandRow.{CommandRow}
 use Rattle.commands.specs.declared.Parsed.{Parsed}
@@ -66,50 +64,47 @@ parsed_parts time ws (Some r) = refl
 
 -- ---- the bytes of a command
 
-module _ {s : List ℕ} {places : List (List ℕ)} (p : Divided s places) (time clock : ℕ) where
-  abbrev words : List Word
-  words = words_in s places
-
-  pub parse_10 : length places ≡ 0 → meant words (Err Protocol) ≡ P.parse time clock s
+module _ {s : List ℕ} {ws : List Word} (p : Divided s ws) (time clock : ℕ) where
+  pub parse_10 : length ws ≡ 0 → meant ws (Err Protocol) ≡ P.parse time clock s
   unfolding meant refusal_number P.parse or_else
   parse_10 e =
       let damaged : words_of s ≡ None = p.words ∙ rw e in
       rw damaged
 
-  module _ (n : length places ≡ 0 → ⊥) where
-    whole : words_of s ≡ Some words
-    whole = p.words ∙ rw (ne_eqb (length places) 0 n)
+  module _ (n : length ws ≡ 0 → ⊥) where
+    whole : words_of s ≡ Some ws
+    whole = p.words ∙ rw (ne_eqb (length ws) 0 n)
 
-    pub parse_11 : time_limit ≤ clock → meant words (Err ClockOutOfRange) ≡ P.parse time clock s
+    pub parse_11 : time_limit ≤ clock → meant ws (Err ClockOutOfRange) ≡ P.parse time clock s
     unfolding meant refusal_number P.parse or_else
     parse_11 l = rw (whole, le-leb time_limit clock l)
 
-    module _ (l : clock < time_limit) {w : Word} (ew : w ≡ word_at 0 words) (r : Option CommandRow) (er : option_map row_meant r ≡ option_map row_parts (command_named commands w)) where
-      named : P.parse time clock s ≡ or_else (option_map row_meant r) (refused 12) (λ p. parsed time p.0 p.1 words)
+    module _ (l : clock < time_limit) {w : Word} (ew : w ≡ word_at 0 ws) (r : Option CommandRow) (er : option_map row_meant r ≡ option_map row_parts (command_named commands w)) where
+      named : P.parse time clock s ≡ or_else (option_map row_meant r) (refused 12) (λ p. parsed time p.0 p.1 ws)
       unfolding P.parse or_else
-      named = rw (whole, lt-leb time_limit clock l, er, ew) (parsed_parts time words (command_named commands (word_at 0 words)))
+      named = rw (whole, lt-leb time_limit clock l, er, ew) (parsed_parts time ws (command_named commands (word_at 0 ws)))
 
-      pub parse_12 : r ≡ None → meant words (Err UnknownCommand) ≡ P.parse time clock s
+      pub parse_12 : r ≡ None → meant ws (Err UnknownCommand) ≡ P.parse time clock s
       unfolding meant refusal_number or_else
       parse_12 h = sym (named ∙ rw h)
 
       module _ (row : CommandRow) (h : r ≡ Some row) where
-        known : P.parse time clock s ≡ parsed time (form_meant row.form) (count_meant row.count) words
+        known : P.parse time clock s ≡ parsed time (form_meant row.form) (count_meant row.count) ws
         unfolding or_else
         known = named ∙ rw h
 
-        pub parse_13 : {b : Bool} → b ≡ count_fits (count_meant row.count) (length places) → not b ≡ true → meant words (Err WrongArgumentCount) ≡ P.parse time clock s
+        pub parse_13 : {b : Bool} → b ≡ count_fits (count_meant row.count) (length ws) → not b ≡ true → meant ws (Err WrongArgumentCount) ≡ P.parse time clock s
         unfolding meant refusal_number
-        parse_13 {b} e q = sym (known ∙ words_13 time (form_meant row.form) (count_meant row.count) words (rw length_words (sym e ∙ not-true b q)))
+        parse_13 {b} e q = sym (known ∙ words_13 time (form_meant row.form) (count_meant row.count) ws (sym e ∙ not-true b q))
 
-        module _ {b : Bool} (eb : b ≡ count_fits (count_meant row.count) (length places)) (qb : not b ≡ false)
-            {d : Bool} (ed : (time : ℕ) (gs : List Given) → d ≡ too_long (build time (form_meant row.form) words gs)) where
-          fits : count_fits (count_meant row.count) (length words) ≡ true
-          fits = rw length_words (sym eb ∙ not-false b qb)
+        module _ {b : Bool} (eb : b ≡ count_fits (count_meant row.count) (length ws)) (qb : not b ≡ false)
+            {d : Bool} (ed : (time : ℕ) (gs : List Given) → d ≡ too_long (build time (form_meant row.form) ws gs)) where
+          fits : count_fits (count_meant row.count) (length ws) ≡ true
+          fits = sym eb ∙ not-false b qb
 
-          pub parse_14 : d ≡ true → meant words (Err TooLong) ≡ P.parse time clock s
+          pub parse_14 : d ≡ true → meant ws (Err TooLong) ≡ P.parse time clock s
           unfolding meant refusal_number
-          parse_14 q = sym (known ∙ words_14 time (form_meant row.form) (count_meant row.count) words fits (sym (ed time (given_in (form_meant row.form) words)) ∙ q))
+          parse_14 q = sym (known ∙ words_14 time (form_meant row.form) (count_meant row.count) ws fits (sym (ed time (given_in (form_meant row.form) ws)) ∙ q))
 
-          pub parse_rest_lem : d ≡ false → (x : Result Parsed Refusal) → meant words x ≡ parse_rest time (form_meant row.form) words → meant words x ≡ P.parse time clock s
-          parse_rest_lem q x e = e ∙ sym (known ∙ words_rest time (form_meant row.form) (count_meant row.count) words fits (sym (ed time (given_in (form_meant row.form) words)) ∙ q))
+          pub parse_rest_lem : d ≡ false → (x : Result Parsed Refusal) → meant ws x ≡ parse_rest time (form_meant row.form) ws → meant ws x ≡ P.parse time clock s
+          parse_rest_lem q x e = e ∙ sym (known ∙ words_rest time (form_meant row.form) (count_meant row.count) ws fits (sym (ed time (given_in (form_meant row.form) ws)) ∙ q))

@@ -5,7 +5,7 @@ use Rattle.wire.specs.Lists.{any, or_else}
 use Rattle.wire.specs.Integers.{read_integer, lowest64, highest64}
 use Rattle.wire.specs.Words.{Word, word_at, words_of}
 use Rattle.wire.specs.declared.integers.Signed.{Signed}
-use Rattle.wire.specs.Promises.{integer_of, words_in, Inside, signed_for}
+use Rattle.wire.specs.Promises.{integer_of, signed_for}
 use Rattle.store.specs.Layout.{field_most, value_most}
 use Rattle.commands.specs.declared.FieldDeed.{FieldDeed}
 use Rattle.commands.specs.declared.FieldDeed.TheVariants as fieldDeeds
@@ -40,10 +40,9 @@ use Rattle.commands.specs.TablePromises.{unit_meant, version_meant, kind_meant}
 
 -- ---- words
 
--- the places of a command's words, none where it is damaged
-pub record Divided (s : List ℕ) (places : List (List ℕ)) : Type 0 where
-  pub words : words_of s ≡ cond (eqb (length places) 0) None (Some (words_in s places))
-  pub within : Inside s places
+-- the words of a command, none where it is damaged
+pub record Divided (s : List ℕ) (ws : List Word) : Type 0 where
+  pub words : words_of s ≡ cond (eqb (length ws) 0) None (Some ws)
 
 -- ---- the lines of refusals
 

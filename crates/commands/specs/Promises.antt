@@ -8,7 +8,7 @@ use Rattle.wire.specs.Integers.{lowest64, highest64, within}
 use Rattle.wire.specs.Words.{Word, words_most, word_at}
 use Rattle.wire.specs.declared.integers.Signed.{Signed}
 use Rattle.wire.specs.Replies.{integer, laid_over}
-use Rattle.wire.specs.Promises.{signed_for, integer_of, Inside, Laid}
+use Rattle.wire.specs.Promises.{signed_for, integer_of, Laid}
 use Rattle.store.specs.Layout.{version_most, time_limit}
 use Rattle.store.specs.Store.{Entry, blank, with_version, with_expiry, Slot, Store, with_slots, decode, well_formed, holds, entry_at}
 use Rattle.store.specs.Time.{key_exists, live_of_key, lowest_slot, entry_of, slot_for, put, empty_slot, dead_slot}
@@ -117,9 +117,8 @@ answers_of now b k q fs = map (answer_about now b k q) fs
 abbrev pub fields_most : ℕ
 fields_most = words_most - 2
 
--- what a command on fields asks: their places in the command, a well-formed store, and a buffer for any reply
-pub record FieldsReady (command : List ℕ) (fields : List (List ℕ)) (bytes out : List ℕ) : Type 0 where
-  pub inside : Inside command fields
+-- what a command on fields asks: not too many of them, a well-formed store, and a buffer for any reply
+pub record FieldsReady (fields : List Word) (bytes out : List ℕ) : Type 0 where
   pub few : length fields ≤ fields_most
   pub well : well_formed bytes ≡ true
   pub room : buffer_least ≤ length out

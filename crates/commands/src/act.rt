@@ -1,6 +1,5 @@
 // What commands do with an entry of the store: look for it, remove it when dead, put it in its place.
 ghost use Rattle.std.specs.Prelude.{◌≡◌, true, [], ◌∷◌, ◌≤◌};
-ghost use Rattle.wire.specs.Promises.{words_in, Inside};
 ghost use Rattle.store.specs.Store.{decode, well_formed, entry};
 ghost use Rattle.store.specs.Valid.{Fits};
 ghost use Rattle.store.specs.Promises.{Holds};
@@ -8,7 +7,7 @@ ghost use Rattle.commands.specs.Execute.{swept};
 ghost use Rattle.commands.specs.Promises.{Looked, each_first, slot_after, with_put};
 
 use store::{change, find, read};
-use wire::words::{WORDS_MOST, word};
+use wire::words::{WORDS_MOST, Words};
 
 // Looks for the entry of a key and a field. A dead one is removed, so what is found is live.
 pub fn look(bytes: &mut [u8], key: &[u8], field: &[u8], time: u64) -> Option<usize>
@@ -27,19 +26,18 @@ pub fn look(bytes: &mut [u8], key: &[u8], field: &[u8], time: u64) -> Option<usi
 
 // Removes the dead entries of a key and some fields, each the first of STEP words, and answers hints: the slot that each has, any where it is missing.
 pub fn sweep<const STEP: usize>(
-    command: &[u8],
-    places: &[[usize; 2]],
+    words: &Words<'_>,
     bytes: &mut [u8],
     key: &[u8],
     time: u64,
 ) -> [usize; WORDS_MOST]
-    requires { (Inside command.now places.now) × (well_formed bytes.old ≡ true) × (1 ≤ STEP) }
-    ensures { let fs = each_first STEP (words_in command.now places.now) in
+    requires { (well_formed bytes.old ≡ true) × (1 ≤ STEP) }
+    ensures { let fs = each_first STEP words.now in
         Holds bytes.new (swept time key.now fs (decode bytes.old)) }
 {
     let mut hints = [0; WORDS_MOST];
-    for i in 0..places.len() / STEP {
-        let found = look(bytes, key, word(command, places, STEP * i), time);
+    for i in 0..words.len() / STEP {
+        let found = look(bytes, key, words.word(STEP * i), time);
         hints[i] = found.unwrap_or(0);
     }
     hints

@@ -1,6 +1,5 @@
 // Whether a command has as many words as it takes (13), and whether one of them is too long (14).
 ghost use Rattle.std.specs.Prelude.{◌≡◌, List, ℕ};
-ghost use Rattle.wire.specs.Promises.{words_in, Inside};
 ghost use Rattle.commands.specs.Options.{Given};
 ghost use Rattle.commands.specs.Parse.{count_fits, build, too_long};
 ghost use Rattle.commands.specs.TablePromises.{count_meant, form_meant};
@@ -8,7 +7,7 @@ ghost use Rattle.commands.specs.ParsePromises.{any_over, pair_over};
 
 use crate::table::{CommandRow, Form, WordCount};
 use store::layout::{FIELD_MOST, KEY_MOST, VALUE_MOST};
-use wire::words::word;
+use wire::words::Words;
 
 // Whether a command of a row takes so many words, its name counted.
 #[tactic(auto, unfolding(crate::specs::Parse::count_fits, crate::specs::TablePromises::count_meant))]
@@ -23,12 +22,11 @@ pub fn count_fits(row: CommandRow, count: usize) -> bool
 }
 
 // Whether a word from word 2 on is longer than a field may be.
-fn any_over(command: &[u8], places: &[[usize; 2]]) -> bool
-    requires { Inside command.now places.now }
-    ensures { result ≡ any_over (words_in command.now places.now) }
+fn any_over(words: &Words<'_>) -> bool
+    ensures { result ≡ any_over words.now }
 {
-    for i in 2..places.len() {
-        if FIELD_MOST < word(command, places, i).len() {
+    for i in 2..words.len() {
+        if FIELD_MOST < words.word(i).len() {
             return true;
         }
     }
@@ -36,15 +34,14 @@ fn any_over(command: &[u8], places: &[[usize; 2]]) -> bool
 }
 
 // Whether a pair from word 2 on has a field or a value that is too long.
-fn pair_over(command: &[u8], places: &[[usize; 2]]) -> bool
-    requires { Inside command.now places.now }
-    ensures { result ≡ pair_over (words_in command.now places.now) }
+fn pair_over(words: &Words<'_>) -> bool
+    ensures { result ≡ pair_over words.now }
 {
-    for i in 1..places.len() / 2 {
-        if FIELD_MOST < word(command, places, 2 * i).len() {
+    for i in 1..words.len() / 2 {
+        if FIELD_MOST < words.word(2 * i).len() {
             return true;
         }
-        if VALUE_MOST < word(command, places, 2 * i + 1).len() {
+        if VALUE_MOST < words.word(2 * i + 1).len() {
             return true;
         }
     }
@@ -53,24 +50,19 @@ fn pair_over(command: &[u8], places: &[[usize; 2]]) -> bool
 
 // Whether the key, a field or a value of a command of a row is too long.
 #[tactic(auto, using(crate::proofs::CountTallies::key_lengths), unfolding(crate::proofs::CountTallies::long_after, crate::specs::TablePromises::form_meant))]
-pub fn too_long(command: &[u8], places: &[[usize; 2]], row: CommandRow) -> bool
-    requires { Inside command.now places.now }
-    ensures { let ws = words_in command.now places.now in
-        ((time : ℕ) (gs : List Given) → result ≡ too_long (build time (form_meant row.form) ws gs)) }
+pub fn too_long(words: &Words<'_>, row: CommandRow) -> bool
+    ensures { (time : ℕ) (gs : List Given) → result ≡ too_long (build time (form_meant row.form) words.now gs) }
 {
-    if KEY_MOST < word(command, places, 1).len() {
+    if KEY_MOST < words.word(1).len() {
         return true;
     }
     match row.form {
-        Form::Set => {
-            FIELD_MOST < word(command, places, 2).len()
-                || VALUE_MOST < word(command, places, 3).len()
-        },
-        Form::SetMany => pair_over(command, places),
-        Form::GetMany(_) | Form::Delete => any_over(command, places),
+        Form::Set => { FIELD_MOST < words.word(2).len() || VALUE_MOST < words.word(3).len() },
+        Form::SetMany => pair_over(words),
+        Form::GetMany(_) | Form::Delete => any_over(words),
         Form::Count | Form::List(_) => false,
         Form::Increment | Form::Expire(_) | Form::Persist | Form::Renumber | Form::Ask(_) => {
-            FIELD_MOST < word(command, places, 2).len()
+            FIELD_MOST < words.word(2).len()
         },
     }
 }

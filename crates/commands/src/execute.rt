@@ -16,7 +16,7 @@ use crate::refusal::put_error;
 use crate::{Executed, FieldDeed, KeyDeed, Parsed};
 use store::change::set_clock;
 use store::read::now_at;
-use wire::words::{WORDS_MOST, split, word};
+use wire::words::{WORDS_MOST, Words, split};
 
 // The least buffer for a reply.
 pub const BUFFER_LEAST: usize = 56000;
@@ -24,45 +24,39 @@ pub const BUFFER_LEAST: usize = 56000;
 // Sets the clock, and does a command on one field.
 fn run_on_field(
     deed: FieldDeed,
-    command: &[u8],
-    places: &[[usize; 2]],
+    words: &Words<'_>,
     time: u64,
     bytes: &mut [u8],
     out: &mut [u8],
 ) -> usize
-    requires { let ws = words_in command.now places.now in
-        let c = on_field (word_at 1 ws) (word_at 2 ws) (deed_of (word_at 3 ws) deed) in
-        (Inside command.now places.now) × (Opened time bytes.old out.old) × (WithinLimits c) }
-    ensures { let ws = words_in command.now places.now in
-        let c = on_field (word_at 1 ws) (word_at 2 ws) (deed_of (word_at 3 ws) deed) in
+    requires { let c = on_field (word_at 1 words.now) (word_at 2 words.now) (deed_of (word_at 3 words.now) deed) in
+        (Opened time bytes.old out.old) × (WithinLimits c) }
+    ensures { let c = on_field (word_at 1 words.now) (word_at 2 words.now) (deed_of (word_at 3 words.now) deed) in
         Does (run time c (decode bytes.old)) bytes.new out.old out.new result }
 {
     set_clock(bytes, time);
-    let key = word(command, places, 1);
-    let field = word(command, places, 2);
-    let value = word(command, places, 3);
+    let key = words.word(1);
+    let field = words.word(2);
+    let value = words.word(3);
     on_field(deed, bytes, key, field, value, time, out)
 }
 
 // Sets the clock, and does a command on the fields of a key.
 fn run_on_key(
     deed: KeyDeed,
-    command: &[u8],
-    places: &[[usize; 2]],
+    words: &Words<'_>,
     time: u64,
     bytes: &mut [u8],
     out: &mut [u8],
 ) -> usize
-    requires { let ws = words_in command.now places.now in
-        let c = command_for (word_at 1 ws) (drop 2 ws) deed in
-        (Inside command.now places.now) × (2 ≤ length places.now) × (Opened time bytes.old out.old) × (WithinLimits c) }
-    ensures { let ws = words_in command.now places.now in
-        let c = command_for (word_at 1 ws) (drop 2 ws) deed in
+    requires { let c = command_for (word_at 1 words.now) (drop 2 words.now) deed in
+        (2 ≤ length words.now) × (Opened time bytes.old out.old) × (WithinLimits c) }
+    ensures { let c = command_for (word_at 1 words.now) (drop 2 words.now) deed in
         Does (run time c (decode bytes.old)) bytes.new out.old out.new result }
 {
     set_clock(bytes, time);
-    let key = word(command, places, 1);
-    on_key(deed, command, &places[2..], bytes, key, time, out)
+    let key = words.word(1);
+    on_key(deed, &words.after(2), bytes, key, time, out)
 }
 
 // Does a command whose words stand at places, and answers the length of its reply.
@@ -73,15 +67,17 @@ fn run_words(
     store: &mut [u8],
     reply: &mut [u8],
 ) -> usize
-    requires { (Divided command.now places.now) × (well_formed store.old ≡ true) × (buffer_least ≤ length reply.old) }
+    requires command_value { (Inside command.now places.now) × (Divided command.now (words_in command.now places.now)) }
+    requires store_value { (well_formed store.old ≡ true) × (buffer_least ≤ length reply.old) }
     ensures { let outcome = exec clock command.now (decode store.old) in
         Does outcome store.new reply.old reply.new result }
 {
+    let words = Words::new(command, places);
     let time = now_at(store, clock);
-    let parsed = parse(command, places, clock, time);
+    let parsed = parse(&words, clock, time);
     match parsed {
-        Ok(Parsed::OnField(deed)) => run_on_field(deed, command, places, time, store, reply),
-        Ok(Parsed::OnKey(deed)) => run_on_key(deed, command, places, time, store, reply),
+        Ok(Parsed::OnField(deed)) => run_on_field(deed, &words, time, store, reply),
+        Ok(Parsed::OnKey(deed)) => run_on_key(deed, &words, time, store, reply),
         Err(refusal) => put_error(refusal, reply),
     }
 }

@@ -1,8 +1,8 @@
-// What is done with the fields of a key. `fields` are the places of the words that name them.
+// What is done with the fields of a key. `fields` are the words that name them.
 ghost use Rattle.std.specs.Prelude.{◌≡◌, true, ◌+◌, ◌≤◌, length};
 ghost use mathlib.Core.List.{flatten};
 ghost use Rattle.wire.specs.Replies.{array};
-ghost use Rattle.wire.specs.Promises.{words_in, Inside, Laid};
+ghost use Rattle.wire.specs.Promises.{Laid};
 ghost use Rattle.store.specs.Store.{decode, well_formed, entry_at};
 ghost use Rattle.store.specs.Promises.{Held, Holds};
 ghost use Rattle.commands.specs.Refusal.{buffer_least};
@@ -18,7 +18,7 @@ use crate::pairs::set_many;
 use crate::{Asking, KeyDeed, Listing, Question};
 use store::{SoughtKey, change, find, read};
 use wire::replies::{put_bulk, put_header, put_number};
-use wire::words::{WORDS_MOST, word};
+use wire::words::{WORDS_MOST, Words};
 
 // The reply to a question about one field, found by its name.
 fn put_field(
@@ -40,24 +40,23 @@ fn put_field(
 
 // The answer about each of some fields.
 fn put_answers(
-    command: &[u8],
-    fields: &[[usize; 2]],
+    fields: &Words<'_>,
     bytes: &[u8],
     asking: Asking,
     key: &[u8],
     hints: &[usize; WORDS_MOST],
     out: &mut [u8],
 ) -> usize
-    requires { let answers = answers_of asking.time bytes.now key.now asking.question (words_in command.now fields.now) in
-        (Inside command.now fields.now) × (well_formed bytes.now ≡ true)
+    requires { let answers = answers_of asking.time bytes.now key.now asking.question fields.now in
+        (well_formed bytes.now ≡ true)
         × (answer_most + length (flatten answers) ≤ length out.old) }
-    ensures { let fs = words_in command.now fields.now in
+    ensures { let fs = fields.now in
         let answers = answers_of asking.time bytes.now key.now asking.question fs in
         Laid (flatten answers) out.old out.new result }
 {
     let mut at = 0;
     for i in 0..fields.len() {
-        let field = word(command, fields, i);
+        let field = fields.word(i);
         at = put_field(bytes, asking, key, field, hints[i], &mut out[at..]) + at;
     }
     at
@@ -65,22 +64,21 @@ fn put_answers(
 
 // EXHMGET and EXHMGETWITHVER: an array of these answers.
 fn get_many(
-    command: &[u8],
-    fields: &[[usize; 2]],
+    fields: &Words<'_>,
     bytes: &mut [u8],
     question: Question,
     key: &[u8],
     time: u64,
     out: &mut [u8],
 ) -> usize
-    requires { FieldsReady command.now fields.now bytes.old out.old }
-    ensures { let c = get_many key.now (words_in command.now fields.now) question in
+    requires { FieldsReady fields.now bytes.old out.old }
+    ensures { let c = get_many key.now fields.now question in
         Does (run_on time c (decode bytes.old)) bytes.new out.old out.new result }
 {
-    let hints = sweep::<1>(command, fields, bytes, key, time);
+    let hints = sweep::<1>(fields, bytes, key, time);
     let at = put_header(fields.len() as u64, out);
     let asking = Asking { question, time };
-    put_answers(command, fields, bytes, asking, key, &hints, &mut out[at..]) + at
+    put_answers(fields, bytes, asking, key, &hints, &mut out[at..]) + at
 }
 
 // Removes the entry of a key and a field, and answers how many that was.
@@ -98,38 +96,30 @@ fn remove_field(bytes: &mut [u8], key: &[u8], field: &[u8], hint: usize) -> u64
 
 // Removes the entries of a key and some fields, and answers how many that were.
 fn remove_fields(
-    command: &[u8],
-    fields: &[[usize; 2]],
+    fields: &Words<'_>,
     bytes: &mut [u8],
     key: &[u8],
     hints: &[usize; WORDS_MOST],
 ) -> u64
-    requires { (Inside command.now fields.now) × (well_formed bytes.old ≡ true) }
-    ensures { let fs = words_in command.now fields.now in
+    requires { well_formed bytes.old ≡ true }
+    ensures { let fs = fields.now in
         Deletes key.now fs (decode bytes.old) bytes.new result }
 {
     let mut n = 0;
     for i in 0..fields.len() {
-        n += remove_field(bytes, key, word(command, fields, i), hints[i]);
+        n += remove_field(bytes, key, fields.word(i), hints[i]);
     }
     n
 }
 
 // EXHDEL.
-fn delete(
-    command: &[u8],
-    fields: &[[usize; 2]],
-    bytes: &mut [u8],
-    key: &[u8],
-    time: u64,
-    out: &mut [u8],
-) -> usize
-    requires { FieldsReady command.now fields.now bytes.old out.old }
-    ensures { let c = delete key.now (words_in command.now fields.now) in
+fn delete(fields: &Words<'_>, bytes: &mut [u8], key: &[u8], time: u64, out: &mut [u8]) -> usize
+    requires { FieldsReady fields.now bytes.old out.old }
+    ensures { let c = delete key.now fields.now in
         Does (run_on time c (decode bytes.old)) bytes.new out.old out.new result }
 {
-    let hints = sweep::<1>(command, fields, bytes, key, time);
-    let n = remove_fields(command, fields, bytes, key, &hints);
+    let hints = sweep::<1>(fields, bytes, key, time);
+    let n = remove_fields(fields, bytes, key, &hints);
     put_number(n, out)
 }
 
@@ -191,22 +181,21 @@ fn put_list(bytes: &[u8], listing: Listing, key: &[u8], time: u64, out: &mut [u8
 // Does a command on a key and the fields that it names, on a store whose clock is set.
 pub fn on_key(
     deed: KeyDeed,
-    command: &[u8],
-    fields: &[[usize; 2]],
+    fields: &Words<'_>,
     bytes: &mut [u8],
     key: &[u8],
     time: u64,
     out: &mut [u8],
 ) -> usize
-    requires { let c = command_for key.now (words_in command.now fields.now) deed in
-        (FieldsReady command.now fields.now bytes.old out.old) × (WithinLimits c) }
-    ensures { let c = command_for key.now (words_in command.now fields.now) deed in
+    requires { let c = command_for key.now fields.now deed in
+        (FieldsReady fields.now bytes.old out.old) × (WithinLimits c) }
+    ensures { let c = command_for key.now fields.now deed in
         Does (run_on time c (decode bytes.old)) bytes.new out.old out.new result }
 {
     match deed {
-        KeyDeed::SetMany => set_many(command, fields, bytes, key, time, out),
-        KeyDeed::GetMany(question) => get_many(command, fields, bytes, question, key, time, out),
-        KeyDeed::Delete => delete(command, fields, bytes, key, time, out),
+        KeyDeed::SetMany => set_many(fields, bytes, key, time, out),
+        KeyDeed::GetMany(question) => get_many(fields, bytes, question, key, time, out),
+        KeyDeed::Delete => delete(fields, bytes, key, time, out),
         KeyDeed::CountHeld => put_number(find::count_held(bytes, key) as u64, out),
         KeyDeed::CountLive => put_number(find::count_live(bytes, key, time) as u64, out),
         KeyDeed::List(listing) => put_list(bytes, listing, key, time, out),

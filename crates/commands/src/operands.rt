@@ -1,6 +1,5 @@
 // What the options of a command say: each is given by what it says in its group and the number of its operand's word.
 ghost use Rattle.std.specs.Prelude.{◌≡◌, ◌≤◌, ◌<◌, option_map};
-ghost use Rattle.wire.specs.Promises.{words_in, Inside};
 ghost use Rattle.store.specs.Layout.{time_limit};
 ghost use Rattle.commands.specs.Options.{expiry_group, version_group};
 ghost use Rattle.commands.specs.Parse.{is_zero, beyond};
@@ -13,7 +12,7 @@ use crate::table::{TimeUnit, VersionOption};
 use crate::{Lifetime, Stamping, Sum, Versioning};
 use store::layout::{TIME_LIMIT, VERSION_MOST};
 use wire::integers::{Signed, read_integer, read_natural};
-use wire::words::word;
+use wire::words::Words;
 
 // The largest magnitude of a negative number of signed 64 bits.
 const LOWEST: u64 = 9223372036854775808;
@@ -34,13 +33,12 @@ pub fn instant(unit: TimeUnit, n: u64, time: u64) -> u64
 
 // What EX, EXAT, PX, PXAT or KEEPTTL says.
 pub fn lifetime(
-    command: &[u8],
-    places: &[[usize; 2]],
+    words: &Words<'_>,
     given: Option<ExpiryOption>,
     time: u64,
 ) -> Result<Lifetime, Refusal>
-    requires { (Inside command.now places.now) × (time < time_limit) }
-    ensures { let ws = words_in command.now places.now in result ≡ timed_for time (option_map (expiry_given ws) given) }
+    requires { time < time_limit }
+    ensures { result ≡ timed_for time (option_map (expiry_given words.now) given) }
 {
     let Some(option) = given else {
         return Ok(Lifetime::Clear);
@@ -48,24 +46,19 @@ pub fn lifetime(
     let ExpiryOption::Expires(unit, operand) = option else {
         return Ok(Lifetime::Keep);
     };
-    let read = read_natural(word(command, places, operand), TIME_LIMIT);
+    let read = read_natural(words.word(operand), TIME_LIMIT);
     let n = read.ok_or(Refusal::NotInteger)?;
     Ok(Lifetime::Until(instant(unit, n, time)))
 }
 
 // What VER, ABS or GT says.
-pub fn versioning(
-    command: &[u8],
-    places: &[[usize; 2]],
-    given: Option<VersionGiven>,
-) -> Result<Versioning, Refusal>
-    requires { Inside command.now places.now }
-    ensures { let ws = words_in command.now places.now in result ≡ versioned_for (option_map (version_given ws) given) }
+pub fn versioning(words: &Words<'_>, given: Option<VersionGiven>) -> Result<Versioning, Refusal>
+    ensures { result ≡ versioned_for (option_map (version_given words.now) given) }
 {
     let Some(version) = given else {
         return Ok(Versioning::Next);
     };
-    let read = read_natural(word(command, places, version.operand), VERSION_MOST);
+    let read = read_natural(words.word(version.operand), VERSION_MOST);
     let n = read.ok_or(Refusal::NotInteger)?;
     match version.option {
         VersionOption::Match => Ok(Versioning::Match(n)),
@@ -99,17 +92,15 @@ fn is_beyond(lifetime: Lifetime) -> bool
 
 // What the options of a command say of its version and its expiry.
 pub fn read_terms(
-    command: &[u8],
-    places: &[[usize; 2]],
+    words: &Words<'_>,
     options: ScannedOptions,
     time: u64,
 ) -> Result<Stamping, Refusal>
-    requires { (Inside command.now places.now) × (time < time_limit) }
-    ensures { let ws = words_in command.now places.now in
-        by_number result ≡ terms_for time (given_at ws options expiry_group) (given_at ws options version_group) }
+    requires { time < time_limit }
+    ensures { by_number result ≡ terms_for time (given_at words.now options expiry_group) (given_at words.now options version_group) }
 {
-    let until = lifetime(command, places, options.expiry, time)?;
-    let version = versioning(command, places, options.version)?;
+    let until = lifetime(words, options.expiry, time)?;
+    let version = versioning(words, options.version)?;
     if is_zero(version) {
         return Err(Refusal::InvalidVersion);
     }
@@ -123,38 +114,31 @@ pub fn read_terms(
 }
 
 // What MIN or MAX says, an end of signed 64 bits where it is not given.
-pub fn bound(
-    command: &[u8],
-    places: &[[usize; 2]],
-    given: Option<usize>,
-    unbounded: Signed,
-) -> Option<Signed>
-    requires { Inside command.now places.now }
-    ensures { let ws = words_in command.now places.now in result ≡ bound_for unbounded ws given }
+pub fn bound(words: &Words<'_>, given: Option<usize>, unbounded: Signed) -> Option<Signed>
+    ensures { result ≡ bound_for unbounded words.now given }
 {
     match given {
-        Some(operand) => read_integer(word(command, places, operand)),
+        Some(operand) => read_integer(words.word(operand)),
         None => Some(unbounded),
     }
 }
 
 // What EXHINCRBY adds, and its bounds: word 3, MIN and MAX.
-pub fn sum(command: &[u8], places: &[[usize; 2]], options: ScannedOptions) -> Result<Sum, Refusal>
-    requires { Inside command.now places.now }
-    ensures { result ≡ sum_of (words_in command.now places.now) options }
+pub fn sum(words: &Words<'_>, options: ScannedOptions) -> Result<Sum, Refusal>
+    ensures { result ≡ sum_of words.now options }
 {
-    let amount = read_integer(word(command, places, 3)).ok_or(Refusal::NotInteger)?;
+    let amount = read_integer(words.word(3)).ok_or(Refusal::NotInteger)?;
     let lowest = Signed {
         negative: true,
         magnitude: LOWEST,
     };
-    let low = bound(command, places, options.min, lowest);
+    let low = bound(words, options.min, lowest);
     let least = low.ok_or(Refusal::NotInteger)?;
     let highest = Signed {
         negative: false,
         magnitude: LOWEST - 1,
     };
-    let high = bound(command, places, options.max, highest);
+    let high = bound(words, options.max, highest);
     let greatest = high.ok_or(Refusal::NotInteger)?;
     Ok(Sum {
         amount,

@@ -1,7 +1,6 @@
 // The options of a command: which were given, and where their operands stand.
 ghost use Rattle.std.specs.Prelude.{◌≡◌, ◌<◌, List, is_some, length};
 ghost use Rattle.wire.specs.Words.{Word};
-ghost use Rattle.wire.specs.Promises.{words_in, Inside};
 ghost use Rattle.commands.specs.Options.{group};
 ghost use Rattle.commands.specs.TablePromises.{kind_meant};
 ghost use Rattle.commands.specs.ParsePromises.{FoundBy, WithOption, Scanned, given_at};
@@ -9,7 +8,7 @@ ghost use Rattle.commands.specs.ParsePromises.{FoundBy, WithOption, Scanned, giv
 use crate::Condition;
 use crate::refusal::Refusal;
 use crate::table::{OptionKind, TimeUnit, VersionOption, group, option_named, takes_operand};
-use wire::words::{next_word, word};
+use wire::words::{Words, next_word};
 
 // EX, EXAT, PX or PXAT as its unit, with the number of its operand's word, or KEEPTTL.
 #[derive(Clone, Copy)]
@@ -44,23 +43,18 @@ struct PlacedOption {
 }
 
 // The option at a word, of one of the groups that the command takes. It is refused where it is unknown or its operand is missing.
-fn option_at(
-    command: &[u8],
-    places: &[[usize; 2]],
-    i: usize,
-    allowed: &[usize],
-) -> Result<PlacedOption, Refusal>
-    requires { (Inside command.now places.now) × (i < length places.now) }
-    ensures { FoundBy (words_in command.now places.now) allowed.now i result }
+fn option_at(words: &Words<'_>, i: usize, allowed: &[usize]) -> Result<PlacedOption, Refusal>
+    requires { i < length words.now }
+    ensures { FoundBy words.now allowed.now i result }
 {
-    let kind = option_named(word(command, places, i)).ok_or(Refusal::Syntax)?;
+    let kind = option_named(words.word(i)).ok_or(Refusal::Syntax)?;
     if !allowed.contains(&group(kind)) {
         return Err(Refusal::Syntax);
     }
     if !takes_operand(kind) {
         return Ok(PlacedOption { kind, last: i });
     }
-    let last = next_word(places.len(), i + 1).ok_or(Refusal::Syntax)?;
+    let last = next_word(words.len(), i + 1).ok_or(Refusal::Syntax)?;
     Ok(PlacedOption { kind, last })
 }
 
@@ -101,14 +95,8 @@ fn give(options: &mut ScannedOptions, kind: OptionKind, last: usize)
 }
 
 // The options among the words from a word on. They are refused where one is unknown, repeated or conflicting, or its operand is missing.
-pub fn scan(
-    command: &[u8],
-    places: &[[usize; 2]],
-    from: usize,
-    allowed: &[usize],
-) -> Result<ScannedOptions, Refusal>
-    requires { Inside command.now places.now }
-    ensures { Scanned (words_in command.now places.now) allowed.now from result }
+pub fn scan(words: &Words<'_>, from: usize, allowed: &[usize]) -> Result<ScannedOptions, Refusal>
+    ensures { Scanned words.now allowed.now from result }
 {
     let mut options = ScannedOptions {
         expiry: None,
@@ -119,8 +107,8 @@ pub fn scan(
         no_exp: false,
     };
     let mut i = from;
-    while i < places.len() {
-        let found = option_at(command, places, i, allowed)?;
+    while i < words.len() {
+        let found = option_at(words, i, allowed)?;
         if is_given(options, found.kind) {
             return Err(Refusal::Syntax);
         }

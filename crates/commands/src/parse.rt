@@ -1,6 +1,5 @@
 // From the words of a command to what it says, or to the lowest of the refusals 10 to 18.
-ghost use Rattle.std.specs.Prelude.{◌≡◌, ℕ, ◌<◌};
-ghost use Rattle.wire.specs.Promises.{words_in, Inside};
+ghost use Rattle.std.specs.Prelude.{◌≡◌, ℕ, ◌<◌, List};
 ghost use Rattle.store.specs.Layout.{time_limit};
 ghost use Rattle.commands.specs.Parse as P;
 ghost use Rattle.commands.specs.TablePromises.{unit_meant, form_meant};
@@ -16,54 +15,42 @@ use crate::table::{
 use crate::{Condition, FieldDeed, KeyDeed, Parsed, operands};
 use store::layout::{TIME_LIMIT, VERSION_MOST};
 use wire::integers::read_natural;
-use wire::words::word;
+use wire::words::Words;
 
 // EXHSET from its options on: checks 15 to 18.
-fn parse_set(command: &[u8], places: &[[usize; 2]], time: u64) -> Result<Parsed, Refusal>
-    requires { (Inside command.now places.now) × (time < time_limit) }
-    ensures { let ws = words_in command.now places.now in meant ws result ≡ parse_rest time P.Form.set_form ws }
+fn parse_set(words: &Words<'_>, time: u64) -> Result<Parsed, Refusal>
+    requires { time < time_limit }
+    ensures { meant words.now result ≡ parse_rest time P.Form.set_form words.now }
 {
-    let options = scan(
-        command,
-        places,
-        4,
-        &[EXPIRY_GROUP, CONDITION_GROUP, VERSION_GROUP],
-    )?;
-    let terms = operands::read_terms(command, places, options, time)?;
+    let options = scan(words, 4, &[EXPIRY_GROUP, CONDITION_GROUP, VERSION_GROUP])?;
+    let terms = operands::read_terms(words, options, time)?;
     let condition = options.condition.unwrap_or(Condition::Always);
     Ok(Parsed::OnField(FieldDeed::Assign(condition, terms)))
 }
 
 // EXHINCRBY from its options on.
-fn parse_increment(command: &[u8], places: &[[usize; 2]], time: u64) -> Result<Parsed, Refusal>
-    requires { (Inside command.now places.now) × (time < time_limit) }
-    ensures { let ws = words_in command.now places.now in meant ws result ≡ parse_rest time P.Form.increment_form ws }
+fn parse_increment(words: &Words<'_>, time: u64) -> Result<Parsed, Refusal>
+    requires { time < time_limit }
+    ensures { meant words.now result ≡ parse_rest time P.Form.increment_form words.now }
 {
     let options = scan(
-        command,
-        places,
+        words,
         4,
         &[EXPIRY_GROUP, VERSION_GROUP, MIN_GROUP, MAX_GROUP],
     )?;
-    let sum = operands::sum(command, places, options)?;
-    let terms = operands::read_terms(command, places, options, time)?;
+    let sum = operands::sum(words, options)?;
+    let terms = operands::read_terms(words, options, time)?;
     Ok(Parsed::OnField(FieldDeed::Increment(sum, terms)))
 }
 
 // EXHEXPIRE, EXHEXPIREAT, EXHPEXPIRE and EXHPEXPIREAT from their options on, by their units.
-fn parse_expire(
-    command: &[u8],
-    places: &[[usize; 2]],
-    unit: TimeUnit,
-    time: u64,
-) -> Result<Parsed, Refusal>
-    requires { (Inside command.now places.now) × (time < time_limit) }
-    ensures { let ws = words_in command.now places.now in
-        meant ws result ≡ parse_rest time (P.Form.expire_form (unit_meant unit)) ws }
+fn parse_expire(words: &Words<'_>, unit: TimeUnit, time: u64) -> Result<Parsed, Refusal>
+    requires { time < time_limit }
+    ensures { meant words.now result ≡ parse_rest time (P.Form.expire_form (unit_meant unit)) words.now }
 {
-    let options = scan(command, places, 4, &[VERSION_GROUP])?;
-    let n = read_natural(word(command, places, 3), TIME_LIMIT).ok_or(Refusal::NotInteger)?;
-    let versioning = operands::versioning(command, places, options.version)?;
+    let options = scan(words, 4, &[VERSION_GROUP])?;
+    let n = read_natural(words.word(3), TIME_LIMIT).ok_or(Refusal::NotInteger)?;
+    let versioning = operands::versioning(words, options.version)?;
     if operands::is_zero(versioning) {
         return Err(Refusal::InvalidVersion);
     }
@@ -75,22 +62,18 @@ fn parse_expire(
 }
 
 // EXHSETVER from its number on.
-fn parse_renumber(command: &[u8], places: &[[usize; 2]]) -> Result<Parsed, Refusal>
-    requires { Inside command.now places.now }
-    ensures { let ws = words_in command.now places.now in
-        ((time : ℕ) → meant ws result ≡ parse_rest time P.Form.renumber_form ws) }
+fn parse_renumber(words: &Words<'_>) -> Result<Parsed, Refusal>
+    ensures { (time : ℕ) → meant words.now result ≡ parse_rest time P.Form.renumber_form words.now }
 {
-    let n = read_natural(word(command, places, 3), VERSION_MOST).ok_or(Refusal::NotInteger)?;
+    let n = read_natural(words.word(3), VERSION_MOST).ok_or(Refusal::NotInteger)?;
     Ok(Parsed::OnField(FieldDeed::Renumber(n)))
 }
 
 // EXHLEN from its options on.
-fn parse_count(command: &[u8], places: &[[usize; 2]]) -> Result<Parsed, Refusal>
-    requires { Inside command.now places.now }
-    ensures { let ws = words_in command.now places.now in
-        ((time : ℕ) → meant ws result ≡ parse_rest time P.Form.count_form ws) }
+fn parse_count(words: &Words<'_>) -> Result<Parsed, Refusal>
+    ensures { (time : ℕ) → meant words.now result ≡ parse_rest time P.Form.count_form words.now }
 {
-    let options = scan(command, places, 2, &[NO_EXP_GROUP])?;
+    let options = scan(words, 2, &[NO_EXP_GROUP])?;
     if options.no_exp {
         return Ok(Parsed::OnKey(KeyDeed::CountLive));
     }
@@ -99,52 +82,42 @@ fn parse_count(command: &[u8], places: &[[usize; 2]]) -> Result<Parsed, Refusal>
 
 // A command of a row from its options on: checks 15 to 18.
 #[tactic(auto, using(crate::proofs::ParseFamilies::fixed_forms), unfolding(crate::specs::TablePromises::form_meant))]
-fn parse_row(
-    command: &[u8],
-    places: &[[usize; 2]],
-    row: CommandRow,
-    time: u64,
-) -> Result<Parsed, Refusal>
-    requires { (Inside command.now places.now) × (time < time_limit) }
-    ensures { let ws = words_in command.now places.now in meant ws result ≡ parse_rest time (form_meant row.form) ws }
+fn parse_row(words: &Words<'_>, row: CommandRow, time: u64) -> Result<Parsed, Refusal>
+    requires { time < time_limit }
+    ensures { meant words.now result ≡ parse_rest time (form_meant row.form) words.now }
 {
     match row.form {
-        Form::Set => parse_set(command, places, time),
+        Form::Set => parse_set(words, time),
         Form::SetMany => Ok(Parsed::OnKey(KeyDeed::SetMany)),
-        Form::Increment => parse_increment(command, places, time),
-        Form::Expire(unit) => parse_expire(command, places, unit, time),
+        Form::Increment => parse_increment(words, time),
+        Form::Expire(unit) => parse_expire(words, unit, time),
         Form::Persist => Ok(Parsed::OnField(FieldDeed::Persist)),
-        Form::Renumber => parse_renumber(command, places),
+        Form::Renumber => parse_renumber(words),
         Form::Ask(question) => Ok(Parsed::OnField(FieldDeed::Ask(question))),
         Form::GetMany(question) => Ok(Parsed::OnKey(KeyDeed::GetMany(question))),
         Form::Delete => Ok(Parsed::OnKey(KeyDeed::Delete)),
-        Form::Count => parse_count(command, places),
+        Form::Count => parse_count(words),
         Form::List(listing) => Ok(Parsed::OnKey(KeyDeed::List(listing))),
     }
 }
 
-// What a command says, or the lowest of the refusals 10 to 18; no places at all are that its bytes are damaged.
-pub fn parse(
-    command: &[u8],
-    places: &[[usize; 2]],
-    clock: u64,
-    time: u64,
-) -> Result<Parsed, Refusal>
-    requires { (Divided command.now places.now) × (clock < time_limit → time < time_limit) }
-    ensures { let ws = words_in command.now places.now in meant ws result ≡ P.parse time clock command.now }
+// What a command says, or the lowest of the refusals 10 to 18; no words at all are that its bytes are damaged.
+pub fn parse(words: &Words<'_>, clock: u64, time: u64) -> Result<Parsed, Refusal>
+    requires { clock < time_limit → time < time_limit }
+    ensures { (s : List ℕ) → Divided s words.now → meant words.now result ≡ P.parse time clock s }
 {
-    if places.len() == 0 {
+    if words.len() == 0 {
         return Err(Refusal::Protocol);
     }
     if TIME_LIMIT <= clock {
         return Err(Refusal::ClockOutOfRange);
     }
-    let row = command_named(word(command, places, 0)).ok_or(Refusal::UnknownCommand)?;
-    if !count_fits(row, places.len()) {
+    let row = command_named(words.word(0)).ok_or(Refusal::UnknownCommand)?;
+    if !count_fits(row, words.len()) {
         return Err(Refusal::WrongArgumentCount);
     }
-    if too_long(command, places, row) {
+    if too_long(words, row) {
         return Err(Refusal::TooLong);
     }
-    parse_row(command, places, row, time)
+    parse_row(words, row, time)
 }

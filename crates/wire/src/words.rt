@@ -178,7 +178,8 @@ impl<'a> Words<'a> {
     // The words from word i on.
     pub fn after(&self, i: usize) -> Words<'a>
         requires { i ≤ length self.now }
-        ensures { result ≡ drop i self.now }
+        ensures value { result ≡ drop i self.now }
+        ensures most { length self.now ≤ words_most }
     {
         Words {
             bytes: self.bytes,

@@ -4,7 +4,6 @@ use Prim.Native.Nat.{◌*◌}
 use lib.Dec.{ltb}
 use lib.ListN.{length, drop}
 use Rattle.wire.specs.Lists.{any}
-use Rattle.wire.specs.Promises.{words_in}
 use Rattle.store.specs.Layout.{field_most, value_most}
 use Rattle.commands.specs.Parse.{pairs_of}
 use Rattle.commands.specs.ParsePromises.{pair_over}
@@ -13,5 +12,5 @@ use Rattle.commands.proofs.counts.pair_over.Given as goal
 -- What is left does the same.
 abbrev pub invariant-loop-i : goal.invariant-loop-i
 invariant-loop-i l =
-    pair_over (words_in l.command l.places)
-    ≡ any (λ p. ltb field_most (length p.field) || ltb value_most (length p.value)) (pairs_of (drop (2 * l.i) (words_in l.command l.places)))
+    pair_over l.words
+    ≡ any (λ p. ltb field_most (length p.field) || ltb value_most (length p.value)) (pairs_of (drop (2 * l.i) l.words))

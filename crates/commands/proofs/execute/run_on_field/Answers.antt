@@ -4,7 +4,7 @@ use Rattle.commands.proofs.execute.run_on_field.Goals as goal
 
 pub on_field-requires : goal.on_field-requires
 on_field-requires c =
-    (c.set_clock.ensures.well, field_requires c.args.deed c.word-key.ensures c.word-field.ensures c.word-value.ensures c.requires.2, c.requires.1.room)
+    (c.set_clock.ensures.well, field_requires c.args.deed c.word-key.ensures c.word-field.ensures c.word-value.ensures c.requires.1, c.requires.0.room)
 
 pub returns : goal.returns
 returns c =

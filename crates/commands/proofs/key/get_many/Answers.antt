@@ -19,11 +19,11 @@ slice_bounds-put_answers-start c = header_inside (omega (arith, c.requires.few))
 
 pub put_answers-requires : goal.put_answers-requires
 put_answers-requires c =
-    (c.requires.inside, c.sweep-hints.ensures.well, tail_spare answer_most _ c.put_header-at.ensures (answers_spare c.args.time _ c.args.key.now c.args.question c.args.command.now c.args.fields.now c.sweep-hints.ensures.well c.requires.few c.requires.room))
+    (c.sweep-hints.ensures.well, tail_spare answer_most _ (rw c.len.ensures.value at c.put_header-at.ensures) (answers_spare c.args.time _ c.args.key.now c.args.question c.args.fields.now c.sweep-hints.ensures.well c.requires.few c.requires.room))
 
 pub overflow_add-result : goal.overflow_add-result
 overflow_add-result c =
-    omega (arith, laid_within (laid_tail c.put_header-at.ensures c.put_answers.ensures) (answers_room c.args.time _ c.args.key.now c.args.question c.args.command.now c.args.fields.now c.sweep-hints.ensures.well c.requires.few c.requires.room))
+    omega (arith, laid_within (laid_tail (rw c.len.ensures.value at c.put_header-at.ensures) c.put_answers.ensures) (answers_room c.args.time _ c.args.key.now c.args.question c.args.fields.now c.sweep-hints.ensures.well c.requires.few c.requires.room))
 
 pub returns : goal.returns
-returns c = does_many _ _ _ _ _ (rw each_word at c.sweep-hints.ensures) (laid_reply (sym (answers_begin _ _ _)) (laid_tail c.put_header-at.ensures c.put_answers.ensures))
+returns c = does_many _ _ _ _ _ (rw each_word at c.sweep-hints.ensures) (laid_reply (sym (answers_begin _ _)) (laid_tail (rw c.len.ensures.value at c.put_header-at.ensures) c.put_answers.ensures))

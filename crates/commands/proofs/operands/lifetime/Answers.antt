@@ -18,7 +18,7 @@ returns-in_err-n c =
     ∙ lifetime_refused _ c.args.time (c.in-Some.is ∙ ap Some c.in-Expires.is) (natural_refused time_limit c.word.ensures c.read_natural-read.ensures no.ok_part)
 
 pub instant-requires : goal.instant-requires
-instant-requires c = ((natural_value time_limit c.word.ensures c.read_natural-read.ensures c.in_ok-n.n c.in_ok-n.ensures.ok_part).1, c.requires.1)
+instant-requires c = ((natural_value time_limit c.word.ensures c.read_natural-read.ensures c.in_ok-n.n c.in_ok-n.ensures.ok_part).1, c.requires)
 
 pub returns : goal.returns
 returns c = lifetime_until _ c.args.time (c.in-Some.is ∙ ap Some c.in-Expires.is) c.in_ok-n.n (natural_value time_limit c.word.ensures c.read_natural-read.ensures c.in_ok-n.n c.in_ok-n.ensures.ok_part).0 c.instant.ensures

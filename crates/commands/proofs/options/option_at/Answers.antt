@@ -1,5 +1,4 @@
-use mathlib.Core.Path.{refl, ◌∙◌}
-use Rattle.wire.proofs.WordPlaces.{length_words}
+use mathlib.Core.Path.{refl, sym, ◌∙◌}
 use Rattle.commands.proofs.Handing.{handed_none}
 use Rattle.commands.proofs.OptionScanning.{takes_any, option_unknown, option_barred, option_bare, option_short, option_found}
 use Rattle.commands.proofs.options.option_at.Goals as goal
@@ -8,19 +7,19 @@ pub returns-in_err-kind : goal.returns-in_err-kind
 returns-in_err-kind c =
     let no = c.in_err-kind.ensures in
     rw (handed_none c.from_residual.result c.from_residual.ensures.1 _ no.value)
-    (refl, option_unknown _ c.args.allowed.now c.args.i (length_words _ _) c.requires.1 c.word.ensures _ c.option_named.ensures no.ok_part)
+    (refl, option_unknown _ c.args.allowed.now c.args.i refl c.requires c.word.ensures _ c.option_named.ensures no.ok_part)
 
 pub returns-then-not-contains : goal.returns-then-not-contains
-returns-then-not-contains c = (refl, option_barred _ c.args.allowed.now c.args.i (length_words _ _) c.requires.1 c.word.ensures _ c.option_named.ensures c.in_ok-kind.kind c.in_ok-kind.ensures.ok_part c.group.ensures (c.contains.ensures.value ∙ takes_any _ _) c.if-not-contains.true-raw)
+returns-then-not-contains c = (refl, option_barred _ c.args.allowed.now c.args.i refl c.requires c.word.ensures _ c.option_named.ensures c.in_ok-kind.kind c.in_ok-kind.ensures.ok_part c.group.ensures (c.contains.ensures.value ∙ takes_any _ _) c.if-not-contains.true-raw)
 
 pub returns-then-not-takes_operand : goal.returns-then-not-takes_operand
-returns-then-not-takes_operand c = option_bare _ c.args.allowed.now c.args.i (length_words _ _) c.requires.1 c.word.ensures _ c.option_named.ensures c.in_ok-kind.kind c.in_ok-kind.ensures.ok_part c.group.ensures (c.contains.ensures.value ∙ takes_any _ _) c.if-not-contains.false-raw c.takes_operand.ensures c.if-not-takes_operand.true-raw
+returns-then-not-takes_operand c = option_bare _ c.args.allowed.now c.args.i refl c.requires c.word.ensures _ c.option_named.ensures c.in_ok-kind.kind c.in_ok-kind.ensures.ok_part c.group.ensures (c.contains.ensures.value ∙ takes_any _ _) c.if-not-contains.false-raw c.takes_operand.ensures c.if-not-takes_operand.true-raw
 
 pub returns-in_err-last : goal.returns-in_err-last
 returns-in_err-last c =
     let no = c.in_err-last.ensures in
     rw (handed_none c.from_residual-in_err-last.result c.from_residual-in_err-last.ensures.1 _ no.value)
-    (refl, option_short _ c.args.allowed.now c.args.i (length_words _ _) c.requires.1 c.word.ensures _ c.option_named.ensures c.in_ok-kind.kind c.in_ok-kind.ensures.ok_part c.group.ensures (c.contains.ensures.value ∙ takes_any _ _) c.if-not-contains.false-raw c.takes_operand.ensures c.if-not-takes_operand.false-raw c.next_word.ensures no.ok_part)
+    (refl, option_short _ c.args.allowed.now c.args.i (sym c.len.ensures.value) (rw c.len.ensures.value c.requires) c.word.ensures _ c.option_named.ensures c.in_ok-kind.kind c.in_ok-kind.ensures.ok_part c.group.ensures (c.contains.ensures.value ∙ takes_any _ _) c.if-not-contains.false-raw c.takes_operand.ensures c.if-not-takes_operand.false-raw c.next_word.ensures no.ok_part)
 
 pub returns : goal.returns
-returns c = option_found _ c.args.allowed.now c.args.i (length_words _ _) c.requires.1 c.word.ensures _ c.option_named.ensures c.in_ok-kind.kind c.in_ok-kind.ensures.ok_part c.group.ensures (c.contains.ensures.value ∙ takes_any _ _) c.if-not-contains.false-raw c.takes_operand.ensures c.if-not-takes_operand.false-raw c.next_word.ensures c.in_ok-last.last c.in_ok-last.ensures.ok_part
+returns c = option_found _ c.args.allowed.now c.args.i (sym c.len.ensures.value) (rw c.len.ensures.value c.requires) c.word.ensures _ c.option_named.ensures c.in_ok-kind.kind c.in_ok-kind.ensures.ok_part c.group.ensures (c.contains.ensures.value ∙ takes_any _ _) c.if-not-contains.false-raw c.takes_operand.ensures c.if-not-takes_operand.false-raw c.next_word.ensures c.in_ok-last.last c.in_ok-last.ensures.ok_part

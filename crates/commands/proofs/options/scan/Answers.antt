@@ -1,6 +1,5 @@
 use mathlib.Core.Path.{sym, ◌∙◌}
 use native.Mathlib.Omega.{arith}
-use Rattle.wire.proofs.WordPlaces.{length_words}
 use Rattle.commands.proofs.Handing.{handed}
 use Rattle.commands.proofs.OptionScanning.{scanning_begins, scanning_fails, scanning_again, scanning_on, scanning_ends}
 use Rattle.commands.proofs.options.scan.Goals as goal
@@ -9,7 +8,7 @@ pub loop-i-init : goal.loop-i-init
 loop-i-init c = scanning_begins _ _ _
 
 pub option_at-requires : goal.option_at-requires
-option_at-requires c = (c.requires, c.loop-i-test.true)
+option_at-requires c = omega arith
 
 pub returns-in_err-found : goal.returns-in_err-found
 returns-in_err-found c =
@@ -19,10 +18,10 @@ pub returns-then-is_given : goal.returns-then-is_given
 returns-then-is_given c = scanning_again c.loop-i.invariant c.in_ok-found.ensures (sym c.if-is_given.true ∙ c.is_given.ensures _)
 
 pub overflow_add-i : goal.overflow_add-i
-overflow_add-i c = omega (arith, c.in_ok-found.ensures.inside, length_words c.args.command.now c.args.places.now, c.requires.most)
+overflow_add-i c = omega (arith, c.in_ok-found.ensures.inside)
 
 pub loop-i-preserved : goal.loop-i-preserved
 loop-i-preserved c = scanning_on c.loop-i.invariant c.in_ok-found.ensures (sym c.if-is_given.false ∙ c.is_given.ensures _) _ c.give.ensures
 
 pub returns : goal.returns
-returns c = scanning_ends c.loop-i.invariant (length_words _ _) c.loop-i-test.false
+returns c = scanning_ends c.loop-i.invariant (sym c.len.ensures.value) c.loop-i-test.false

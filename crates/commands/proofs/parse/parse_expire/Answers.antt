@@ -26,7 +26,7 @@ returns-then-is_zero c =
 
 pub instant-instant-requires : goal.instant-instant-requires
 instant-instant-requires c =
-    ((natural_value time_limit c.word.ensures c.read_natural.ensures c.in_ok-n.n c.in_ok-n.ensures.ok_part).1, c.requires.1)
+    ((natural_value time_limit c.word.ensures c.read_natural.ensures c.in_ok-n.n c.in_ok-n.ensures.ok_part).1, c.requires)
 
 pub returns-then-instant-gt-TIME_LIMIT : goal.returns-then-instant-gt-TIME_LIMIT
 returns-then-instant-gt-TIME_LIMIT c =
