@@ -34,11 +34,13 @@ overflow_add-next c =
 
 pub slice_bounds-put_spaced-count-3 : goal.slice_bounds-put_spaced-count-3
 slice_bounds-put_spaced-count-3 c =
-    tail_inside (spaced c.args.slot) (laid_tail (key_laid _ _ _ _ _ c.requires c.put_spaced-at.ensures) c.put_spaced.ensures) (room_slot_lem _ _ _ _ _ c.requires)
+    tail_inside (spaced c.args.slot) (laid_tail (key_laid _ _ _ _ _ c.requires c.put_spaced-at.ensures) c.put_spaced.ensures)
+    (room_slot_lem _ _ _ _ _ c.requires)
 
 pub slice_bounds-put_spaced-start-3 : goal.slice_bounds-put_spaced-start-3
 slice_bounds-put_spaced-start-3 c =
-    tail_inside (spaced c.args.slot) (laid_tail (key_laid _ _ _ _ _ c.requires c.put_spaced-at.ensures) c.put_spaced.ensures) (room_slot_lem _ _ _ _ _ c.requires)
+    tail_inside (spaced c.args.slot) (laid_tail (key_laid _ _ _ _ _ c.requires c.put_spaced-at.ensures) c.put_spaced.ensures)
+    (room_slot_lem _ _ _ _ _ c.requires)
 
 pub put_spaced-requires-2 : goal.put_spaced-requires-2
 put_spaced-requires-2 c =
@@ -46,19 +48,29 @@ put_spaced-requires-2 c =
 
 pub overflow_add-last : goal.overflow_add-last
 overflow_add-last c =
-    omega (arith, laid_within (laid_tail (laid_tail (key_laid _ _ _ _ _ c.requires c.put_spaced-at.ensures) c.put_spaced.ensures) c.put_spaced-2.ensures) (room_slot_lem _ _ _ _ _ c.requires))
+    omega (
+      arith,
+      laid_within (laid_tail (laid_tail (key_laid _ _ _ _ _ c.requires c.put_spaced-at.ensures) c.put_spaced.ensures) c.put_spaced-2.ensures)
+          (room_slot_lem _ _ _ _ _ c.requires),
+    )
 
 pub bounds-out-last : goal.bounds-out-last
 bounds-out-last c =
-    newline_inside _ _ _ _ _ c.requires (laid_tail (laid_tail (key_laid _ _ _ _ _ c.requires c.put_spaced-at.ensures) c.put_spaced.ensures) c.put_spaced-2.ensures)
+    newline_inside _ _ _ _ _ c.requires (laid_tail (laid_tail (key_laid _ _ _ _ _ c.requires c.put_spaced-at.ensures) c.put_spaced.ensures)
+    c.put_spaced-2.ensures)
 
 pub overflow_add-result : goal.overflow_add-result
 overflow_add-result c =
-    omega (arith, laid_within (line_laid _ _ _ _ _ c.requires (laid_tail (laid_tail (key_laid _ _ _ _ _ c.requires c.put_spaced-at.ensures) c.put_spaced.ensures) c.put_spaced-2.ensures)) c.requires)
+    omega (
+      arith,
+      laid_within (line_laid _ _ _ _ _ c.requires
+          (laid_tail (laid_tail (key_laid _ _ _ _ _ c.requires c.put_spaced-at.ensures) c.put_spaced.ensures) c.put_spaced-2.ensures)) c.requires,
+    )
 
 pub shape_of-out : goal.shape_of-out
 shape_of-out c =
-    laid_length (line_laid _ _ _ _ _ c.requires (laid_tail (laid_tail (key_laid _ _ _ _ _ c.requires c.put_spaced-at.ensures) c.put_spaced.ensures) c.put_spaced-2.ensures)) c.requires
+    laid_length (line_laid _ _ _ _ _ c.requires (laid_tail (laid_tail (key_laid _ _ _ _ _ c.requires c.put_spaced-at.ensures) c.put_spaced.ensures)
+    c.put_spaced-2.ensures)) c.requires
 
 pub returns : goal.returns
 returns c =
