@@ -71,8 +71,8 @@ passed first second instant h =
     let c = first_none _ _ b.1 in
     record { well = not-false (well_formed first) a.0; also_well = not-false (well_formed second) b.0; range = c.0; clear = h }
 
-pub ok_passed : {first second : List ℕ} {instant : ℕ} {T : Type 0} {r : Result T Refusal} {x : T} → refused_as r ≡ first_applying (checks first second instant) → r ≡ Ok x
-    → Passed first second instant
+pub ok_passed : {first second : List ℕ} {instant : ℕ} {T : Type 0} {r : Result T Refusal} {x : T} → refused_as r ≡ first_applying (checks first second instant)
+    → r ≡ Ok x → Passed first second instant
 unfolding refused_as
 ok_passed {first} {second} {instant} h e = passed first second instant (sym h ∙ rw e)
 

@@ -110,7 +110,8 @@ module _ (pass : Pass) (instant : ℕ) (b other : List ℕ) (i : ℕ) where
       go None h = refl
       go (Some e) h = rw h
 
-  module _ (l : live_slot instant (get_or (decode b).slots i None) ≡ true) {o : Option ℕ} (h : o ≡ pass_mark pass instant (decode other).slots (entry_at (decode b).slots i)) where
+  module _ (l : live_slot instant (get_or (decode b).slots i None) ≡ true) {o : Option ℕ}
+      (h : o ≡ pass_mark pass instant (decode other).slots (entry_at (decode b).slots i)) where
     -- nor has one whose entry gets no mark
     pub slot_unmarked : o ≡ None → slot_text pass instant b other i ≡ []
     unfolding slot_text line_of listing_of flatten live_slot or_else entry_at

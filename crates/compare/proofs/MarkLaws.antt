@@ -17,10 +17,10 @@ use Rattle.compare.proofs.LiveEntries.{live_empty}
 
 -- ---- entries that agree
 
-pub agree_by : (e other : Entry) {p q : ℕ} (s v : Bool) {x : Bool} → same e.value other.value ≡ s → p ≡ e.version → q ≡ other.version → eqb p q ≡ v
-    → x ≡ option_eq eqb e.expiry other.expiry → (s && (v && x)) ≡ agree e other
+pub agree_by : (e other : Entry) {p q : ℕ} (s v : Bool) {y z : Option ℕ} {x : Bool} → same e.value other.value ≡ s → p ≡ e.version → q ≡ other.version
+    → eqb p q ≡ v → y ≡ e.expiry → z ≡ other.expiry → x ≡ option_eq eqb y z → (s && (v && x)) ≡ agree e other
 unfolding agree every same_expiry
-agree_by e other s v a p q b c = rw (a, ← p, ← q, b) (ap (λ z. s && (v && z)) (c ∙ go e.expiry other.expiry))
+agree_by e other s v {y} {z} a p q b m n c = rw (a, ← p, ← q, ← m, ← n, b) (ap (λ t. s && (v && t)) (c ∙ go y z))
   where
     last : (t : Bool) → t ≡ (t && true)
     last true = refl

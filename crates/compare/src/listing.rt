@@ -46,56 +46,64 @@ fn second_mark(found: Option<usize>) -> Option<u8>
     }
 }
 
-// The mark of the entry in slot i of a store beside the other.
-fn mark_of(pass: Pass, store: &[u8], i: usize, other: &[u8], instant: u64) -> Option<u8>
-    requires { (Held store.now i) × (well_formed other.now ≡ true) }
-    ensures { result ≡ pass_mark pass instant (decode other.now).slots (entry_at (decode store.now).slots i) }
-{
-    let found = live_near(
-        other,
-        read::key(store, i),
-        read::field(store, i),
-        instant,
-        i,
-    );
-    match pass {
-        Pass::First => first_mark(store, i, other, found),
-        Pass::Second => second_mark(found),
-    }
+// A well-formed store whose slots are listed, beside another, at an instant.
+#[derive(Clone, Copy)]
+struct Side<'a> {
+    pass: Pass,
+    store: &'a [u8],
+    other: &'a [u8],
+    instant: u64,
+    ghost store_well: { well_formed store.now ≡ true },
+    ghost other_well: { well_formed other.now ≡ true },
 }
 
-// The line of slot i, where it has one.
-fn put_slot(pass: Pass, store: &[u8], i: usize, other: &[u8], instant: u64, out: &mut [u8]) -> usize
-    requires store_value { (well_formed store.now ≡ true) × (well_formed other.now ≡ true) × (i < length (decode store.now).slots) }
-    requires i_in_bounds { length (slot_text pass instant store.now other.now i) ≤ length out.old }
-    ensures { Laid (slot_text pass instant store.now other.now i) out.old out.new result }
-{
-    if !read::is_live(store, i, instant) {
-        return 0;
+impl Side<'_> {
+    // The mark of the entry in slot i.
+    fn mark_of(&self, i: usize) -> Option<u8>
+        requires { Held self.now.store.now i }
+        ensures { result ≡ pass_mark self.now.pass self.now.instant (decode self.now.other.now).slots (entry_at (decode self.now.store.now).slots i) }
+    {
+        let key = read::key(self.store, i);
+        let field = read::field(self.store, i);
+        let found = live_near(self.other, key, field, self.instant, i);
+        match self.pass {
+            Pass::First => first_mark(self.store, i, self.other, found),
+            Pass::Second => second_mark(found),
+        }
     }
-    let Some(mark) = mark_of(pass, store, i, other, instant) else {
-        return 0;
-    };
-    put_line(
-        mark,
-        read::key(store, i).len(),
-        read::field(store, i).len(),
-        i,
-        out,
-    )
-}
 
-// The lines of all slots.
-fn put_lines(pass: Pass, store: &[u8], other: &[u8], instant: u64, out: &mut [u8]) -> usize
-    requires store_value { (well_formed store.now ≡ true) × (well_formed other.now ≡ true) }
-    requires other_in_bounds { length (pass_text pass instant store.now other.now) ≤ length out.old }
-    ensures { Laid (pass_text pass instant store.now other.now) out.old out.new result }
-{
-    let mut at = 0;
-    for i in 0..read::slots(store) {
-        at += put_slot(pass, store, i, other, instant, &mut out[at..]);
+    // The line of slot i, where it has one.
+    fn put_slot(&self, i: usize, out: &mut [u8]) -> usize
+        requires i_in_store { i < length (decode self.now.store.now).slots }
+        requires i_in_bounds { length (slot_text self.now.pass self.now.instant self.now.store.now self.now.other.now i) ≤ length out.old }
+        ensures { Laid (slot_text self.now.pass self.now.instant self.now.store.now self.now.other.now i) out.old out.new result }
+    {
+        if !read::is_live(self.store, i, self.instant) {
+            return 0;
+        }
+        let Some(mark) = self.mark_of(i) else {
+            return 0;
+        };
+        put_line(
+            mark,
+            read::key(self.store, i).len(),
+            read::field(self.store, i).len(),
+            i,
+            out,
+        )
     }
-    at
+
+    // The lines of all slots.
+    fn put_lines(&self, out: &mut [u8]) -> usize
+        requires { length (pass_text self.now.pass self.now.instant self.now.store.now self.now.other.now) ≤ length out.old }
+        ensures { Laid (pass_text self.now.pass self.now.instant self.now.store.now self.now.other.now) out.old out.new result }
+    {
+        let mut at = 0;
+        for i in 0..read::slots(self.store) {
+            at += self.put_slot(i, &mut out[at..]);
+        }
+        at
+    }
 }
 
 // The lines of the first store's slots, then those of the second's.
@@ -105,8 +113,20 @@ fn put_listing(first: &[u8], second: &[u8], instant: u64, out: &mut [u8]) -> usi
     ensures { let shown = listing instant (decode first.now) (decode second.now) in
         Laid shown out.old out.new result }
 {
-    let at = put_lines(Pass::First, first, second, instant, out);
-    put_lines(Pass::Second, second, first, instant, &mut out[at..]) + at
+    let first_side = Side {
+        pass: Pass::First,
+        store: first,
+        other: second,
+        instant,
+    };
+    let second_side = Side {
+        pass: Pass::Second,
+        store: second,
+        other: first,
+        instant,
+    };
+    let at = first_side.put_lines(out);
+    second_side.put_lines(&mut out[at..]) + at
 }
 
 // The listing's length, or why the call is refused.

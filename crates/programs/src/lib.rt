@@ -13,7 +13,8 @@ use wire::replies::{put_bulk, put_header};
 
 // The bytes that stand after their size, itself in four bytes, low first, and what follows them; none where the input is cut short.
 pub fn take_sized(input: &[u8]) -> Option<(&[u8], &[u8])>
-    ensures { IfSome result (λ p. (drop 4 input.now ≡ p.0.now ++ p.1.now) × (length p.0.now ≡ from_le (take 4 input.now)) × (length p.1.now < length input.now)) }
+    ensures { IfSome result (λ p. (drop 4 input.now ≡ p.0.now ++ p.1.now) × (length p.0.now ≡ from_le (take 4 input.now))
+        × (length p.1.now < length input.now)) }
 {
     let (size, rest) = input.split_at_checked(4)?;
     rest.split_at_checked(read_le(size) as usize)

@@ -5,15 +5,14 @@ use Rattle.compare.proofs.check.out_of_range.Goals as goal
 
 pub returns-then-instant-clock : goal.returns-then-instant-clock
 unfolding decode
-returns-then-instant-clock c =
-    before_first c.args.first.now c.args.second.now c.args.instant c.clock.ensures (omega (arith, c.if-instant-clock.true))
+returns-then-instant-clock c = before_first _ _ _ c.clock.ensures (omega (arith, c.if-instant-clock.true))
 
 pub returns-then-instant-clock-2 : goal.returns-then-instant-clock-2
 unfolding decode
 returns-then-instant-clock-2 c =
-    before_second c.args.first.now c.args.second.now c.args.instant c.clock.ensures (omega (arith, c.if-instant-clock.false)) c.clock-2.ensures (omega (arith, c.if-instant-clock-2.true))
+    before_second _ _ _ c.clock.ensures (omega (arith, c.if-instant-clock.false)) c.clock-2.ensures (omega (arith, c.if-instant-clock-2.true))
 
 pub returns : goal.returns
 unfolding decode
 returns c =
-    after_both c.args.first.now c.args.second.now c.args.instant c.clock.ensures (omega (arith, c.if-instant-clock.false)) c.clock-2.ensures (omega (arith, c.if-instant-clock-2.false))
+    after_both _ _ _ c.clock.ensures (omega (arith, c.if-instant-clock.false)) c.clock-2.ensures (omega (arith, c.if-instant-clock-2.false))

@@ -24,9 +24,23 @@ returns-in-Some-None c = rw (c.in-Some-None.is-0, c.in-Some-None.is-1)
 pub returns-then-version : goal.returns-then-version
 unfolding newer_of
 returns-then-version c =
-    rw (c.in-Some-Some.is-0, c.in-Some-Some.is-1, ← c.version.ensures, ← c.version-in-Some-Some.ensures, lt-leb c.version-in-Some-Some.result c.version.result (omega (arith, c.if-version.true)))
+    rw (
+      c.in-Some-Some.is-0,
+      c.in-Some-Some.is-1,
+      ← c.version.ensures,
+      ← c.version-in-Some-Some.ensures,
+      lt-leb c.version-in-Some-Some.result
+          c.version.result (omega (arith, c.if-version.true)),
+    )
 
 pub returns-else-version : goal.returns-else-version
 unfolding newer_of
 returns-else-version c =
-    rw (c.in-Some-Some.is-0, c.in-Some-Some.is-1, ← c.version.ensures, ← c.version-in-Some-Some.ensures, le-leb c.version-in-Some-Some.result c.version.result (omega (arith, c.if-version.false)))
+    rw (
+      c.in-Some-Some.is-0,
+      c.in-Some-Some.is-1,
+      ← c.version.ensures,
+      ← c.version-in-Some-Some.ensures,
+      le-leb c.version-in-Some-Some.result
+          c.version.result (omega (arith, c.if-version.false)),
+    )

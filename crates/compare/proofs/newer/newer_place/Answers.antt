@@ -4,12 +4,11 @@ use Rattle.compare.proofs.NewerPlaces.{first_held, second_held}
 use Rattle.compare.proofs.newer.newer_place.Goals as goal
 
 pub place-requires : goal.place-requires
-place-requires c =
-    first_held c.args.first.now c.args.second.now c.args.key.now c.args.field.now c.args.instant _ (sym c.newer_in.ensures ∙ c.in-First.is)
+place-requires c = first_held _ _ _ _ _ _ (sym c.newer_in.ensures ∙ c.in-First.is)
 
 pub place-requires-in-Second : goal.place-requires-in-Second
 place-requires-in-Second c =
-    second_held c.args.first.now c.args.second.now c.args.key.now c.args.field.now c.args.instant _ (sym c.newer_in.ensures ∙ c.in-Second.is)
+    second_held _ _ _ _ _ _ (sym c.newer_in.ensures ∙ c.in-Second.is)
 
 pub returns-in-First : goal.returns-in-First
 unfolding place_of
