@@ -2,9 +2,9 @@
 use Rattle.std.specs.Prelude.{Option, None, Some}
 use mathlib.Core.Path.{◌≡◌, refl, sym}
 use mathlib.Core.Logic.{◌≢◌}
-use mathlib.Core.Bool.{Bool, true, false, not}
+use mathlib.Core.Bool.{Bool, false, not}
 use mathlib.Core.List.{List, []}
-use Prim.Native.Nat.{ℕ, ◌+◌, ◌≤◌, ◌<◌}
+use Prim.Native.Nat.{ℕ, ◌≤◌, ◌<◌}
 use lib.Dec.{leb, eqb}
 use native.Mathlib.Omega.{arith}
 use borrow.Author.Tests.{lt-leb, ne_eqb}
@@ -37,83 +37,6 @@ module _ {n : Versioning} (v : ℕ) where
   pub above_stale : {w : ℕ} → n ≡ Above w → leb w v ≡ is_stale n (Some (versioned v))
   unfolding is_stale or_else
   above_stale h = rw h refl
-
-  pub next_fresh : n ≡ Next → false ≡ is_stale n (Some (versioned v))
-  unfolding is_stale or_else
-  next_fresh h = rw h refl
-
-  pub exactly_fresh : {w : ℕ} → n ≡ Exactly w → false ≡ is_stale n (Some (versioned v))
-  unfolding is_stale or_else
-  exactly_fresh h = rw h refl
-
-  pub next_version_lem : n ≡ Next → v + 1 ≡ next_version n (Some (versioned v))
-  unfolding next_version or_else
-  next_version_lem h = rw h refl
-
-  pub match_version : {w : ℕ} → n ≡ Match w → v + 1 ≡ next_version n (Some (versioned v))
-  unfolding next_version or_else
-  match_version h = rw h refl
-
-  pub exactly_version : {w : ℕ} → n ≡ Exactly w → w ≡ next_version n (Some (versioned v))
-  unfolding next_version or_else
-  exactly_version h = rw h refl
-
-  pub above_version : {w : ℕ} → n ≡ Above w → w ≡ next_version n (Some (versioned v))
-  unfolding next_version or_else
-  above_version h = rw h refl
-
-  pub next_setter : n ≡ Next → v ≡ setter_version n (versioned v)
-  unfolding setter_version
-  next_setter h = rw h refl
-
-  pub match_setter : {w : ℕ} → n ≡ Match w → v + 1 ≡ setter_version n (versioned v)
-  unfolding setter_version next_version or_else
-  match_setter h = rw h refl
-
-  pub exactly_setter : {w : ℕ} → n ≡ Exactly w → w ≡ setter_version n (versioned v)
-  unfolding setter_version next_version or_else
-  exactly_setter h = rw h refl
-
-  pub above_setter : {w : ℕ} → n ≡ Above w → w ≡ setter_version n (versioned v)
-  unfolding setter_version next_version or_else
-  above_setter h = rw h refl
-
-module _ {t : Lifetime} (x : Option ℕ) where
-  pub clear_expiry : t ≡ Clear → None ≡ next_expiry t (Some (expiring x))
-  unfolding next_expiry or_else
-  clear_expiry h = rw h refl
-
-  pub keep_expiry : t ≡ Keep → x ≡ next_expiry t (Some (expiring x))
-  unfolding next_expiry or_else
-  keep_expiry h = rw h refl
-
-  pub until_expiry : {i : ℕ} → t ≡ Until i → Some i ≡ next_expiry t (Some (expiring x))
-  unfolding next_expiry or_else
-  until_expiry h = rw h refl
-
--- Whether a field is there, and whether a condition keeps it from being written.
-module _ {c : Condition} (r : Option ℕ) where
-  pub always_open : c ≡ Always → false ≡ barred c (entry_for [] r)
-  unfolding barred
-  always_open h = rw h refl
-
-  module _ {i : ℕ} (h : r ≡ Some i) where
-    pub missing_barred : c ≡ Missing → true ≡ barred c (entry_for [] r)
-    unfolding barred entry_for
-    missing_barred g = rw (g, h) refl
-
-    pub live_open : c ≡ Live → false ≡ barred c (entry_for [] r)
-    unfolding barred entry_for
-    live_open g = rw (g, h) refl
-
-  module _ (h : r ≡ None) where
-    pub missing_open : c ≡ Missing → false ≡ barred c (entry_for [] r)
-    unfolding barred entry_for
-    missing_open g = rw (g, h) refl
-
-    pub live_barred : c ≡ Live → true ≡ barred c (entry_for [] r)
-    unfolding barred entry_for
-    live_barred g = rw (g, h) refl
 
 -- ---- they are the field's
 

@@ -68,26 +68,22 @@ pub fn versioning(words: &Words<'_>, given: Option<VersionGiven>) -> Result<Vers
 }
 
 // Whether a versioning is ABS 0 or GT 0 (17).
+#[tactic(auto, unfolding(crate::specs::Parse::is_zero))]
 pub fn is_zero(versioning: Versioning) -> bool
     ensures { result ≡ is_zero versioning }
 {
     match versioning {
-        Versioning::Next => false,
-        Versioning::Match(_) => false,
-        Versioning::Exactly(v) => v == 0,
-        Versioning::Above(v) => v == 0,
+        Versioning::Next | Versioning::Match(_) => false,
+        Versioning::Exactly(v) | Versioning::Above(v) => v == 0,
     }
 }
 
 // Whether a lifetime ends above the limit (18).
+#[tactic(auto, unfolding(crate::specs::Parse::beyond))]
 fn is_beyond(lifetime: Lifetime) -> bool
     ensures { result ≡ beyond lifetime }
 {
-    match lifetime {
-        Lifetime::Clear => false,
-        Lifetime::Keep => false,
-        Lifetime::Until(t) => TIME_LIMIT < t,
-    }
+    matches!(lifetime, Lifetime::Until(t) if TIME_LIMIT < t)
 }
 
 // What the options of a command say of its version and its expiry.

@@ -1,4 +1,4 @@
-use Rattle.commands.proofs.VersionPlans.{match_stale, match_zero, above_stale, next_fresh, exactly_fresh}
+use Rattle.commands.proofs.VersionPlans.{match_stale, match_zero, above_stale}
 use native.Mathlib.Omega.{arith}
 use Rattle.commands.proofs.versions.is_stale.Goals as goal
 
@@ -12,9 +12,3 @@ returns-else-held-ne0 c =
 
 pub returns-in-Above : goal.returns-in-Above
 returns-in-Above c = above_stale c.args.held c.in-Above.is
-
-pub returns-in-Next : goal.returns-in-Next
-returns-in-Next c = next_fresh c.args.held c.in-Next.is
-
-pub returns-in-Exactly : goal.returns-in-Exactly
-returns-in-Exactly c = exactly_fresh c.args.held c.in-Exactly.is
