@@ -54,7 +54,9 @@ fn option_at(words: &Words<'_>, i: usize, allowed: &[usize]) -> Result<PlacedOpt
     if !takes_operand(kind) {
         return Ok(PlacedOption { kind, last: i });
     }
-    let last = next_word(words.len(), i + 1).ok_or(Refusal::Syntax)?;
+    let Some(last) = next_word(words.len(), i + 1) else {
+        return Err(Refusal::Syntax);
+    };
     Ok(PlacedOption { kind, last })
 }
 

@@ -15,11 +15,8 @@ returns-then-not-contains c = (refl, option_barred _ c.args.allowed.now c.args.i
 pub returns-then-not-takes_operand : goal.returns-then-not-takes_operand
 returns-then-not-takes_operand c = option_bare _ c.args.allowed.now c.args.i refl c.requires c.word.ensures _ c.option_named.ensures c.in_ok-kind.kind c.in_ok-kind.ensures.ok_part c.group.ensures (c.contains.ensures.value ∙ takes_any _ _) c.if-not-contains.false-raw c.takes_operand.ensures c.if-not-takes_operand.true-raw
 
-pub returns-in_err-last : goal.returns-in_err-last
-returns-in_err-last c =
-    let no = c.in_err-last.ensures in
-    rw (handed_none c.from_residual-in_err-last.result c.from_residual-in_err-last.ensures.1 _ no.value)
-    (refl, option_short _ c.args.allowed.now c.args.i (sym c.len.ensures.value) (rw c.len.ensures.value c.requires) c.word.ensures _ c.option_named.ensures c.in_ok-kind.kind c.in_ok-kind.ensures.ok_part c.group.ensures (c.contains.ensures.value ∙ takes_any _ _) c.if-not-contains.false-raw c.takes_operand.ensures c.if-not-takes_operand.false-raw c.next_word.ensures no.ok_part)
+pub returns-in_default : goal.returns-in_default
+returns-in_default c = (refl, option_short _ c.args.allowed.now c.args.i (sym c.len.ensures.value) (rw c.len.ensures.value c.requires) c.word.ensures _ c.option_named.ensures c.in_ok-kind.kind c.in_ok-kind.ensures.ok_part c.group.ensures (c.contains.ensures.value ∙ takes_any _ _) c.if-not-contains.false-raw c.takes_operand.ensures c.if-not-takes_operand.false-raw c.next_word.ensures c.in_default.is)
 
 pub returns : goal.returns
-returns c = option_found _ c.args.allowed.now c.args.i (sym c.len.ensures.value) (rw c.len.ensures.value c.requires) c.word.ensures _ c.option_named.ensures c.in_ok-kind.kind c.in_ok-kind.ensures.ok_part c.group.ensures (c.contains.ensures.value ∙ takes_any _ _) c.if-not-contains.false-raw c.takes_operand.ensures c.if-not-takes_operand.false-raw c.next_word.ensures c.in_ok-last.last c.in_ok-last.ensures.ok_part
+returns c = option_found _ c.args.allowed.now c.args.i (sym c.len.ensures.value) (rw c.len.ensures.value c.requires) c.word.ensures _ c.option_named.ensures c.in_ok-kind.kind c.in_ok-kind.ensures.ok_part c.group.ensures (c.contains.ensures.value ∙ takes_any _ _) c.if-not-contains.false-raw c.takes_operand.ensures c.if-not-takes_operand.false-raw c.next_word.ensures c.in-Some.last c.in-Some.is
