@@ -46,8 +46,7 @@ fn header_well(store: &[u8]) -> bool
 }
 
 // Whether a held slot's state and lengths are well formed.
-fn lengths_well(t: &[u8]) -> bool
-    requires { length t.now ≡ slot_size }
+fn lengths_well(t: &[u8; SLOT_SIZE]) -> bool
     ensures { result ≡ every (length_tests t.now) }
 {
     t[STATE_AT] <= EXPIRING_STATE
@@ -57,8 +56,7 @@ fn lengths_well(t: &[u8]) -> bool
 }
 
 // Whether a held slot's expiry is well formed. Where it has none the instant is zero, and zero is looked for first: few slots expire.
-fn expiry_well(t: &[u8]) -> bool
-    requires { length t.now ≡ slot_size }
+fn expiry_well(t: &[u8; SLOT_SIZE]) -> bool
     ensures { result ≡ every (expiry_tests t.now) }
 {
     let instant = read_le(&t[EXPIRY_AT..KEY_AT]);
@@ -66,9 +64,8 @@ fn expiry_well(t: &[u8]) -> bool
 }
 
 // Whether a held slot's places are zero beyond their lengths.
-fn places_well(t: &[u8]) -> bool
-    requires t_len { length t.now ≡ slot_size }
-    requires t_value { every (length_tests t.now) ≡ true }
+fn places_well(t: &[u8; SLOT_SIZE]) -> bool
+    requires { every (length_tests t.now) ≡ true }
     ensures { result ≡ every (place_tests t.now) }
 {
     let key_length = t[KEY_LENGTH_AT] as usize;
@@ -81,8 +78,7 @@ fn places_well(t: &[u8]) -> bool
 }
 
 // Whether a slot's bytes are well formed.
-fn slot_well(t: &[u8]) -> bool
-    requires { length t.now ≡ slot_size }
+fn slot_well(t: &[u8; SLOT_SIZE]) -> bool
     ensures { result ≡ slot_well t.now }
 {
     if t[STATE_AT] == EMPTY_STATE {

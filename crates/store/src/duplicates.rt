@@ -1,11 +1,11 @@
 // The rule against duplicates: no two slots hold entries of the same key and field.
 ghost use Rattle.std.specs.Prelude.{◌≡◌, ◌+◌, ◌^◌, ◌≤◌, ◌<◌, length, drop};
 ghost use Rattle.wire.specs.Lists.{any};
-ghost use Rattle.store.specs.Layout.{slot_size, key_most, field_most};
+ghost use Rattle.store.specs.Layout.{key_most, field_most};
 ghost use Rattle.store.specs.Store.{holds};
 ghost use Rattle.store.specs.Promises.{slots_of, SlotsWell, halves_at, key_sum, field_sum, name_hash, FilterSize, may_contain, with_name, Turn, Turned};
 
-use crate::layout::{FIELD_AT, KEY_AT, VALUE_AT};
+use crate::layout::{FIELD_AT, KEY_AT, SLOT_SIZE, VALUE_AT};
 use crate::slot;
 use wire::bytes::read_le;
 
@@ -60,8 +60,7 @@ fn field_sum(field: &[u8]) -> u64
 }
 
 // A number of a slot's key and field, below a half's bound: the same for the same ones. What is high in their sum is brought down.
-fn name_hash(t: &[u8]) -> u64
-    requires { length t.now ≡ slot_size }
+fn name_hash(t: &[u8; SLOT_SIZE]) -> u64
     ensures { result ≡ name_hash t.now }
 {
     let h = key_sum(&t[KEY_AT..FIELD_AT]) + field_sum(&t[FIELD_AT..VALUE_AT]);

@@ -5,7 +5,7 @@ ghost use Rattle.store.specs.Store.{Slot, decode, well_formed, holds};
 ghost use Rattle.store.specs.Time.{lowest_slot, empty_slot, dead_slot, room_slot, of_key, live_of_key, key_exists};
 ghost use Rattle.store.specs.Promises.{lowest_from, searched, searched_within, name_words, Skips, TakesSlots, TellsSlots};
 
-use crate::layout::KEY_AT;
+use crate::layout::{KEY_AT, SLOT_SIZE};
 use crate::read::slots;
 use crate::{Searched, SoughtKey, slot};
 
@@ -107,7 +107,7 @@ pub fn named_near(store: &[u8], key: &[u8], field: &[u8], hint: usize) -> Option
 }
 
 // The lowest slot from a slot on that passes a test of its bytes.
-fn lowest<F: Fn(&[u8]) -> bool>(store: &[u8], from: usize, test: F) -> Option<usize>
+fn lowest<F: Fn(&[u8; SLOT_SIZE]) -> bool>(store: &[u8], from: usize, test: F) -> Option<usize>
     requires store_value { well_formed store.now ≡ true }
     requires test_takes { TakesSlots (F.pre test) }
     ensures { (p : Slot → Bool) → TellsSlots (F.post test) p → result ≡ lowest_from from p (decode store.now).slots }
@@ -121,7 +121,7 @@ fn lowest<F: Fn(&[u8]) -> bool>(store: &[u8], from: usize, test: F) -> Option<us
 }
 
 // How many slots pass a test of their bytes.
-fn count<F: Fn(&[u8]) -> bool>(store: &[u8], test: F) -> usize
+fn count<F: Fn(&[u8; SLOT_SIZE]) -> bool>(store: &[u8], test: F) -> usize
     requires store_value { well_formed store.now ≡ true }
     requires test_takes { TakesSlots (F.pre test) }
     ensures { (p : Slot → Bool) → TellsSlots (F.post test) p → result ≡ length (keep p (decode store.now).slots) }

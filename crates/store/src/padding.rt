@@ -1,14 +1,14 @@
 // What of a slot's places lies beyond the bytes used, by words.
-ghost use Rattle.std.specs.Prelude.{◌≡◌, ◌+◌, ◌%◌, ◌≤◌, eqb, length};
+ghost use Rattle.std.specs.Prelude.{◌≡◌, ◌+◌, ◌%◌, ◌≤◌, eqb};
 ghost use Rattle.store.specs.Layout.{slot_size};
 ghost use Rattle.store.specs.Store.{zero_beyond};
 
+use crate::layout::SLOT_SIZE;
 use crate::slot::{WORD, word};
 
 // The bits of a place of whole words beyond the bytes used, in one word, which is 0 exactly if those bytes are zero: what is left of the last word where
 // the bytes used end there, else the word after them with each word of the place that begins later.
-pub fn padding(t: &[u8], at: usize, size: usize, used: usize) -> u64
-    requires t_len { length t.now ≡ slot_size }
+pub fn padding(t: &[u8; SLOT_SIZE], at: usize, size: usize, used: usize) -> u64
     requires at_bound { at + size ≤ slot_size }
     requires size_whole { size % 8 ≡ 0 }
     requires used_bound { used ≤ size }

@@ -34,11 +34,11 @@ pub fn place(i: usize) -> Range<usize>
 }
 
 // The bytes of slot i.
-pub fn bytes(store: &[u8], i: usize) -> &[u8]
+pub fn bytes(store: &[u8], i: usize) -> &[u8; SLOT_SIZE]
     requires { header_size + slot_size * i + slot_size ≤ length store.now }
     ensures { result.now ≡ part (header_size + slot_size * i) slot_size store.now }
 {
-    &store[place(i)]
+    store[place(i)].as_array().unwrap()
 }
 
 // The number that a word spells.
@@ -50,22 +50,19 @@ pub fn word(s: &[u8], at: usize) -> u64
     read_le(&s[at..end])
 }
 
-pub fn is_empty(t: &[u8]) -> bool
-    requires { length t.now ≡ slot_size }
+pub fn is_empty(t: &[u8; SLOT_SIZE]) -> bool
     ensures { result ≡ empty_slot (decode_slot t.now) }
 {
     t[STATE_AT] == EMPTY_STATE
 }
 
-pub fn version(t: &[u8]) -> u64
-    requires { length t.now ≡ slot_size }
+pub fn version(t: &[u8; SLOT_SIZE]) -> u64
     ensures { result ≡ (decode_entry t.now).version }
 {
     read_le(&t[VERSION_AT..EXPIRY_AT])
 }
 
-pub fn expiry(t: &[u8]) -> Option<u64>
-    requires { length t.now ≡ slot_size }
+pub fn expiry(t: &[u8; SLOT_SIZE]) -> Option<u64>
     ensures { result ≡ decode_expiry t.now }
 {
     if t[STATE_AT] == EXPIRING_STATE {
@@ -75,8 +72,7 @@ pub fn expiry(t: &[u8]) -> Option<u64>
 }
 
 // Whether the slot holds an entry that is live at a time.
-pub fn is_live(t: &[u8], time: u64) -> bool
-    requires { length t.now ≡ slot_size }
+pub fn is_live(t: &[u8; SLOT_SIZE], time: u64) -> bool
     ensures { result ≡ live_slot time (decode_slot t.now) }
 {
     if t[STATE_AT] == EMPTY_STATE {
@@ -90,8 +86,7 @@ pub fn is_live(t: &[u8], time: u64) -> bool
 }
 
 // Whether the slot holds an entry that is dead at a time.
-pub fn is_dead(t: &[u8], time: u64) -> bool
-    requires { length t.now ≡ slot_size }
+pub fn is_dead(t: &[u8; SLOT_SIZE], time: u64) -> bool
     ensures { result ≡ dead_slot time (decode_slot t.now) }
 {
     if t[STATE_AT] == EMPTY_STATE {
@@ -101,7 +96,7 @@ pub fn is_dead(t: &[u8], time: u64) -> bool
 }
 
 // The bytes used of the place that begins at `at`, as many as the byte at `length_at` says.
-fn used(t: &[u8], at: usize, length_at: usize) -> &[u8]
+fn used(t: &[u8; SLOT_SIZE], at: usize, length_at: usize) -> &[u8]
     requires length_inside { length_at < length t.now }
     requires used_inside { at + slice_index t.now length_at ≤ length t.now }
     ensures { result.now ≡ part at (slice_index t.now length_at) t.now }
@@ -110,21 +105,21 @@ fn used(t: &[u8], at: usize, length_at: usize) -> &[u8]
     &t[at..end]
 }
 
-pub fn key(t: &[u8]) -> &[u8]
+pub fn key(t: &[u8; SLOT_SIZE]) -> &[u8]
     requires { HeldBytes t.now }
     ensures { result.now ≡ (decode_entry t.now).key }
 {
     used(t, KEY_AT, KEY_LENGTH_AT)
 }
 
-pub fn field(t: &[u8]) -> &[u8]
+pub fn field(t: &[u8; SLOT_SIZE]) -> &[u8]
     requires { HeldBytes t.now }
     ensures { result.now ≡ (decode_entry t.now).field }
 {
     used(t, FIELD_AT, FIELD_LENGTH_AT)
 }
 
-pub fn value(t: &[u8]) -> &[u8]
+pub fn value(t: &[u8; SLOT_SIZE]) -> &[u8]
     requires { HeldBytes t.now }
     ensures { result.now ≡ (decode_entry t.now).value }
 {
@@ -132,7 +127,7 @@ pub fn value(t: &[u8]) -> &[u8]
 }
 
 // Whether the slot holds an entry of a key.
-pub fn of_key(t: &[u8], k: &[u8]) -> bool
+pub fn of_key(t: &[u8; SLOT_SIZE], k: &[u8]) -> bool
     requires { SlotBytes t.now }
     ensures { result ≡ of_key k.now (decode_slot t.now) }
 {
@@ -170,7 +165,7 @@ impl<'a> SoughtKey<'a> {
     }
 
     // Whether a slot holds an entry of the key: by its length, and then by words.
-    pub fn is_held(&self, t: &[u8]) -> bool
+    pub fn is_held(&self, t: &[u8; SLOT_SIZE]) -> bool
         requires { SlotBytes t.now }
         ensures { result ≡ of_key self.now (decode_slot t.now) }
     {
@@ -188,7 +183,7 @@ impl<'a> SoughtKey<'a> {
     }
 
     // Whether a slot holds an entry of the key that is live at a time.
-    pub fn is_live(&self, t: &[u8], time: u64) -> bool
+    pub fn is_live(&self, t: &[u8; SLOT_SIZE], time: u64) -> bool
         requires { SlotBytes t.now }
         ensures { result ≡ live_of_key time self.now (decode_slot t.now) }
     {
@@ -200,7 +195,7 @@ impl<'a> SoughtKey<'a> {
 }
 
 // Whether the slot holds the entry of a key and a field. The field is compared first: it is what differs.
-pub fn holds(t: &[u8], k: &[u8], f: &[u8]) -> bool
+pub fn holds(t: &[u8; SLOT_SIZE], k: &[u8], f: &[u8]) -> bool
     requires { SlotBytes t.now }
     ensures { result ≡ holds k.now f.now (decode_slot t.now) }
 {
@@ -211,7 +206,7 @@ pub fn holds(t: &[u8], k: &[u8], f: &[u8]) -> bool
 }
 
 // Whether a search for a key and a field passes over the slot: it is empty or has other lengths.
-pub fn is_skipped(t: &[u8], k: &[u8], f: &[u8]) -> bool
+pub fn is_skipped(t: &[u8; SLOT_SIZE], k: &[u8], f: &[u8]) -> bool
     requires { SlotBytes t.now }
     ensures { result ≡ skipped k.now f.now (decode_slot t.now) }
 {
@@ -287,8 +282,7 @@ pub fn fingerprint_of(f: &[u8]) -> u64
 }
 
 // The same of a slot's place for the field: that of its field, since zero stands after it.
-pub fn fingerprint_at(t: &[u8]) -> u64
-    requires { length t.now ≡ slot_size }
+pub fn fingerprint_at(t: &[u8; SLOT_SIZE]) -> u64
     ensures { result ≡ fingerprint_of (part field_at field_most t.now) }
 {
     fingerprint_of(&t[FIELD_AT..VALUE_AT])
@@ -296,7 +290,7 @@ pub fn fingerprint_at(t: &[u8]) -> u64
 
 // The same as `holds`, by the field's fingerprint first: where the slot has another, nothing else of it is looked at, and where a field of at most a
 // word has the same, nothing else of the field.
-pub fn holds_with(t: &[u8], fingerprint: u64, k: &[u8], f: &[u8]) -> bool
+pub fn holds_with(t: &[u8; SLOT_SIZE], fingerprint: u64, k: &[u8], f: &[u8]) -> bool
     requires slot_bytes { SlotBytes t.now }
     requires fingerprint_value { fingerprint ≡ fingerprint_of f.now }
     ensures { result ≡ holds k.now f.now (decode_slot t.now) }

@@ -10,7 +10,7 @@ pub returns-then-not-lengths_well : goal.returns-then-not-lengths_well
 returns-then-not-lengths_well c = rw (well_held c.args.t.now c.if-t-eq-EMPTY_STATE.false, ← c.lengths_well.ensures, not-true c.lengths_well.result c.if-not-lengths_well.true-raw)
 
 pub places_well-requires : goal.places_well-requires
-places_well-requires c = record { t_len = c.requires; t_value = sym c.lengths_well.ensures ∙ not-false c.lengths_well.result c.if-not-lengths_well.false-raw }
+places_well-requires c = sym c.lengths_well.ensures ∙ not-false c.lengths_well.result c.if-not-lengths_well.false-raw
 
 pub returns-then-expiry_well : goal.returns-then-expiry_well
 returns-then-expiry_well c = rw (well_held c.args.t.now c.if-t-eq-EMPTY_STATE.false, ← c.lengths_well.ensures, not-false c.lengths_well.result c.if-not-lengths_well.false-raw, ← c.expiry_well.ensures, c.if-expiry_well.true) c.places_well.ensures

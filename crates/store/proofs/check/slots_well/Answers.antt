@@ -1,9 +1,7 @@
 use mathlib.Core.Path.{refl, sym, ◌∙◌}
 use native.Mathlib.Omega.{arith}
-use Prim.Native.Nat.{◌-◌}
 use borrow.Author.Tests.{not-true, not-false}
 use Rattle.wire.proofs.ByteLaws.{bytes_intro}
-use Rattle.store.proofs.StoreChecks.{slot_size_lem}
 use Rattle.store.proofs.BloomFilter.{sift_begins, sift_wrong, sift_turn, sift_fails, sift_goes_on, sift_ends}
 use Rattle.store.proofs.check.slots_well.Goals as goal
 
@@ -12,9 +10,6 @@ loop-i-init c = (refl, sift_begins _ _ _ c.requires.filter_size c.requires.count
 
 pub bytes-requires : goal.bytes-requires
 bytes-requires c = omega (arith, c.requires.count_in_bounds, c.loop-i.invariant.1.inside)
-
-pub slot_well-requires : goal.slot_well-requires
-slot_well-requires c = rw c.bytes.ensures (slot_size_lem c.args.count c.args.store.now (c.loop-i.i - 1) c.requires.count_in_bounds (omega (arith, c.loop-i.invariant.1.inside)))
 
 pub shape_of-filter-then-not-slot_well : goal.shape_of-filter-then-not-slot_well
 shape_of-filter-then-not-slot_well c = c.loop-i.invariant.0

@@ -1,18 +1,12 @@
 use mathlib.Core.Path.{sym, ◌∙◌}
 use borrow.Author.Tests.{not-true}
 use native.Mathlib.Omega.{arith}
-use Rattle.store.proofs.StoreChecks.{slot_size_lem, slots_later}
+use Rattle.store.proofs.StoreChecks.{slots_later}
 use Rattle.store.proofs.BloomFilter.{turn_empty, turn_new, turn_contained, held_bytes}
 use Rattle.store.proofs.duplicates.repeats.Goals as goal
 
-pub is_empty-requires : goal.is_empty-requires
-is_empty-requires c = rw c.bytes-t.ensures (slot_size_lem _ _ _ c.requires.slots.size c.requires.inside)
-
 pub returns-then-is_empty : goal.returns-then-is_empty
 returns-then-is_empty c = turn_empty _ _ _ _ c.requires (sym (rw c.bytes-t.ensures at c.is_empty.ensures) ∙ c.if-is_empty.true)
-
-pub name_hash-requires : goal.name_hash-requires
-name_hash-requires c = rw c.bytes-t.ensures (slot_size_lem _ _ _ c.requires.slots.size c.requires.inside)
 
 pub insert-requires : goal.insert-requires
 insert-requires c = c.requires.covered.size

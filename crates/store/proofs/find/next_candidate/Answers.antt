@@ -2,7 +2,7 @@ use mathlib.Core.Path.{◌≡◌, ◌∙◌}
 use Prim.Native.Nat.{◌+◌, ◌-◌}
 use native.Mathlib.Omega.{arith}
 use Rattle.store.proofs.Encode.{decode_valid}
-use Rattle.store.proofs.Finding.{walk_inside, walk_bytes, skips_none, skips_on}
+use Rattle.store.proofs.Finding.{walk_inside, skips_none, skips_on}
 use Rattle.store.proofs.find.next_candidate.Goals as goal
 
 pub overflow_sub-last : goal.overflow_sub-last
@@ -16,14 +16,8 @@ loop-i-init c =
 pub bytes-requires : goal.bytes-requires
 bytes-requires c = walk_inside c.loop-i.invariant.0 (omega (arith, c.loop-i-test.true))
 
-pub fingerprint_at-requires : goal.fingerprint_at-requires
-fingerprint_at-requires c = (walk_bytes c.loop-i.invariant.0 (omega (arith, c.loop-i-test.true)) c.bytes.ensures).size
-
 pub bytes-requires-in-loop-i : goal.bytes-requires-in-loop-i
 bytes-requires-in-loop-i c = walk_inside c.loop-i.invariant.0 (omega (arith, c.loop-i-test.true))
-
-pub fingerprint_at-requires-in-loop-i : goal.fingerprint_at-requires-in-loop-i
-fingerprint_at-requires-in-loop-i c = (walk_bytes c.loop-i.invariant.0 (omega (arith, c.loop-i-test.true)) c.bytes-in-loop-i.ensures).size
 
 pub returns-then-fingerprint_at-fingerprint-2 : goal.returns-then-fingerprint_at-fingerprint-2
 returns-then-fingerprint_at-fingerprint-2 c =

@@ -11,7 +11,7 @@ returns-then-used-size c = rw c.if-used-size.true (sym (beyond_whole c.args.at c
 
 pub returns-then-size-used : goal.returns-then-size-used
 returns-then-size-used c =
-    beyond_end c.args.at c.args.size c.args.used c.args.t.now (bytes_intro c.args.t.now (λ i. (c.type_inv.t i).fits)) (omega arith) (omega arith) c.word.result c.word.ensures
+    beyond_end c.args.at c.args.size c.args.used c.args.t.now (bytes_intro c.args.t.now c.fits-t) (omega arith) (omega arith) c.word.result c.word.ensures
 
 pub loop-w-init : goal.loop-w-init
 loop-w-init c =

@@ -1,12 +1,9 @@
 use Rattle.store.specs.Store.{decode_entry}
-use Rattle.store.proofs.ReadAt.{slot_inside, held_bytes, entry_means}
+use Rattle.store.proofs.ReadAt.{slot_inside, entry_means}
 use Rattle.store.proofs.read.expiry.Goals as goal
 
 pub bytes-requires : goal.bytes-requires
 bytes-requires c = slot_inside c.args.store.now c.args.i c.requires.well c.requires.inside
-
-pub expiry-requires : goal.expiry-requires
-expiry-requires c = (held_bytes c.requires c.bytes.ensures).slot.size
 
 pub returns : goal.returns
 unfolding decode_entry

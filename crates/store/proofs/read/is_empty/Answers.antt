@@ -1,11 +1,8 @@
-use Rattle.store.proofs.ReadAt.{slot_inside, slot_bytes_lem, slot_means}
+use Rattle.store.proofs.ReadAt.{slot_inside, slot_means}
 use Rattle.store.proofs.read.is_empty.Goals as goal
 
 pub bytes-requires : goal.bytes-requires
 bytes-requires c = slot_inside c.args.store.now c.args.i c.requires.0 c.requires.1
-
-pub is_empty-requires : goal.is_empty-requires
-is_empty-requires c = (slot_bytes_lem c.args.store.now c.args.i c.requires.0 c.requires.1 c.bytes.ensures).size
 
 pub returns : goal.returns
 returns c = rw (← (slot_means c.args.store.now c.args.i c.requires.1 c.bytes.ensures)) c.is_empty.ensures

@@ -1,11 +1,8 @@
-use Rattle.store.proofs.ReadAt.{slot_inside, held_bytes, entry_means}
+use Rattle.store.proofs.ReadAt.{slot_inside, entry_means}
 use Rattle.store.proofs.read.version.Goals as goal
 
 pub bytes-requires : goal.bytes-requires
 bytes-requires c = slot_inside c.args.store.now c.args.i c.requires.well c.requires.inside
-
-pub version-requires : goal.version-requires
-version-requires c = (held_bytes c.requires c.bytes.ensures).slot.size
 
 pub returns : goal.returns
 returns c = rw (← (entry_means c.requires c.bytes.ensures)) c.version.ensures

@@ -4,7 +4,7 @@ use Rattle.store.proofs.SlotParts.{field_inside}
 use Rattle.store.proofs.slot.field.Goals as goal
 
 pub used-requires : goal.used-requires
-used-requires c = record { length_inside = omega (arith, c.requires.slot.size); used_inside = field_inside c.args.t.now c.requires }
+used-requires c = record { length_inside = omega arith; used_inside = field_inside c.args.t.now c.requires }
 
 pub returns : goal.returns
 unfolding decode_entry

@@ -1,5 +1,4 @@
 use mathlib.Core.Path.{sym, ◌∙◌}
-use native.Mathlib.Omega.{arith}
 use Rattle.wire.proofs.ByteLaws.{bytes_intro}
 use Rattle.store.proofs.SlotParts.{other_fingerprint, other_size, short_holds}
 use Rattle.store.proofs.slot.holds_with.Goals as goal
@@ -7,9 +6,6 @@ use Rattle.store.proofs.slot.holds_with.Goals as goal
 pub returns-then-fingerprint_at-fingerprint : goal.returns-then-fingerprint_at-fingerprint
 returns-then-fingerprint_at-fingerprint c =
     sym (other_fingerprint c.args.t.now c.args.k.now c.args.f.now c.requires.slot_bytes (λ q. c.if-fingerprint_at-fingerprint.true (c.fingerprint_at.ensures ∙ q ∙ sym c.requires.fingerprint_value)))
-
-pub overflow_cast-t : goal.overflow_cast-t
-overflow_cast-t c = omega (arith, c.type_inv.t 2)
 
 pub returns-then-t-f : goal.returns-then-t-f
 returns-then-t-f c =

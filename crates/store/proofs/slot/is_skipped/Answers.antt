@@ -1,5 +1,4 @@
 use mathlib.Core.Path.{sym}
-use native.Mathlib.Omega.{arith}
 use Rattle.wire.specs.Lists.{or_else}
 use Rattle.store.specs.Search.{skipped}
 use Rattle.store.proofs.SlotParts.{state_empty}
@@ -10,15 +9,9 @@ pub returns-then-t-eq-EMPTY_STATE : goal.returns-then-t-eq-EMPTY_STATE
 unfolding skipped or_else
 returns-then-t-eq-EMPTY_STATE c = rw (state_empty c.args.t.now c.if-t-eq-EMPTY_STATE.true)
 
-pub overflow_cast-t : goal.overflow_cast-t
-overflow_cast-t c = omega (arith, c.type_inv.t 1)
-
 pub returns-then-t-k : goal.returns-then-t-k
 returns-then-t-k c =
     sym (skipped_key c.args.t.now c.args.k.now c.args.f.now (record { slot = c.requires; held = c.if-t-eq-EMPTY_STATE.false }) c.if-t-k.true)
-
-pub overflow_cast-result : goal.overflow_cast-result
-overflow_cast-result c = omega (arith, c.type_inv.t 2)
 
 pub returns : goal.returns
 returns c =
