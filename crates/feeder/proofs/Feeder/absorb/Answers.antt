@@ -4,8 +4,8 @@ use Rattle.feeder.proofs.StateLeft.{left_state}
 use Rattle.feeder.proofs.Absorbing.{completes, end_small, end_beyond, rest_inside, rest_waits, absorbed_record, absorbed_none}
 use Rattle.feeder.proofs.Feeder.absorb.Goals as goal
 
-pub shared_ref_as_front-waiting : goal.shared_ref_as_front-waiting
-shared_ref_as_front-waiting c = (left_state _ c.requires.count_value).few
+pub shared_ref_as_front-bytes : goal.shared_ref_as_front-bytes
+shared_ref_as_front-bytes c = (left_state _ c.requires.count_value).few
 
 pub complete-done-requires-clause-completing : goal.complete-done-requires-clause-completing
 complete-done-requires-clause-completing c =

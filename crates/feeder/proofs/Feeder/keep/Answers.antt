@@ -11,8 +11,8 @@ returns-then-at-eq0 c =
     kept_all _ _ c.requires.count_value _ c.if-at-eq0.true
     c.append.ensures
 
-pub shared_ref_as_front-gather : goal.shared_ref_as_front-gather
-shared_ref_as_front-gather c = (left_state _ c.requires.count_value).few
+pub shared_ref_as_front-bytes : goal.shared_ref_as_front-bytes
+shared_ref_as_front-bytes c = (left_state _ c.requires.count_value).few
 
 pub returns : goal.returns
 returns c = kept_rest _ c.args.piece.now c.requires.count_value c.args.at c.gather.ensures c.copy.ensures
