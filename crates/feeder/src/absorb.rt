@@ -23,6 +23,7 @@ use wire::bytes::{clear, copy, read_le};
 const USED_MOST: usize = 65536;
 
 // The bytes of a piece that a call looks at.
+#[tactic(auto, using(crate::proofs::Absorbing::offer_all, crate::proofs::Absorbing::offer_some))]
 fn offer(piece: &[u8]) -> &[u8]
     ensures { result.now ≡ offered piece.now }
 {
@@ -33,6 +34,7 @@ fn offer(piece: &[u8]) -> &[u8]
 }
 
 // Lays a piece after the first bytes of `out`.
+#[tactic(auto, using(crate::proofs::Absorbing::appended))]
 fn append(out: &mut [u8], count: usize, piece: &[u8])
     requires { count + length piece.now ≤ length out.old }
     ensures { out.new ≡ laid_over (take count out.old ++ piece.now) out.old }
@@ -54,6 +56,7 @@ fn do_record(bytes: &[u8], size: usize, store: &mut [u8], reply: &mut [u8]) -> E
 
 impl Joined<'_> {
     // Lays the bytes from a place on over the start of `out`.
+    #[tactic(auto, using(crate::proofs::Absorbing::gather_early))]
     fn gather(&self, at: usize, out: &mut [u8])
         requires { let end = length (joined self.now) in
             (at ≤ end) × (end ≤ at + length out.old) }
@@ -106,6 +109,7 @@ impl Joined<'_> {
 
 impl Feeder {
     // Clears the bytes that wait.
+    #[tactic(auto, using(crate::proofs::Absorbing::forgotten, crate::proofs::StateLeft::left_state))]
     fn forget(&mut self)
         requires { is_left self.old ≡ true }
         ensures { self.new ≡ fresh }
@@ -116,6 +120,7 @@ impl Feeder {
     }
 
     // Leaves waiting what is left from a place on, where a piece completes no record.
+    #[tactic(auto, using(crate::proofs::Absorbing::kept_all, crate::proofs::Absorbing::kept_rest, crate::proofs::StateLeft::left_state))]
     fn keep(&mut self, piece: &[u8], at: usize)
         requires count_value { is_left self.old ≡ true }
         requires at_bound { let end = self.old.count + length piece.now in
@@ -138,6 +143,7 @@ impl Feeder {
     }
 
     // Takes bytes of a piece, and does the record that they complete.
+    #[tactic(auto, using(crate::proofs::Absorbing::absorbs))]
     pub fn absorb(&mut self, piece: &[u8], store: &mut [u8], reply: &mut [u8]) -> Absorbed
         requires count_value { is_left self.old ≡ true }
         requires store_value { (well_formed store.old ≡ true) × (buffer_least ≤ length reply.old) }
