@@ -279,3 +279,5 @@ module _ (f : Feeder) (piece : List ℕ) (left : is_left f ≡ true) {o : List �
         ≡ answering (absorb (waiting_in f) piece) b buffer
     unfolding answering doing absorb or_else keeping laid_over
     absorbed_none b buffer h = rw (h, eo, stopped.0, leaves, stopped.1)
+
+pub ruleset absorbs = (left_state, completes, end_small, end_beyond, rest_inside, rest_waits)

@@ -7,7 +7,7 @@ use Prim.Native.Nat.{ℕ, ◌+◌, ◌-◌, ◌*◌, ◌≤◌, ◌<◌}
 use native.Mathlib.Nat.{add-zero}
 use native.Mathlib.Omega.{arith}
 use lib.Dec.{ltb}
-use lib.ListN.{length, drop, get_or, length-drop, get_or-append}
+use lib.ListN.{length, drop, get_or, length-drop}
 use lib.Seq.{drop-cons, get_or-drop, get_or-append-add}
 use borrow.Author.Tests.{eq-eqb, ne_eqb, lt-ltb, le-ltb}
 use Rattle.wire.specs.Bytes.{from_le, part}
@@ -17,9 +17,6 @@ use Rattle.feeder.specs.Promises.{head_for}
 use Rattle.feeder.proofs.RecordHead.{last_tests, after_mark, after_first}
 
 -- ---- one byte of the two lists
-
-pub byte_before : (w p : List ℕ) (i : ℕ) → i < length w → get_or w i 0 ≡ get_or (w ++ p) i 0
-byte_before w p i l = sym (get_or-append w p 0 i l)
 
 pub byte_after : (w p : List ℕ) (i : ℕ) → length w ≤ i → get_or p (i - length w) 0 ≡ get_or (w ++ p) i 0
 byte_after w p i l =
@@ -110,3 +107,5 @@ module _ (w p : List ℕ) (at : ℕ) {a count : ℕ} (ea : a ≡ get_or (w ++ p)
           pub all_there : command_at + n ≤ left → heads.Whole n ≡ head_for (head_of s)
           unfolding head_for last_tests
           all_there l = rw (after_length, le-ltb n 1 some, le-ltb command_most n few, le-ltb left (command_at + n) l)
+
+pub ruleset tells_head = (no_first, alone, no_second, no_length, outside, cut_short, all_there)

@@ -151,10 +151,6 @@ pass_over s k (suc n) l h =
     ∙ pass_over s (k + 1) n (omega arith) (λ i a b. h i (omega arith) (omega arith))
     ∙ ap (λ (i : ℕ). stop_from i s) (omega arith)
 
--- bytes passed one by one
-pub pass_begins : (s : List ℕ) (from : ℕ) → from ≤ length s → UnmarkedUpTo s from from
-pass_begins s from l = record { ahead = omega arith; inside = l; unmarked = λ i a b h. absurd (omega arith) }
-
 -- the place of the first byte that passes a test, or the end
 place_or_end : (p : ℕ → Bool) (s : List ℕ) → unwrap_or (position p s) (length s) ≡ position_or_len p s
 place_or_end p s = go (nat_lt (position_or_len p s) (length s)) refl
@@ -229,10 +225,6 @@ pub record Looking (s next : List ℕ) (clear : Bool) (i : ℕ) : Type 0 where
   pub inside : i ≤ length s
   pub unmarked : clear ≡ true → (k : ℕ) → k < i → NoPair s next k
 
--- the next place in the waiting bytes is the one next to it
-pub next_waiting : (s : List ℕ) (at : ℕ) → at < length s → NextPlace s at (at + 1)
-next_waiting s at l = record { ahead = omega arith; inside = omega arith; stops_there = refl }
-
 -- the next place in the piece is its next mark
 pub next_marked : (w p : List ℕ) (at r : ℕ) → length w ≤ at + 1 → UnmarkedUpTo p (at + 1 - length w) r → NextPlace (w ++ p) at (length w + r)
 next_marked w p at r l f =
@@ -277,3 +269,5 @@ module _ (s : List ℕ) (at : ℕ) (f : Scanning s at) {n : ℕ} (all : n ≡ le
 
     pub scan_goes_on : (r : ℕ) → heads.Skip ≡ head_for (head_of (drop at s)) → NextPlace s at r → Scanning s r
     scan_goes_on r e n = record { inside = n.inside; rest = sym (stop_skip s at here e ∙ n.stops_there) ∙ f.rest }
+
+pub ruleset tells_stop = (scan_begins, scan_whole, scan_waits, scan_goes_on, scan_ends)

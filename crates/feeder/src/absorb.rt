@@ -9,7 +9,7 @@ ghost use Rattle.feeder.specs.Record.{command_at, record_of};
 ghost use Rattle.feeder.specs.State.{waiting_most, state_of, fresh, waiting_in, is_left};
 ghost use Rattle.feeder.specs.Absorb.{offered, absorb};
 ghost use Rattle.feeder.specs.Feed.{doing, answering};
-ghost use Rattle.feeder.specs.Promises.{Completing, fed_for};
+ghost use Rattle.feeder.specs.Promises.{Completing, fed_for, joined};
 
 use crate::record::{CLOCK_AT, COMMAND_AT, Joined, LENGTH_AT, RECORD_MOST};
 use crate::scan::Stop;
@@ -23,6 +23,7 @@ use wire::bytes::{clear, copy, read_le};
 const USED_MOST: usize = 65536;
 
 // The bytes of a piece that a call looks at.
+#[tactic(auto, using(crate::proofs::Absorbing::offer_all, crate::proofs::Absorbing::offer_some))]
 fn offer(piece: &[u8]) -> &[u8]
     ensures { result.now ≡ offered piece.now }
 {
@@ -32,24 +33,8 @@ fn offer(piece: &[u8]) -> &[u8]
     piece
 }
 
-// Lays the bytes from a place on, of the waiting ones and a piece, over the start of `out`.
-fn gather(waiting: &[u8], piece: &[u8], at: usize, out: &mut [u8])
-    requires { let end = length waiting.now + length piece.now in
-        (at ≤ end) × (end ≤ at + length out.old) }
-    ensures { out.new ≡ laid_over (drop at (waiting.now ++ piece.now)) out.old }
-{
-    let count = waiting.len();
-    if count <= at {
-        let start = at - count;
-        copy(&piece[start..], out);
-        return;
-    }
-    copy(&waiting[at..], out);
-    let next = count - at;
-    copy(piece, &mut out[next..]);
-}
-
 // Lays a piece after the first bytes of `out`.
+#[tactic(auto, using(crate::proofs::Absorbing::appended))]
 fn append(out: &mut [u8], count: usize, piece: &[u8])
     requires { count + length piece.now ≤ length out.old }
     ensures { out.new ≡ laid_over (take count out.old ++ piece.now) out.old }
@@ -69,50 +54,62 @@ fn do_record(bytes: &[u8], size: usize, store: &mut [u8], reply: &mut [u8]) -> E
     execute(clock, &bytes[COMMAND_AT..end], store, reply)
 }
 
-// Joins a record that starts in the waiting bytes, and does it.
-fn do_joined(
-    waiting: &[u8],
-    piece: &[u8],
-    at: usize,
-    size: usize,
-    store: &mut [u8],
-    reply: &mut [u8],
-) -> Executed
-    requires completing { Completing waiting.now piece.now at size × (at < length waiting.now) }
-    requires store_value { (well_formed store.old ≡ true) × (buffer_least ≤ length reply.old) }
-    ensures { let done = doing (Some (record_of size (drop at (waiting.now ++ piece.now)))) store.old in
-        Replied done store.new reply.old reply.new result }
-{
-    let end = at + (COMMAND_AT + size) - waiting.len();
-    let mut joined = [0u8; RECORD_MOST];
-    gather(waiting, &piece[..end], at, &mut joined);
-    do_record(&joined, size, store, reply)
-}
-
-// Does the record at a place, with a command of so many bytes.
-fn complete(
-    waiting: &[u8],
-    piece: &[u8],
-    at: usize,
-    size: usize,
-    store: &mut [u8],
-    reply: &mut [u8],
-) -> Executed
-    requires completing { Completing waiting.now piece.now at size }
-    requires store_value { (well_formed store.old ≡ true) × (buffer_least ≤ length reply.old) }
-    ensures { let done = doing (Some (record_of size (drop at (waiting.now ++ piece.now)))) store.old in
-        Replied done store.new reply.old reply.new result }
-{
-    let count = waiting.len();
-    if count <= at {
-        let from = at - count;
-        return do_record(&piece[from..], size, store, reply);
+impl Joined<'_> {
+    // Lays the bytes from a place on over the start of `out`.
+    #[tactic(auto, using(crate::proofs::Absorbing::gather_early))]
+    fn gather(&self, at: usize, out: &mut [u8])
+        requires { let end = length (joined self.now) in
+            (at ≤ end) × (end ≤ at + length out.old) }
+        ensures { out.new ≡ laid_over (drop at (joined self.now)) out.old }
+    {
+        let count = self.waiting.len();
+        if count <= at {
+            let start = at - count;
+            copy(&self.piece[start..], out);
+            return;
+        }
+        copy(&self.waiting[at..], out);
+        let next = count - at;
+        copy(self.piece, &mut out[next..]);
     }
-    do_joined(waiting, piece, at, size, store, reply)
+
+    // Joins a record that starts in the waiting bytes, and does it.
+    fn do_joined(&self, at: usize, size: usize, store: &mut [u8], reply: &mut [u8]) -> Executed
+        requires completing { let waiting = self.now.waiting.now in
+            Completing waiting self.now.piece.now at size × (at < length waiting) }
+        requires store_value { (well_formed store.old ≡ true) × (buffer_least ≤ length reply.old) }
+        ensures { let done = doing (Some (record_of size (drop at (joined self.now)))) store.old in
+            Replied done store.new reply.old reply.new result }
+    {
+        let end = at + (COMMAND_AT + size) - self.waiting.len();
+        let sent = Joined {
+            waiting: self.waiting,
+            piece: &self.piece[..end],
+        };
+        let mut record = [0u8; RECORD_MOST];
+        sent.gather(at, &mut record);
+        do_record(&record, size, store, reply)
+    }
+
+    // Does the record at a place, with a command of so many bytes.
+    fn complete(&self, at: usize, size: usize, store: &mut [u8], reply: &mut [u8]) -> Executed
+        requires completing { Completing self.now.waiting.now self.now.piece.now at size }
+        requires store_value { (well_formed store.old ≡ true) × (buffer_least ≤ length reply.old) }
+        ensures { let done = doing (Some (record_of size (drop at (joined self.now)))) store.old in
+            Replied done store.new reply.old reply.new result }
+    {
+        let count = self.waiting.len();
+        if count <= at {
+            let from = at - count;
+            return do_record(&self.piece[from..], size, store, reply);
+        }
+        self.do_joined(at, size, store, reply)
+    }
 }
 
 impl Feeder {
     // Clears the bytes that wait.
+    #[tactic(auto, using(crate::proofs::Absorbing::forgotten, crate::proofs::StateLeft::left_state))]
     fn forget(&mut self)
         requires { is_left self.old ≡ true }
         ensures { self.new ≡ fresh }
@@ -123,6 +120,7 @@ impl Feeder {
     }
 
     // Leaves waiting what is left from a place on, where a piece completes no record.
+    #[tactic(auto, using(crate::proofs::Absorbing::kept_all, crate::proofs::Absorbing::kept_rest, crate::proofs::StateLeft::left_state))]
     fn keep(&mut self, piece: &[u8], at: usize)
         requires count_value { is_left self.old ≡ true }
         requires at_bound { let end = self.old.count + length piece.now in
@@ -135,12 +133,17 @@ impl Feeder {
             append(&mut self.waiting, count, piece);
             return;
         }
+        let bytes = Joined {
+            waiting: &self.waiting[..count],
+            piece,
+        };
         let mut rest = [0u8; WAITING_MOST];
-        gather(&self.waiting[..count], piece, at, &mut rest);
+        bytes.gather(at, &mut rest);
         copy(&rest, &mut self.waiting);
     }
 
     // Takes bytes of a piece, and does the record that they complete.
+    #[tactic(auto, using(crate::proofs::Absorbing::absorbs))]
     pub fn absorb(&mut self, piece: &[u8], store: &mut [u8], reply: &mut [u8]) -> Absorbed
         requires count_value { is_left self.old ≡ true }
         requires store_value { (well_formed store.old ≡ true) × (buffer_least ≤ length reply.old) }
@@ -149,14 +152,13 @@ impl Feeder {
     {
         let offered = offer(piece);
         let count = self.count;
-        let waiting = &self.waiting[..count];
         let bytes = Joined {
-            waiting,
+            waiting: &self.waiting[..count],
             piece: offered,
         };
         match bytes.first_stop() {
             Stop::Record(at, size) => {
-                let done = complete(waiting, offered, at, size, store, reply);
+                let done = bytes.complete(at, size, store, reply);
                 let end = at + (COMMAND_AT + size);
                 self.forget();
                 Absorbed {

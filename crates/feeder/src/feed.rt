@@ -40,6 +40,7 @@ impl Feeder {
     }
 
     // One call on a lent state, which is not copied. A refused call takes nothing, and the state stays.
+    #[tactic(auto, using(crate::proofs::OneFeed::refused_call, crate::proofs::OneFeed::fed_call))]
     pub fn feed_lent(
         &mut self,
         piece: &[u8],

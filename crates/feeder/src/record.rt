@@ -58,6 +58,7 @@ impl Joined<'_> {
     }
 
     // What stands at a place of the list.
+    #[tactic(auto, using(crate::proofs::RecordTests::tells_head))]
     pub fn head_at(&self, at: usize) -> Head
         requires { at < length (joined self.now) }
         ensures { result ≡ head_for (head_of (drop at (joined self.now))) }

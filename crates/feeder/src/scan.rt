@@ -54,6 +54,7 @@ fn first_byte(bytes: &[u8]) -> Option<usize>
 }
 
 // The next byte of a piece from a place on that begins a mark, or the end, past all blocks in which no mark begins.
+#[tactic(auto, using(crate::proofs::ScanStops::pass_on, crate::proofs::ScanStops::pass_others))]
 fn next_mark(piece: &[u8], from: usize) -> usize
     requires { from ≤ length piece.now }
     ensures { UnmarkedUpTo piece.now from result }
@@ -78,6 +79,7 @@ impl Joined<'_> {
         before + next_mark(self.piece, from)
     }
 
+    #[tactic(auto, using(crate::proofs::ScanStops::tells_stop))]
     pub fn first_stop(&self) -> Stop
         ensures { result ≡ stop_of (joined self.now) }
     {
