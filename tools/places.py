@@ -15,7 +15,7 @@ def sources():
 
 def bare(text):
     """The text without comments and strings."""
-    text = re.sub(r'b?"(?:\\.|[^"\\])*"', '""', text)
+    text = re.sub(r'b?"(?:\\.|[^"\\])*"', '""', text, flags=re.S)
     return re.sub(r'//[^\n]*', '', text)
 
 
