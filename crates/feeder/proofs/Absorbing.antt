@@ -8,7 +8,7 @@ use Prim.Native.Nat.{ℕ, ◌+◌, ◌-◌, ◌≤◌, ◌<◌}
 use native.Mathlib.Nat.{sub-zero}
 use native.Mathlib.Omega.{arith}
 use lib.ListN.{length, take, drop, replicate, length-append, length-drop, length-take, length-replicate, replicate-append-replicate, take-append-drop}
-use lib.Seq.{take_all, length-take-le, drop-append-le, drop-append-add, drop-drop, take-append-add}
+use lib.Seq.{take_all, length-take-le, drop-append-le, drop-drop, take-append-add}
 use borrow.Rule.Slice.PartMut.{put_mid}
 use Rattle.wire.specs.Lists.{or_else}
 use Rattle.wire.specs.Bytes.{all_zero, from_le, part, padded}
@@ -51,15 +51,6 @@ offered_short p = rw (length-take used_most p) (omega arith)
 -- ---- bytes laid from two lists
 
 module _ (w p : List ℕ) (at : ℕ) where
-  pub drop_late : length w ≤ at → drop at (w ++ p) ≡ drop (at - length w) p
-  drop_late l =
-      let e : at ≡ length w + (at - length w) = omega arith in
-      ap (λ (n : ℕ). drop n (w ++ p)) e ∙ drop-append-add w p (at - length w)
-
-  pub gather_late : (out t : List ℕ) → length w ≤ at → t ≡ laid_over (take (length p - (at - length w)) (drop (at - length w) p)) out
-      → t ≡ laid_over (drop at (w ++ p)) out
-  gather_late out t l e = e ∙ rw (tail_part (at - length w) p, drop_late l)
-
   pub gather_early : (out t u : List ℕ) → at ≤ length w → t ≡ laid_over (take (length w - at) (drop at w)) out
       → u ≡ laid_over p (take (length t - (length w - at)) (drop (length w - at) t))
       → put_mid (length w - at) (length t - (length w - at)) t u ≡ laid_over (drop at (w ++ p)) out
@@ -99,16 +90,6 @@ module _ (size : ℕ) (s b : List ℕ) {clock : ℕ} {after buffer over : List �
       rw (e, n) at h
 
 module _ (w p : List ℕ) (at size : ℕ) (c : Completing w p at size) where
-  -- the bytes of the piece up to its end
-  pub up_to_end : length (take (at + (command_at + size) - length w) p) ≡ at + (command_at + size) - length w
-  up_to_end = length-take-le (at + (command_at + size) - length w) p (omega (arith, c.beyond, c.inside))
-
-  -- it stands in the piece
-  pub piece_done : (b : List ℕ) {after buffer over : List ℕ} {r : Executed} → length w ≤ at
-      → Replied (doing (Some (record_of size (take (length p - (at - length w)) (drop (at - length w) p)))) b) after buffer over r
-      → Replied (doing (Some (record_of size (drop at (w ++ p)))) b) after buffer over r
-  piece_done b l h = rw (drop_late w p at l, ← tail_part (at - length w) p) h
-
   module _ (l : at < length w) where
     -- the record as it was sent
     abbrev sent : List ℕ
