@@ -3,11 +3,13 @@ use Rattle.std.specs.List.{list_any}
 use Rattle.std.specs.Prelude.{Option, None, Some, option_map, is_some, Ok, Err}
 use mathlib.Core.Path.{◌≡◌, refl, sym, ap, subst, ◌∙◌}
 use mathlib.Core.Bool.{Bool, true, false, cond, not, ◌||◌}
-use mathlib.Core.List.{List, [], ◌∷◌, ◌++◌, append_assoc, append-nil}
+use mathlib.Core.List.{List, [], ◌∷◌, ◌++◌, append_assoc, append-nil, map}
 use Prim.Native.Nat.{ℕ, suc, ◌+◌, ◌≤◌, ◌<◌}
 use native.Mathlib.Numerals.{add-one}
 use native.Mathlib.Omega.{arith}
 use borrow.Author.Tests.{not-true, not-false, eq-eqb, eqb-true, eqb-false}
+use denote.Enum.Bare.{sameb}
+use denote.Enum.Declared.{tag_of}
 use lib.Dec.{eqb}
 use lib.ListN.{length, get_or, drop, set, get_or-replicate, drop_of_length-le}
 use lib.Seq.{drop-cons, get_or-set_same, get_or-set_other}
@@ -21,18 +23,31 @@ use Rattle.commands.specs.declared.refusal.Refusal.{Refusal}
 use Rattle.commands.specs.declared.refusal.Refusal.TheVariants.{Syntax}
 use Rattle.commands.specs.declared.options.ScannedOptions as scanned
 use Rattle.commands.specs.Options.{OptionKind, Range, Given, ◌with◌, options, group, group_count, operand_range, option_named, scan, conflicting, given_of}
+use Rattle.commands.specs.contracts.table.OptionGroup.{the_type}
+use Rattle.commands.specs.declared.table.OptionGroup.{OptionGroup}
+use Rattle.commands.specs.declared.table.OptionGroup.TheVariants as groups
 use Rattle.commands.specs.declared.table.OptionKind as kind
 use Rattle.commands.specs.declared.table.OptionKind.TheVariants as kinds
-use Rattle.commands.specs.TablePromises.{kind_meant, option_table, option_of}
+use Rattle.commands.specs.TablePromises.{kind_meant, group_number, option_table, option_of}
 use Rattle.commands.specs.ParsePromises.{given_by, given_list, given_at, WithOption, FoundOption, Scanned}
 use Rattle.commands.proofs.TableRows.{meant, option_row}
 
 -- ---- the groups that are allowed
 
-pub takes_any : (g : ℕ) (gs : List ℕ) → list_any (λ h. eqb h g) gs ≡ any (eqb g) gs
+-- the number of a group is its place among the groups
+tag_numbered : (g : OptionGroup) → tag_of the_type g ≡ group_number g
+unfolding group_number
+tag_numbered groups.Expiry = refl
+tag_numbered groups.Condition = refl
+tag_numbered groups.Version = refl
+tag_numbered groups.Min = refl
+tag_numbered groups.Max = refl
+tag_numbered groups.NoExp = refl
+
+pub takes_any : (g : OptionGroup) (gs : List OptionGroup) → list_any (λ h. sameb the_type h g) gs ≡ any (eqb (group_number g)) (map group_number gs)
 unfolding any
 takes_any g [] = refl
-takes_any g (h ∷ gs) = rw (eqb_sym h g, takes_any g gs)
+takes_any g (h ∷ gs) = rw (tag_numbered h, tag_numbered g, eqb_sym (group_number h) (group_number g), takes_any g gs)
 
 -- ---- options that were given
 

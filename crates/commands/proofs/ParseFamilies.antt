@@ -28,17 +28,18 @@ use Rattle.commands.specs.declared.refusal.Refusal.{Refusal}
 use Rattle.commands.specs.declared.refusal.Refusal.TheVariants.{NotInteger, InvalidVersion, InvalidExpireTime}
 use Rattle.commands.specs.declared.options.ScannedOptions.{ScannedOptions}
 use Rattle.commands.specs.declared.table.TimeUnit.{TimeUnit}
+use Rattle.commands.specs.declared.table.OptionGroup.TheVariants as groups
 use Rattle.commands.specs.declared.Condition.TheVariants as conditions
 use Rattle.commands.specs.Options.{◌with◌}
 use Rattle.commands.specs.Options.OptionKind.{no_exp}
 use Rattle.commands.specs.Command.{Deed, Command}
 use Rattle.commands.specs.Command.Deed.{persist, ask}
 use Rattle.commands.specs.Command.Command.{on_field, set_many, get_many, delete, count_live, count_held, list}
-use Rattle.commands.specs.Options.{signed64, expiry_group, condition_group, version_group, min_group, max_group, no_exp_group, operand_range, scan, conflicting, given_of, read_in, readable, number_in, natural_in, instant, bound_in}
+use Rattle.commands.specs.Options.{signed64, expiry_group, version_group, min_group, max_group, no_exp_group, operand_range, scan, conflicting, given_of, read_in, readable, number_in, natural_in, instant, bound_in}
 use Rattle.commands.specs.Parse.{Form, allowed, option_words, number_range, pairs_of, build, is_zero, deed_versioning, beyond, deed_lifetime, on_deed, said_by}
 use Rattle.commands.specs.Parse.Form.{set_form, set_many_form, increment_form, expire_form, persist_form, renumber_form, ask_form, get_many_form, delete_form, count_form, list_form}
 use Rattle.commands.specs.Parse.Parsed.{accepted}
-use Rattle.commands.specs.TablePromises.{unit_meant}
+use Rattle.commands.specs.TablePromises.{unit_meant, group_number}
 use Rattle.commands.specs.ParsePromises.{given_at, instant_in, read_of, by_number, versioned_for, terms_for, sum_for, lowest_signed, highest_signed, bound_for, sum_of, parse_rest, deed_of, command_for, meant}
 use Rattle.commands.proofs.OperandWords.{instant_read}
 use Rattle.commands.proofs.OptionScanning.{flag_some}
@@ -50,8 +51,8 @@ given_option f n ws = read_of (given_of n (given_in f ws))
 
 -- ---- EXHSET
 
-pub set_takes : Takes set_form (expiry_group ∷ condition_group ∷ version_group ∷ []) 4
-unfolding allowed option_words
+pub set_takes : Takes set_form (groups.Expiry ∷ groups.Condition ∷ groups.Version ∷ []) 4
+unfolding allowed option_words group_number
 set_takes = record { groups = refl; words = λ ws. refl }
 
 module _ (time : ℕ) {ws : List Word} {r : ScannedOptions} (y : Ready set_form ws r)
@@ -115,8 +116,8 @@ one_fails true a b false d e = simp and-false
 one_fails true a b true false e = simp and-false
 one_fails true a b true true e = impossible cc
 
-pub increment_takes : Takes increment_form (expiry_group ∷ version_group ∷ min_group ∷ max_group ∷ []) 4
-unfolding allowed option_words
+pub increment_takes : Takes increment_form (groups.Expiry ∷ groups.Version ∷ groups.Min ∷ groups.Max ∷ []) 4
+unfolding allowed option_words group_number
 increment_takes = record { groups = refl; words = λ ws. refl }
 
 module _ (time : ℕ) {ws : List Word} {r : ScannedOptions} (y : Ready increment_form ws r) where
@@ -194,8 +195,8 @@ module _ (time : ℕ) {ws : List Word} {r : ScannedOptions} (y : Ready increment
 abbrev expiring : TimeUnit → Form
 expiring unit = expire_form (unit_meant unit)
 
-pub expire_takes : (unit : TimeUnit) → Takes (expire_form (unit_meant unit)) (version_group ∷ []) 4
-unfolding allowed option_words
+pub expire_takes : (unit : TimeUnit) → Takes (expire_form (unit_meant unit)) (groups.Version ∷ []) 4
+unfolding allowed option_words group_number
 expire_takes unit = record { groups = refl; words = λ ws. refl }
 
 module _ (time : ℕ) (unit : TimeUnit) {ws : List Word} {r : ScannedOptions} (y : Ready (expire_form (unit_meant unit)) ws r) where
@@ -258,8 +259,8 @@ module _ (time : ℕ) (ws : List Word) where
 
 -- ---- EXHLEN
 
-pub count_takes : Takes count_form (no_exp_group ∷ []) 2
-unfolding allowed option_words
+pub count_takes : Takes count_form (groups.NoExp ∷ []) 2
+unfolding allowed option_words group_number
 count_takes = record { groups = refl; words = λ ws. refl }
 
 module _ (time : ℕ) {ws : List Word} {r : ScannedOptions} (y : Ready count_form ws r) where

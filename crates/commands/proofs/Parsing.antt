@@ -2,7 +2,7 @@
 use Rattle.std.specs.Prelude.{Option, None, Some, option_map, unwrap_or, is_some, Result, Ok, Err}
 use mathlib.Core.Path.{◌≡◌, refl, sym, ap, ◌∙◌}
 use mathlib.Core.Bool.{Bool, true, false, cond, not, ◌&&◌}
-use mathlib.Core.List.{List, []}
+use mathlib.Core.List.{List, [], map}
 use Prim.Native.Nat.{ℕ, ◌<◌}
 use native.Mathlib.Omega.{arith}
 use lib.IntN.{ℤ, pos}
@@ -21,12 +21,14 @@ use Rattle.commands.specs.declared.Versioning.{Versioning}
 use Rattle.commands.specs.declared.Stamping.{Stamping}
 use Rattle.commands.specs.declared.refusal.Refusal.{Refusal}
 use Rattle.commands.specs.declared.refusal.Refusal.TheVariants.{Syntax, NotInteger, InvalidVersion, InvalidExpireTime}
+use Rattle.commands.specs.declared.table.OptionGroup.{OptionGroup}
 use Rattle.commands.specs.declared.options.ScannedOptions.{ScannedOptions}
 use Rattle.wire.specs.Checks.{first_applying}
 use Rattle.commands.specs.Options.{◌with◌, Given, signed64, expiry_group, condition_group, version_group, group_count, operand_range, scan, conflicting, given_of, read_in, readable, number_in, readable_operand, condition_of, lifetime, versioning, condition, bound_in, no_exp_group}
 use Rattle.commands.specs.Options.OptionKind.{only, bound, no_exp}
 use Rattle.commands.specs.Parse.{Form, allowed, option_words, number_range, is_zero, deed_versioning, beyond, deed_lifetime, on_deed, later_checks, scanned_of, said_by}
 use Rattle.commands.specs.Parse.Parsed.{refused, accepted}
+use Rattle.commands.specs.TablePromises.{group_number}
 use Rattle.commands.specs.ParsePromises.{refusal_number, by_number, given_at, CleanScan, Scanned, lifetime_by, version_by, read_of, timed_for, versioned_for, term_checks, terms_for, bound_for, parse_rest, meant}
 use Rattle.wire.proofs.Checks.{check_applies, check_passed, checks_end}
 use Rattle.commands.proofs.OptionsOneEach.{scan_allowed, all_groups}
@@ -89,8 +91,8 @@ module _ (time : ℕ) (f : Form) (ws : List Word) where
 -- ---- what a scan found
 
 -- the groups and the words from which a form takes options
-pub record Takes (f : Form) (al : List ℕ) (from : ℕ) : Type 0 where
-  pub groups : allowed f ≡ al
+pub record Takes (f : Form) (al : List OptionGroup) (from : ℕ) : Type 0 where
+  pub groups : allowed f ≡ map group_number al
   pub words : (ws : List Word) → option_words f ws ≡ drop from ws
 
 -- A scan that is clean: the options of the groups stand in the code's arrays, and all numbers are read where each group's is.
@@ -99,14 +101,14 @@ pub record Ready (f : Form) (ws : List Word) (r : ScannedOptions) : Type 0 where
   pub given : (g : ℕ) → g < group_count → given_of g (given_in f ws) ≡ given_at ws r g
   pub read : all readable_operand (given_in f ws) ≡ all (λ n. read_of (given_of n (given_in f ws))) (allowed f)
 
-module _ {f : Form} {al : List ℕ} {from : ℕ} (k : Takes f al from) (ws : List Word) where
-  same_scan : scan al None (drop from ws) ≡ scanned_of f ws
+module _ {f : Form} {al : List OptionGroup} {from : ℕ} (k : Takes f al from) (ws : List Word) where
+  same_scan : scan (map group_number al) None (drop from ws) ≡ scanned_of f ws
   same_scan = rw (k.groups, k.words ws)
 
-  pub not_clean : {n : Refusal} → Scanned ws al from (Err n) → (time : ℕ) → meant ws (Err n) ≡ parse_rest time f ws
+  pub not_clean : {n : Refusal} → Scanned ws (map group_number al) from (Err n) → (time : ℕ) → meant ws (Err n) ≡ parse_rest time f ws
   not_clean (e, h) time = rw e (rest_15 time f ws (rw same_scan at h))
 
-  pub ready : {r : ScannedOptions} → CleanScan ws al from r → Ready f ws r
+  pub ready : {r : ScannedOptions} → CleanScan ws (map group_number al) from r → Ready f ws r
   unfolding or_else read_of
   ready s =
       let clean : unclean f ws ≡ false = rw same_scan at s.clean in

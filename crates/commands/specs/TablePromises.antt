@@ -16,8 +16,10 @@ use Rattle.commands.specs.declared.table.VersionOption.{VersionOption}
 use Rattle.commands.specs.declared.table.VersionOption.TheVariants as versions
 use Rattle.commands.specs.declared.table.OptionKind.{OptionKind}
 use Rattle.commands.specs.declared.table.OptionKind.TheVariants as kinds
+use Rattle.commands.specs.declared.table.OptionGroup.{OptionGroup}
+use Rattle.commands.specs.declared.table.OptionGroup.TheVariants as groups
 use Rattle.commands.specs.Options as O
-use Rattle.commands.specs.Options.{in_seconds, in_ms, ◌means◌, options, min_group, max_group}
+use Rattle.commands.specs.Options.{in_seconds, in_ms, ◌means◌, options, expiry_group, condition_group, version_group, min_group, max_group, no_exp_group}
 use Rattle.commands.specs.Options.OptionKind.{expires, keep_ttl, only, versioned, bound, no_exp}
 use Rattle.commands.specs.Parse as P
 use Rattle.commands.specs.Parse.{row, commands}
@@ -94,6 +96,15 @@ kind_meant (kinds.Versioned v) = versioned (version_meant v)
 kind_meant kinds.Min = bound min_group
 kind_meant kinds.Max = bound max_group
 kind_meant kinds.NoExp = no_exp
+
+-- the number of a group of options
+unfoldable pub group_number : OptionGroup → ℕ
+group_number groups.Expiry = expiry_group
+group_number groups.Condition = condition_group
+group_number groups.Version = version_group
+group_number groups.Min = min_group
+group_number groups.Max = max_group
+group_number groups.NoExp = no_exp_group
 
 unfoldable pub option_table : List ℕ
 option_table = flat_map (λ r. name_row r.name) options

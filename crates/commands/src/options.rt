@@ -1,13 +1,15 @@
 // The options of a command: which were given, and where their operands stand.
-ghost use Rattle.std.specs.Prelude.{◌≡◌, ◌<◌, List, is_some, length};
+ghost use Rattle.std.specs.Prelude.{◌≡◌, ◌<◌, List, is_some, length, map};
 ghost use Rattle.wire.specs.Words.{Word};
 ghost use Rattle.commands.specs.Options.{group};
-ghost use Rattle.commands.specs.TablePromises.{kind_meant};
+ghost use Rattle.commands.specs.TablePromises.{kind_meant, group_number};
 ghost use Rattle.commands.specs.ParsePromises.{FoundBy, WithOption, Scanned, given_at};
 
 use crate::Condition;
 use crate::refusal::Refusal;
-use crate::table::{OptionKind, TimeUnit, VersionOption, group, option_named, takes_operand};
+use crate::table::{
+    OptionGroup, OptionKind, TimeUnit, VersionOption, group, option_named, takes_operand,
+};
 use wire::words::{Words, next_word};
 
 // EX, EXAT, PX or PXAT as its unit, with the number of its operand's word, or KEEPTTL.
@@ -43,9 +45,9 @@ struct PlacedOption {
 }
 
 // The option at a word, of one of the groups that the command takes. It is refused where it is unknown or its operand is missing.
-fn option_at(words: &Words<'_>, i: usize, allowed: &[usize]) -> Result<PlacedOption, Refusal>
+fn option_at(words: &Words<'_>, i: usize, allowed: &[OptionGroup]) -> Result<PlacedOption, Refusal>
     requires { i < length words.now }
-    ensures { FoundBy words.now allowed.now i result }
+    ensures { FoundBy words.now (map group_number allowed.now) i result }
 {
     let kind = option_named(words.word(i)).ok_or(Refusal::Syntax)?;
     if !allowed.contains(&group(kind)) {
@@ -97,8 +99,12 @@ fn give(options: &mut ScannedOptions, kind: OptionKind, last: usize)
 }
 
 // The options among the words from a word on. They are refused where one is unknown, repeated or conflicting, or its operand is missing.
-pub fn scan(words: &Words<'_>, from: usize, allowed: &[usize]) -> Result<ScannedOptions, Refusal>
-    ensures { Scanned words.now allowed.now from result }
+pub fn scan(
+    words: &Words<'_>,
+    from: usize,
+    allowed: &[OptionGroup],
+) -> Result<ScannedOptions, Refusal>
+    ensures { Scanned words.now (map group_number allowed.now) from result }
 {
     let mut options = ScannedOptions {
         expiry: None,

@@ -8,10 +8,7 @@ ghost use Rattle.commands.specs.ParsePromises.{Divided, parse_rest, meant};
 use crate::counts::{count_fits, too_long};
 use crate::options::scan;
 use crate::refusal::Refusal;
-use crate::table::{
-    CONDITION_GROUP, CommandRow, EXPIRY_GROUP, Form, MAX_GROUP, MIN_GROUP, NO_EXP_GROUP, TimeUnit,
-    VERSION_GROUP, command_named,
-};
+use crate::table::{CommandRow, Form, OptionGroup, TimeUnit, command_named};
 use crate::{Condition, FieldDeed, KeyDeed, Parsed, operands};
 use store::layout::{TIME_LIMIT, VERSION_MOST};
 use wire::integers::read_natural;
@@ -22,7 +19,15 @@ fn parse_set(words: &Words<'_>, time: u64) -> Result<Parsed, Refusal>
     requires { time < time_limit }
     ensures { meant words.now result ≡ parse_rest time P.Form.set_form words.now }
 {
-    let options = scan(words, 4, &[EXPIRY_GROUP, CONDITION_GROUP, VERSION_GROUP])?;
+    let options = scan(
+        words,
+        4,
+        &[
+            OptionGroup::Expiry,
+            OptionGroup::Condition,
+            OptionGroup::Version,
+        ],
+    )?;
     let terms = operands::read_terms(words, options, time)?;
     let condition = options.condition.unwrap_or(Condition::Always);
     Ok(Parsed::OnField(FieldDeed::Assign(condition, terms)))
@@ -36,7 +41,12 @@ fn parse_increment(words: &Words<'_>, time: u64) -> Result<Parsed, Refusal>
     let options = scan(
         words,
         4,
-        &[EXPIRY_GROUP, VERSION_GROUP, MIN_GROUP, MAX_GROUP],
+        &[
+            OptionGroup::Expiry,
+            OptionGroup::Version,
+            OptionGroup::Min,
+            OptionGroup::Max,
+        ],
     )?;
     let sum = operands::sum(words, options)?;
     let terms = operands::read_terms(words, options, time)?;
@@ -48,7 +58,7 @@ fn parse_expire(words: &Words<'_>, unit: TimeUnit, time: u64) -> Result<Parsed, 
     requires { time < time_limit }
     ensures { meant words.now result ≡ parse_rest time (P.Form.expire_form (unit_meant unit)) words.now }
 {
-    let options = scan(words, 4, &[VERSION_GROUP])?;
+    let options = scan(words, 4, &[OptionGroup::Version])?;
     let n = read_natural(words.word(3), TIME_LIMIT).ok_or(Refusal::NotInteger)?;
     let versioning = operands::versioning(words, options.version)?;
     if operands::is_zero(versioning) {
@@ -73,7 +83,7 @@ fn parse_renumber(words: &Words<'_>) -> Result<Parsed, Refusal>
 fn parse_count(words: &Words<'_>) -> Result<Parsed, Refusal>
     ensures { (time : ℕ) → meant words.now result ≡ parse_rest time P.Form.count_form words.now }
 {
-    let options = scan(words, 2, &[NO_EXP_GROUP])?;
+    let options = scan(words, 2, &[OptionGroup::NoExp])?;
     if options.no_exp {
         return Ok(Parsed::OnKey(KeyDeed::CountLive));
     }

@@ -3,7 +3,7 @@ ghost use Rattle.std.specs.Prelude.{◌≡◌, ◌<◌, option_map, is_some};
 ghost use Rattle.wire.specs.Promises.{row_named};
 ghost use Rattle.commands.specs.Options.{option_count, group, operand_range};
 ghost use Rattle.commands.specs.Parse.{command_count, command_named, commands};
-ghost use Rattle.commands.specs.TablePromises.{command_of, row_parts, row_meant, option_table, option_of, kind_meant};
+ghost use Rattle.commands.specs.TablePromises.{command_of, row_parts, row_meant, option_table, option_of, kind_meant, group_number};
 
 use self::WordCount::{AtLeast, EvenFrom, Exactly};
 use crate::{Condition, Listing, Question};
@@ -97,17 +97,15 @@ pub enum OptionKind {
 }
 
 // The groups of options: at most one of each is given.
-pub const EXPIRY_GROUP: usize = 0;
-
-pub const CONDITION_GROUP: usize = 1;
-
-pub const VERSION_GROUP: usize = 2;
-
-pub const MIN_GROUP: usize = 3;
-
-pub const MAX_GROUP: usize = 4;
-
-pub const NO_EXP_GROUP: usize = 5;
+#[derive(Clone, Copy, PartialEq, Eq)]
+pub enum OptionGroup {
+    Expiry,
+    Condition,
+    Version,
+    Min,
+    Max,
+    NoExp,
+}
 
 // The options.
 const OPTION_COUNT: usize = 13;
@@ -206,17 +204,17 @@ pub fn option_named(word: &[u8]) -> Option<OptionKind>
 }
 
 // The group of an option.
-#[tactic(auto, unfolding(crate::specs::TablePromises::kind_meant, crate::specs::Options::group))]
-pub fn group(kind: OptionKind) -> usize
-    ensures { result ≡ group (kind_meant kind) }
+#[tactic(auto, unfolding(crate::specs::TablePromises::kind_meant, crate::specs::TablePromises::group_number, crate::specs::Options::group))]
+pub fn group(kind: OptionKind) -> OptionGroup
+    ensures { group_number result ≡ group (kind_meant kind) }
 {
     match kind {
-        OptionKind::Expires(_) | OptionKind::KeepTtl => EXPIRY_GROUP,
-        OptionKind::Only(_) => CONDITION_GROUP,
-        OptionKind::Versioned(_) => VERSION_GROUP,
-        OptionKind::Min => MIN_GROUP,
-        OptionKind::Max => MAX_GROUP,
-        OptionKind::NoExp => NO_EXP_GROUP,
+        OptionKind::Expires(_) | OptionKind::KeepTtl => OptionGroup::Expiry,
+        OptionKind::Only(_) => OptionGroup::Condition,
+        OptionKind::Versioned(_) => OptionGroup::Version,
+        OptionKind::Min => OptionGroup::Min,
+        OptionKind::Max => OptionGroup::Max,
+        OptionKind::NoExp => OptionGroup::NoExp,
     }
 }
 
