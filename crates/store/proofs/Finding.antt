@@ -117,6 +117,10 @@ module _ {b : List ℕ} {n i : ℕ} (w : Walk b n) (l : i < n) where
   counted : i < slot_count b
   counted = rw (← length_decode b) within
 
+  -- the store has slot i
+  pub walk_counted : (well_formed b ≡ true) × (i < slot_count b)
+  walk_counted = (w.well, counted)
+
   -- the place of slot i stands in the store
   pub walk_inside : header_size + slot_size * i + slot_size ≤ length b
   walk_inside = slot_inside b i w.well counted

@@ -7,6 +7,7 @@ ghost use Rattle.store.specs.Promises.{slots_of, SlotsWell, halves_at, key_sum, 
 
 use crate::layout::{FIELD_AT, KEY_AT, SLOT_SIZE, VALUE_AT};
 use crate::slot;
+use crate::slot::Slot;
 use wire::bytes::read_le;
 
 // The bytes of half a word, and the bound of their number.
@@ -21,7 +22,7 @@ fn named_from(store: &[u8], count: usize, from: usize, key: &[u8], field: &[u8])
     ensures { result ≡ any (holds key.now field.now) (drop from (slots_of count store.now)) }
 {
     for i in (from..count).rev() {
-        if slot::holds(slot::bytes(store, i), key, field) {
+        if Slot::new(slot::bytes(store, i)).holds(key, field) {
             return true;
         }
     }
@@ -88,11 +89,12 @@ pub fn repeats(store: &[u8], count: usize, i: usize, filter: &mut [u64]) -> bool
     ensures { Turned count store.now i filter.old filter.new result }
 {
     let t = slot::bytes(store, i);
-    if slot::is_empty(t) {
+    let slot = Slot::new(t);
+    if slot.is_empty() {
         return false;
     }
     if !insert(filter, name_hash(t)) {
         return false;
     }
-    named_from(store, count, i + 1, slot::key(t), slot::field(t))
+    named_from(store, count, i + 1, slot.key(), slot.field())
 }

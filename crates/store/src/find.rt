@@ -5,7 +5,7 @@ ghost use Rattle.store.specs.Store.{Slot, decode, well_formed, holds};
 ghost use Rattle.store.specs.Time.{lowest_slot, empty_slot, dead_slot, room_slot, of_key, live_of_key, key_exists};
 ghost use Rattle.store.specs.Promises.{lowest_from, searched, searched_within, name_words, Skips, TakesSlots, TellsSlots};
 
-use crate::layout::{KEY_AT, SLOT_SIZE};
+use crate::layout::KEY_AT;
 use crate::read::slots;
 use crate::{Searched, SoughtKey, slot};
 
@@ -47,7 +47,7 @@ fn search_within(
     let mut compared = 0;
     'slots: for i in from..end {
         let t = slot::bytes(store, i);
-        if slot::is_skipped(t, key, field) {
+        if slot::Slot::new(t).is_skipped(key, field) {
             continue 'slots;
         }
         for w in 0..slot::NAME_WORDS {
@@ -83,7 +83,7 @@ pub fn named(store: &[u8], key: &[u8], field: &[u8]) -> Option<usize>
     let fingerprint = slot::fingerprint_of(field);
     let mut i = next_candidate(store, fingerprint, 0);
     while i < count {
-        if slot::holds_with(slot::bytes(store, i), fingerprint, key, field) {
+        if slot::Slot::of(store, i).holds_with(fingerprint, key, field) {
             return Some(i);
         }
         i = next_candidate(store, fingerprint, i + 1);
@@ -100,35 +100,35 @@ pub fn named_near(store: &[u8], key: &[u8], field: &[u8], hint: usize) -> Option
         return named(store, key, field);
     }
     let fingerprint = slot::fingerprint_of(field);
-    if slot::holds_with(slot::bytes(store, hint), fingerprint, key, field) {
+    if slot::Slot::of(store, hint).holds_with(fingerprint, key, field) {
         return Some(hint);
     }
     named(store, key, field)
 }
 
-// The lowest slot from a slot on that passes a test of its bytes.
-fn lowest<F: Fn(&[u8; SLOT_SIZE]) -> bool>(store: &[u8], from: usize, test: F) -> Option<usize>
+// The lowest slot from a slot on that passes a test.
+fn lowest<F: Fn(&slot::Slot) -> bool>(store: &[u8], from: usize, test: F) -> Option<usize>
     requires store_value { well_formed store.now ≡ true }
     requires test_takes { TakesSlots (F.pre test) }
     ensures { (p : Slot → Bool) → TellsSlots (F.post test) p → result ≡ lowest_from from p (decode store.now).slots }
 {
     for i in from..slots(store) {
-        if test(slot::bytes(store, i)) {
+        if test(&slot::Slot::of(store, i)) {
             return Some(i);
         }
     }
     None
 }
 
-// How many slots pass a test of their bytes.
-fn count<F: Fn(&[u8; SLOT_SIZE]) -> bool>(store: &[u8], test: F) -> usize
+// How many slots pass a test.
+fn count<F: Fn(&slot::Slot) -> bool>(store: &[u8], test: F) -> usize
     requires store_value { well_formed store.now ≡ true }
     requires test_takes { TakesSlots (F.pre test) }
     ensures { (p : Slot → Bool) → TellsSlots (F.post test) p → result ≡ length (keep p (decode store.now).slots) }
 {
     let mut n = 0;
     for i in 0..slots(store) {
-        if test(slot::bytes(store, i)) {
+        if test(&slot::Slot::of(store, i)) {
             n += 1;
         }
     }
@@ -140,7 +140,7 @@ pub fn empty(store: &[u8]) -> Option<usize>
     requires { well_formed store.now ≡ true }
     ensures { result ≡ lowest_slot empty_slot (decode store.now).slots }
 {
-    lowest(store, 0, |t| slot::is_empty(t))
+    lowest(store, 0, |t| t.is_empty())
 }
 
 // The lowest slot that holds an entry dead at a time.
@@ -148,7 +148,7 @@ pub fn dead(store: &[u8], time: u64) -> Option<usize>
     requires { well_formed store.now ≡ true }
     ensures { result ≡ lowest_slot (dead_slot time) (decode store.now).slots }
 {
-    lowest(store, 0, |t| slot::is_dead(t, time))
+    lowest(store, 0, |t| t.is_dead(time))
 }
 
 // The lowest slot from a slot on that holds an entry of a key live at a time, where the key is looked for more than once.
@@ -180,7 +180,7 @@ pub fn room(store: &[u8], time: u64) -> usize
     requires { well_formed store.now ≡ true }
     ensures { result ≡ length (keep (room_slot time) (decode store.now).slots) }
 {
-    count(store, |t| !slot::is_live(t, time))
+    count(store, |t| !t.is_live(time))
 }
 
 // How many entries of a key are held, dead ones too.

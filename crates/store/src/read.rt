@@ -7,7 +7,7 @@ ghost use Rattle.store.specs.Layout.{value_start};
 ghost use Rattle.store.specs.Promises.{Held};
 
 use crate::layout::{CLOCK_SIZE, HEADER_SIZE, SLOT_SIZE, VALUE_AT};
-use crate::slot;
+use crate::slot::Slot;
 use wire::bytes::read_le;
 
 // How many slots a store has.
@@ -38,7 +38,7 @@ pub fn is_empty(store: &[u8], i: usize) -> bool
     requires { (well_formed store.now ≡ true) × (i < slot_count store.now) }
     ensures { result ≡ empty_slot (get_or (decode store.now).slots i None) }
 {
-    slot::is_empty(slot::bytes(store, i))
+    Slot::of(store, i).is_empty()
 }
 
 // Whether slot i holds an entry that is live at a time.
@@ -46,42 +46,42 @@ pub fn is_live(store: &[u8], i: usize, time: u64) -> bool
     requires { (well_formed store.now ≡ true) × (i < slot_count store.now) }
     ensures { result ≡ live_slot time (get_or (decode store.now).slots i None) }
 {
-    slot::is_live(slot::bytes(store, i), time)
+    Slot::of(store, i).is_live(time)
 }
 
 pub fn version(store: &[u8], i: usize) -> u64
     requires { Held store.now i }
     ensures { result ≡ (entry_at (decode store.now).slots i).version }
 {
-    slot::version(slot::bytes(store, i))
+    Slot::of(store, i).version()
 }
 
 pub fn expiry(store: &[u8], i: usize) -> Option<u64>
     requires { Held store.now i }
     ensures { result ≡ (entry_at (decode store.now).slots i).expiry }
 {
-    slot::expiry(slot::bytes(store, i))
+    Slot::of(store, i).expiry()
 }
 
 pub fn key(store: &[u8], i: usize) -> &[u8]
     requires { Held store.now i }
     ensures { result.now ≡ (entry_at (decode store.now).slots i).key }
 {
-    slot::key(slot::bytes(store, i))
+    Slot::of(store, i).key()
 }
 
 pub fn field(store: &[u8], i: usize) -> &[u8]
     requires { Held store.now i }
     ensures { result.now ≡ (entry_at (decode store.now).slots i).field }
 {
-    slot::field(slot::bytes(store, i))
+    Slot::of(store, i).field()
 }
 
 pub fn value(store: &[u8], i: usize) -> &[u8]
     requires { Held store.now i }
     ensures { result.now ≡ (entry_at (decode store.now).slots i).value }
 {
-    slot::value(slot::bytes(store, i))
+    Slot::of(store, i).value()
 }
 
 // Where a slot's value begins in the store's bytes.

@@ -2,10 +2,10 @@
 ghost use Rattle.std.specs.Prelude.{◌≡◌, true, false, List, ℕ, ◌+◌, ◌*◌, ◌^◌, ◌<◌, ◌≤◌, length, slice_index};
 ghost use Rattle.wire.specs.Bytes.{Bytes, from_le, to_le, part};
 ghost use Rattle.store.specs.Layout.{header_size, slot_size, field_at, field_most};
-ghost use Rattle.store.specs.Store.{decode_slot, decode_entry, decode_expiry, holds};
+ghost use Rattle.store.specs.Store.{decode_slot, decode_entry, decode_expiry, slot_count, well_formed, holds};
 ghost use Rattle.store.specs.Time.{empty_slot, live_slot, dead_slot, of_key, live_of_key};
 ghost use Rattle.store.specs.Search.{skipped, run_compared};
-ghost use Rattle.store.specs.Promises.{SlotBytes, HeldBytes, name_words, run_start, fingerprint_of};
+ghost use Rattle.store.specs.Promises.{SlotBytes, HeldBytes, slot_at, name_words, run_start, fingerprint_of};
 
 use crate::layout::{
     EMPTY_STATE, EXPIRING_STATE, EXPIRY_AT, FIELD_AT, FIELD_LENGTH_AT, HEADER_SIZE, KEY_AT,
@@ -50,51 +50,6 @@ pub fn word(s: &[u8], at: usize) -> u64
     read_le(&s[at..end])
 }
 
-pub fn is_empty(t: &[u8; SLOT_SIZE]) -> bool
-    ensures { result ≡ empty_slot (decode_slot t.now) }
-{
-    t[STATE_AT] == EMPTY_STATE
-}
-
-pub fn version(t: &[u8; SLOT_SIZE]) -> u64
-    ensures { result ≡ (decode_entry t.now).version }
-{
-    read_le(&t[VERSION_AT..EXPIRY_AT])
-}
-
-pub fn expiry(t: &[u8; SLOT_SIZE]) -> Option<u64>
-    ensures { result ≡ decode_expiry t.now }
-{
-    if t[STATE_AT] == EXPIRING_STATE {
-        return Some(read_le(&t[EXPIRY_AT..KEY_AT]));
-    }
-    None
-}
-
-// Whether the slot holds an entry that is live at a time.
-pub fn is_live(t: &[u8; SLOT_SIZE], time: u64) -> bool
-    ensures { result ≡ live_slot time (decode_slot t.now) }
-{
-    if t[STATE_AT] == EMPTY_STATE {
-        return false;
-    }
-    let expires = expiry(t);
-    match expires {
-        None => true,
-        Some(instant) => time < instant,
-    }
-}
-
-// Whether the slot holds an entry that is dead at a time.
-pub fn is_dead(t: &[u8; SLOT_SIZE], time: u64) -> bool
-    ensures { result ≡ dead_slot time (decode_slot t.now) }
-{
-    if t[STATE_AT] == EMPTY_STATE {
-        return false;
-    }
-    !is_live(t, time)
-}
-
 // The bytes used of the place that begins at `at`, as many as the byte at `length_at` says.
 fn used(t: &[u8; SLOT_SIZE], at: usize, length_at: usize) -> &[u8]
     requires length_inside { length_at < length t.now }
@@ -105,36 +60,160 @@ fn used(t: &[u8; SLOT_SIZE], at: usize, length_at: usize) -> &[u8]
     &t[at..end]
 }
 
-pub fn key(t: &[u8; SLOT_SIZE]) -> &[u8]
-    requires { HeldBytes t.now }
-    ensures { result.now ≡ (decode_entry t.now).key }
-{
-    used(t, KEY_AT, KEY_LENGTH_AT)
+// A slot of a well-formed store, which a clause sees as its bytes.
+#[derive(Drop)]
+pub struct Slot<'a> {
+    bytes: &'a [u8; SLOT_SIZE],
 }
 
-pub fn field(t: &[u8; SLOT_SIZE]) -> &[u8]
-    requires { HeldBytes t.now }
-    ensures { result.now ≡ (decode_entry t.now).field }
-{
-    used(t, FIELD_AT, FIELD_LENGTH_AT)
+impl<'a> Model for Slot<'a> {
+    ghost Value = { List ℕ };
+
+    ghost view = { λ s. s.bytes.now };
+
+    ghost invariant = { λ s. SlotBytes s.bytes.now };
 }
 
-pub fn value(t: &[u8; SLOT_SIZE]) -> &[u8]
-    requires { HeldBytes t.now }
-    ensures { result.now ≡ (decode_entry t.now).value }
-{
-    used(t, VALUE_AT, VALUE_LENGTH_AT)
-}
-
-// Whether the slot holds an entry of a key.
-pub fn of_key(t: &[u8; SLOT_SIZE], k: &[u8]) -> bool
-    requires { SlotBytes t.now }
-    ensures { result ≡ of_key k.now (decode_slot t.now) }
-{
-    if t[STATE_AT] == EMPTY_STATE {
-        return false;
+impl<'a> Slot<'a> {
+    pub fn new(t: &'a [u8; SLOT_SIZE]) -> Slot<'a>
+        requires { SlotBytes t.now }
+        ensures { result ≡ t.now }
+    {
+        Slot { bytes: t }
     }
-    equal(key(t), k)
+
+    // Slot i of a well-formed store.
+    pub fn of(store: &'a [u8], i: usize) -> Slot<'a>
+        requires { (well_formed store.now ≡ true) × (i < slot_count store.now) }
+        ensures { result ≡ slot_at store.now i }
+    {
+        Slot::new(bytes(store, i))
+    }
+
+    pub fn is_empty(&self) -> bool
+        ensures { result ≡ empty_slot (decode_slot self.now) }
+    {
+        self.bytes[STATE_AT] == EMPTY_STATE
+    }
+
+    pub fn version(&self) -> u64
+        ensures { result ≡ (decode_entry self.now).version }
+    {
+        let t = self.bytes;
+        read_le(&t[VERSION_AT..EXPIRY_AT])
+    }
+
+    pub fn expiry(&self) -> Option<u64>
+        ensures { result ≡ decode_expiry self.now }
+    {
+        let t = self.bytes;
+        if t[STATE_AT] == EXPIRING_STATE {
+            return Some(read_le(&t[EXPIRY_AT..KEY_AT]));
+        }
+        None
+    }
+
+    // Whether the slot holds an entry that is live at a time.
+    pub fn is_live(&self, time: u64) -> bool
+        ensures { result ≡ live_slot time (decode_slot self.now) }
+    {
+        let t = self.bytes;
+        if t[STATE_AT] == EMPTY_STATE {
+            return false;
+        }
+        let expires = self.expiry();
+        match expires {
+            None => true,
+            Some(instant) => time < instant,
+        }
+    }
+
+    // Whether the slot holds an entry that is dead at a time.
+    pub fn is_dead(&self, time: u64) -> bool
+        ensures { result ≡ dead_slot time (decode_slot self.now) }
+    {
+        let t = self.bytes;
+        if t[STATE_AT] == EMPTY_STATE {
+            return false;
+        }
+        !self.is_live(time)
+    }
+
+    pub fn key(&self) -> &'a [u8]
+        requires { HeldBytes self.now }
+        ensures { result.now ≡ (decode_entry self.now).key }
+    {
+        used(self.bytes, KEY_AT, KEY_LENGTH_AT)
+    }
+
+    pub fn field(&self) -> &'a [u8]
+        requires { HeldBytes self.now }
+        ensures { result.now ≡ (decode_entry self.now).field }
+    {
+        used(self.bytes, FIELD_AT, FIELD_LENGTH_AT)
+    }
+
+    pub fn value(&self) -> &'a [u8]
+        requires { HeldBytes self.now }
+        ensures { result.now ≡ (decode_entry self.now).value }
+    {
+        used(self.bytes, VALUE_AT, VALUE_LENGTH_AT)
+    }
+
+    // Whether the slot holds an entry of a key.
+    pub fn of_key(&self, k: &[u8]) -> bool
+        ensures { result ≡ of_key k.now (decode_slot self.now) }
+    {
+        let t = self.bytes;
+        if t[STATE_AT] == EMPTY_STATE {
+            return false;
+        }
+        equal(self.key(), k)
+    }
+
+    // Whether the slot holds the entry of a key and a field. The field is compared first: it is what differs.
+    pub fn holds(&self, k: &[u8], f: &[u8]) -> bool
+        ensures { result ≡ holds k.now f.now (decode_slot self.now) }
+    {
+        let t = self.bytes;
+        if t[STATE_AT] == EMPTY_STATE {
+            return false;
+        }
+        equal(self.field(), f) && equal(self.key(), k)
+    }
+
+    // Whether a search for a key and a field passes over the slot: it is empty or has other lengths.
+    pub fn is_skipped(&self, k: &[u8], f: &[u8]) -> bool
+        ensures { result ≡ skipped k.now f.now (decode_slot self.now) }
+    {
+        let t = self.bytes;
+        if t[STATE_AT] == EMPTY_STATE {
+            return true;
+        }
+        if t[KEY_LENGTH_AT] as usize != k.len() {
+            return true;
+        }
+        t[FIELD_LENGTH_AT] as usize != f.len()
+    }
+
+    // The same as `holds`, by the field's fingerprint first: where the slot has another, nothing else of it is looked at, and where a field of at most
+    // a word has the same, nothing else of the field.
+    pub fn holds_with(&self, fingerprint: u64, k: &[u8], f: &[u8]) -> bool
+        requires { fingerprint ≡ fingerprint_of f.now }
+        ensures { result ≡ holds k.now f.now (decode_slot self.now) }
+    {
+        let t = self.bytes;
+        if fingerprint_at(t) != fingerprint {
+            return false;
+        }
+        if WORD < f.len() {
+            return self.holds(k, f);
+        }
+        if t[FIELD_LENGTH_AT] as usize != f.len() {
+            return false;
+        }
+        self.of_key(k)
+    }
 }
 
 // A key that is looked for in many slots: its bytes, and the two words that they spell in their place.
@@ -165,10 +244,10 @@ impl<'a> SoughtKey<'a> {
     }
 
     // Whether a slot holds an entry of the key: by its length, and then by words.
-    pub fn is_held(&self, t: &[u8; SLOT_SIZE]) -> bool
-        requires { SlotBytes t.now }
-        ensures { result ≡ of_key self.now (decode_slot t.now) }
+    pub fn is_held(&self, slot: &Slot) -> bool
+        ensures { result ≡ of_key self.now (decode_slot slot.now) }
     {
+        let t = slot.bytes;
         if t[STATE_AT] == EMPTY_STATE {
             return false;
         }
@@ -183,40 +262,14 @@ impl<'a> SoughtKey<'a> {
     }
 
     // Whether a slot holds an entry of the key that is live at a time.
-    pub fn is_live(&self, t: &[u8; SLOT_SIZE], time: u64) -> bool
-        requires { SlotBytes t.now }
-        ensures { result ≡ live_of_key time self.now (decode_slot t.now) }
+    pub fn is_live(&self, slot: &Slot, time: u64) -> bool
+        ensures { result ≡ live_of_key time self.now (decode_slot slot.now) }
     {
-        if is_live(t, time) {
-            return self.is_held(t);
+        if slot.is_live(time) {
+            return self.is_held(slot);
         }
         false
     }
-}
-
-// Whether the slot holds the entry of a key and a field. The field is compared first: it is what differs.
-pub fn holds(t: &[u8; SLOT_SIZE], k: &[u8], f: &[u8]) -> bool
-    requires { SlotBytes t.now }
-    ensures { result ≡ holds k.now f.now (decode_slot t.now) }
-{
-    if t[STATE_AT] == EMPTY_STATE {
-        return false;
-    }
-    equal(field(t), f) && equal(key(t), k)
-}
-
-// Whether a search for a key and a field passes over the slot: it is empty or has other lengths.
-pub fn is_skipped(t: &[u8; SLOT_SIZE], k: &[u8], f: &[u8]) -> bool
-    requires { SlotBytes t.now }
-    ensures { result ≡ skipped k.now f.now (decode_slot t.now) }
-{
-    if t[STATE_AT] == EMPTY_STATE {
-        return true;
-    }
-    if t[KEY_LENGTH_AT] as usize != k.len() {
-        return true;
-    }
-    t[FIELD_LENGTH_AT] as usize != f.len()
 }
 
 // The number that a word spells, where the bytes past the end count as zero.
@@ -286,23 +339,4 @@ pub fn fingerprint_at(t: &[u8; SLOT_SIZE]) -> u64
     ensures { result ≡ fingerprint_of (part field_at field_most t.now) }
 {
     fingerprint_of(&t[FIELD_AT..VALUE_AT])
-}
-
-// The same as `holds`, by the field's fingerprint first: where the slot has another, nothing else of it is looked at, and where a field of at most a
-// word has the same, nothing else of the field.
-pub fn holds_with(t: &[u8; SLOT_SIZE], fingerprint: u64, k: &[u8], f: &[u8]) -> bool
-    requires slot_bytes { SlotBytes t.now }
-    requires fingerprint_value { fingerprint ≡ fingerprint_of f.now }
-    ensures { result ≡ holds k.now f.now (decode_slot t.now) }
-{
-    if fingerprint_at(t) != fingerprint {
-        return false;
-    }
-    if WORD < f.len() {
-        return holds(t, k, f);
-    }
-    if t[FIELD_LENGTH_AT] as usize != f.len() {
-        return false;
-    }
-    of_key(t, k)
 }

@@ -10,15 +10,15 @@ loop-i-init c = seek_begins _ _ _ _ _ c.requires.from_le_count
 pub bytes-requires : goal.bytes-requires
 bytes-requires c = omega (arith, c.requires.slots_well.size, c.loop-i.invariant.inside)
 
-pub holds-requires : goal.holds-requires
-holds-requires c =
+pub new-requires : goal.new-requires
+new-requires c =
     rw c.bytes.ensures (slot_bytes_lem c.args.count c.args.store.now c.args.from (c.loop-i.i - 1) c.requires.slots_well (omega (arith, c.loop-i-test.true)) (omega (arith, c.loop-i.invariant.inside)))
 
 pub returns-then-holds : goal.returns-then-holds
-returns-then-holds c = sym (seek_finds _ _ _ _ _ _ c.loop-i.invariant c.loop-i-test.true (sym (rw c.bytes.ensures at c.holds.ensures) ∙ c.if-holds.true))
+returns-then-holds c = sym (seek_finds _ _ _ _ _ _ c.loop-i.invariant c.loop-i-test.true (sym (rw (c.new.ensures, c.bytes.ensures) at c.holds.ensures) ∙ c.if-holds.true))
 
 pub loop-i-preserved : goal.loop-i-preserved
-loop-i-preserved c = seek_goes_on _ _ _ _ _ _ c.loop-i.invariant c.loop-i-test.true (sym (rw c.bytes.ensures at c.holds.ensures) ∙ c.if-holds.false)
+loop-i-preserved c = seek_goes_on _ _ _ _ _ _ c.loop-i.invariant c.loop-i-test.true (sym (rw (c.new.ensures, c.bytes.ensures) at c.holds.ensures) ∙ c.if-holds.false)
 
 pub returns : goal.returns
 returns c = sym (seek_ends _ _ _ _ _ _ c.loop-i.invariant c.loop-i-test.false)

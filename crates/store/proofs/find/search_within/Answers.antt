@@ -11,21 +11,21 @@ slots-init c =
 pub bytes-t-requires : goal.bytes-t-requires
 bytes-t-requires c = searching_inside c.slots.invariant.0 c.slots-test.true
 
-pub is_skipped-requires : goal.is_skipped-requires
-is_skipped-requires c = searching_bytes c.slots.invariant.0 c.slots-test.true c.bytes-t.ensures
+pub new-requires : goal.new-requires
+new-requires c = searching_bytes c.slots.invariant.0 c.slots-test.true c.bytes-t.ensures
 
 pub overflow_step-i : goal.overflow_step-i
 overflow_step-i c = omega (arith, c.slots-test.true, searching_slots c.slots.invariant.0)
 
 pub slots-preserved-then-is_skipped : goal.slots-preserved-then-is_skipped
 slots-preserved-then-is_skipped c =
-    (searching_skips c.slots.invariant.0 c.slots-test.true c.bytes-t.ensures (sym c.is_skipped.ensures ∙ c.if-is_skipped.true), c.slots.invariant.1)
+    (searching_skips c.slots.invariant.0 c.slots-test.true c.bytes-t.ensures (sym (rw c.new.ensures at c.is_skipped.ensures) ∙ c.if-is_skipped.true), c.slots.invariant.1)
 
 pub loop-w-init : goal.loop-w-init
 loop-w-init c =
     let key = bytes_intro c.args.key.now (λ i. (c.type_inv.key i).fits) in
     let field = bytes_intro c.args.field.now (λ i. (c.type_inv.field i).fits) in
-    let lengths = sym c.is_skipped.ensures ∙ c.if-is_skipped.false in
+    let lengths = sym (rw c.new.ensures at c.is_skipped.ensures) ∙ c.if-is_skipped.false in
     (in_slot_begins c.slots.invariant.0 c.slots-test.true c.bytes-t.ensures key field c.requires.words_value lengths, refl)
 
 pub word-held-requires : goal.word-held-requires

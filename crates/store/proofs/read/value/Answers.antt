@@ -1,11 +1,11 @@
-use Rattle.store.proofs.ReadAt.{slot_inside, held_bytes, entry_means}
+use Rattle.store.proofs.ReadAt.{held_bytes, entry_means}
 use Rattle.store.proofs.read.value.Goals as goal
 
-pub bytes-requires : goal.bytes-requires
-bytes-requires c = slot_inside c.args.store.now c.args.i c.requires.well c.requires.inside
+pub of-requires : goal.of-requires
+of-requires c = (c.requires.well, c.requires.inside)
 
 pub value-requires : goal.value-requires
-value-requires c = held_bytes c.requires c.bytes.ensures
+value-requires c = held_bytes c.requires c.of.ensures
 
 pub returns : goal.returns
-returns c = rw (← (entry_means c.requires c.bytes.ensures)) c.value.ensures
+returns c = rw (← (entry_means c.requires c.of.ensures)) c.value.ensures

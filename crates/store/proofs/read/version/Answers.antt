@@ -1,8 +1,8 @@
-use Rattle.store.proofs.ReadAt.{slot_inside, entry_means}
+use Rattle.store.proofs.ReadAt.{entry_means}
 use Rattle.store.proofs.read.version.Goals as goal
 
-pub bytes-requires : goal.bytes-requires
-bytes-requires c = slot_inside c.args.store.now c.args.i c.requires.well c.requires.inside
+pub of-requires : goal.of-requires
+of-requires c = (c.requires.well, c.requires.inside)
 
 pub returns : goal.returns
-returns c = rw (← (entry_means c.requires c.bytes.ensures)) c.version.ensures
+returns c = rw (← (entry_means c.requires c.of.ensures)) c.version.ensures

@@ -1,7 +1,7 @@
 use Rattle.wire.specs.Bytes.{part}
 use Rattle.store.specs.Store.{decode_entry}
-use Rattle.store.proofs.slot.version.Goals as goal
+use Rattle.store.proofs.slot.Slot.version.Goals as goal
 
 pub returns : goal.returns
 unfolding decode_entry part
-returns c = c.read_le.ensures
+returns c = rw (← c.self.view_is) c.read_le.ensures
