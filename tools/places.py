@@ -99,7 +99,7 @@ def point_5():
         for name, head, body, line in blocks(bare(text), 'fn'):
             contract = ' '.join(re.findall(r'requires.*?(?=ensures|requires|$)', head, re.S))
             for fact in set(re.findall(r'well_formed|Inside|FieldsReady|length \w+\.\w+ ≡ slot_size|buffer_least ≤ length|answer_most ≤ length|\bHeld\b|HeldAt|HeldIn|SlotBytes|HeldBytes|Sought'
-                                       r'|Looked|WithinLimits|is_left|FilterSize|time < time_limit', contract)):
+                                       r'|Looked|Storable|FoundIn|WithinLimits|is_left|FilterSize|time < time_limit', contract)):
                 facts[re.sub(r'\w+\.\w+ ', '', fact)].append((path, line, name))
             names = re.findall(r'\b(\w+): &', head.split('requires')[0].split('ensures')[0])
             for i, a in enumerate(names):
@@ -135,7 +135,7 @@ def point_6():
 def point_7():
     for path, text in sources():
         for name, head, body, line in blocks(bare(text), 'fn'):
-            if re.search(r'match (family|names|more|deed|pass|first_byte|mark|kind)\b', body) or re.search(r'^ +[A-Z_]+_FAMILY =>', body, re.M):
+            if re.search(r'match (?:self\.|row\.)?(family|names|more|deed|pass|form|count|kind)\b', body) or re.search(r'^ +[A-Z_]+_FAMILY =>', body, re.M):
                 yield path, line, 'fn %s switches on a kind' % name
 
 
