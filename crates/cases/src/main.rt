@@ -6,10 +6,10 @@ ghost use Rattle.std.specs.Prelude.{◌<◌, ◌≤◌, length};
 
 use commands::execute::BUFFER_LEAST;
 use feeder::{Fed, Feeder};
-use programs::{take_sized, unused};
-use std::io::{self, Read};
+use programs::{Steady, read_full, take_sized, unused};
+use std::io;
 
-const INPUT: u64 = 400000;
+const INPUT: usize = 400000;
 
 // The most bytes that a case's store has.
 const MOST: usize = 1500;
@@ -179,9 +179,9 @@ fn try_all(rt: &impl Print, input: &[u8]) -> io::Result<()> {
     )
 }
 
-// A failed read is the input's end, and a failed write the program's.
+// A failed read is the input's end, and what a failed write was to write is lost.
 fn main(rt: HostRuntime) {
-    let mut input = Vec::new(rt.alloc());
-    let _ = rt.reader().take(INPUT).read_to_end(&mut input);
-    let _ = try_all(&rt, input.as_slice());
+    let mut space = [0u8; INPUT];
+    let size = read_full(&mut rt.stdin(), &mut space);
+    let _ = try_all(&Steady { rt: &rt }, &space[..size]);
 }

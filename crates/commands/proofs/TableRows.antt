@@ -4,7 +4,7 @@ use mathlib.Core.Path.{◌≡◌, refl, sym, ap, ◌∙◌}
 use mathlib.Core.Bool.{Bool, true, false, cond, not, ◌&&◌}
 use mathlib.Core.List.{List, [], ◌∷◌, ◌++◌, map, flat_map, append_assoc}
 use Rattle.std.proofs.lemmas.Option.{none-some}
-use Prim.Native.Nat.{ℕ, zero, suc, ◌+◌, ◌-◌, ◌*◌, ◌/◌, ◌<◌}
+use Prim.Native.Nat.{ℕ, zero, suc, ◌+◌, ◌-◌, ◌*◌, ◌/◌, ◌≤◌, ◌<◌}
 use Prim.Native.String.{String}
 use native.Mathlib.Omega.{arith}
 use borrow.Author.Tests.{ltb-true, not-true}
@@ -31,6 +31,16 @@ use Rattle.commands.proofs.Computing.{computing}
 unfoldable pub tables : Unit {0}
 unfolding computing name_row unit_meant form_meant count_meant command_of option_of version_meant kind_meant
 tables = tt
+
+-- a number that is none of the first k is beyond them
+unfoldable pub NoneOf : ℕ → ℕ → Type 0
+NoneOf zero n = Unit {0}
+NoneOf (suc k) n = NoneOf k n × (n ≡ k → ⊥)
+
+pub none_of : (k n : ℕ) → NoneOf k n → k ≤ n
+unfolding NoneOf
+none_of zero n h = omega arith
+none_of (suc k) n h = omega (arith, none_of k n h.0, h.1)
 
 -- ---- rows of names
 

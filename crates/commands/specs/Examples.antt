@@ -316,7 +316,7 @@ change_request_cases =
     ∷ request 1500 "EXHSET m b 2 GT 3" ":1\r\n"
     ∷ [])
     1500 (entry "m" "a" "3" 4 None) (entry "m" "b" "2" 3 None)
-    ∷ case "M-100: the setters reply 0 where the field is missing, and make None"
+    ∷ case "M-100: the setters reply 0 where the field is missing, and make none"
     (request 1000 "EXHEXPIRE m a 9 GT 3" ":0\r\n"
     ∷ request 1000 "EXHEXPIREAT m a 9 GT 3" ":0\r\n"
     ∷ request 1000 "EXHPEXPIRE m a 500 GT 3" ":0\r\n"
@@ -419,7 +419,7 @@ change_request_cases =
     ∷ request 1000 "EXHPEXPIRE m b 500 VER 0" ":1\r\n"
     ∷ [])
     1000 (entry "m" "a" "2" 1 None) (entry "m" "b" "1" 1 (Some 1500))
-    ∷ case "M-101: the setters reply 0 where the field is missing, and make None"
+    ∷ case "M-101: the setters reply 0 where the field is missing, and make none"
     (request 1000 "EXHEXPIRE m a 9 VER 0" ":0\r\n"
     ∷ request 1000 "EXHEXPIREAT m a 9 VER 0" ":0\r\n"
     ∷ request 1000 "EXHPEXPIRE m a 500 VER 0" ":0\r\n"

@@ -52,7 +52,7 @@ listing_rows =
     ""
     ∷ listing_row "another version alone" 0 (entry "m" "a" "1" 1 None ∷ []) (entry "m" "a" "1" 2 None ∷ []) "~ 1 1 0\n"
     ∷ listing_row "another expiry alone" 0 (entry "m" "a" "1" 1 (Some 7) ∷ []) (entry "m" "a" "1" 1 (Some 8) ∷ []) "~ 1 1 0\n"
-    ∷ listing_row "no expiry, and Some" 0 (entry "m" "a" "1" 1 None ∷ []) (entry "m" "a" "1" 1 (Some 8) ∷ []) "~ 1 1 0\n"
+    ∷ listing_row "no expiry, and some" 0 (entry "m" "a" "1" 1 None ∷ []) (entry "m" "a" "1" 1 (Some 8) ∷ []) "~ 1 1 0\n"
     ∷ listing_row "an empty value" 0 (entry "m" "a" "" 1 None ∷ []) (entry "m" "a" "1" 1 None ∷ []) "~ 1 1 0\n"
     ∷ listing_row "live until the instant before its expiry" 6 (entry "m" "a" "1" 1 (Some 7) ∷ []) (None ∷ []) "< 1 1 0\n"
     ∷ listing_row "dead in the first at the instant" 7 (entry "m" "a" "1" 1 (Some 7) ∷ []) (entry "m" "a" "1" 1 (Some 8) ∷ []) "> 1 1 0\n"

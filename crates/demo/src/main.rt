@@ -18,15 +18,15 @@ use compare::Which;
 use compare::listing::compare;
 use compare::newer::{newer, newer_in};
 use feeder::{Fed, Feeder};
-use programs::{put_command, show_slots, unused};
-use std::io::{self, Read};
+use programs::{Steady, put_command, read_full, show_slots, unused};
+use std::io;
 use store::check::well_formed;
 use store::layout::{HEADER_SIZE, SLOT_SIZE, TIME_LIMIT};
 use store::read;
 use wire::bytes::write_le;
 use wire::integers::read_natural;
 
-const SCRIPT: u64 = 16384;
+const SCRIPT: usize = 16384;
 
 // A store of two slots.
 const STORE: usize = HEADER_SIZE + 2 * SLOT_SIZE;
@@ -58,9 +58,9 @@ struct Play {
 
 // A line.
 fn say(rt: &impl Print, before: &str, text: &[u8]) -> io::Result<()> {
-    print!(rt; "{before}")?;
+    rt.write_all(before.as_bytes())?;
     rt.write_all(text)?;
-    println!(rt)
+    rt.write_all(b"\n")
 }
 
 // The bytes but the first so many.
@@ -148,7 +148,8 @@ fn show_store<R: Print>(rt: &R, bytes: &[u8]) -> io::Result<()> {
         "          ",
         bytes,
         |rt, expiry| show_expiry(rt, expiry, clock),
-    )
+    )?;
+    Ok(())
 }
 
 // ---- two stores side by side
@@ -171,6 +172,14 @@ impl Play {
             other: [0; STORE],
             reply: [0; BUFFER_LEAST],
         }
+    }
+
+    // Begins anew beside a first store. The place of a reply stays as it is: what stands in it is shown only up to a reply's length.
+    fn begin(&mut self, other: [u8; STORE]) {
+        self.feeder = Feeder::fresh();
+        self.cut = None;
+        self.store = [0; STORE];
+        self.other = other;
     }
 
     // What the two stores differ in.
@@ -276,15 +285,11 @@ impl Play {
                 Ok(())
             }
             [b'=', ..] => {
-                *self = Play::fresh();
+                self.begin([0; STORE]);
                 say(rt, "\n", beyond(line, 2))
             }
             [b'&', ..] => {
-                let other = self.store;
-                *self = Play {
-                    other,
-                    ..Play::fresh()
-                };
+                self.begin(self.store);
                 println!(rt;
                     "  store put aside as the first handset's, and the second's begins empty"
                 )
@@ -302,9 +307,9 @@ fn play_all(rt: &impl Print, script: &[u8]) -> io::Result<()> {
     Ok(())
 }
 
-// A failed read is the script's end, and a failed write the program's.
+// A failed read is the script's end, and what a failed write was to write is lost.
 fn main(rt: HostRuntime) {
-    let mut script = Vec::new(rt.alloc());
-    let _ = rt.reader().take(SCRIPT).read_to_end(&mut script);
-    let _ = play_all(&rt, script.as_slice());
+    let mut space = [0u8; SCRIPT];
+    let size = read_full(&mut rt.stdin(), &mut space);
+    let _ = play_all(&Steady { rt: &rt }, &space[..size]);
 }

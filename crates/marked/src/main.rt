@@ -3,15 +3,15 @@
 #![tactic(auto)]
 
 use commands::execute::{BUFFER_LEAST, execute};
-use programs::{put_command, show_slots};
-use std::io::{self, Read};
+use programs::{Steady, put_command, read_full, show_slots};
+use std::io;
 use store::check::well_formed;
 use store::layout::{HEADER_SIZE, SLOT_SIZE};
 use store::read;
 use wire::bytes::clear;
 use wire::integers::read_natural;
 
-const INPUT: u64 = 8192;
+const INPUT: usize = 8192;
 
 // A store of two slots.
 const STORE: usize = HEADER_SIZE + 2 * SLOT_SIZE;
@@ -69,7 +69,8 @@ fn show_store<R: Print>(rt: &R, store: &[u8]) -> io::Result<()> {
         return Ok(());
     }
     println!(rt; "clock {}", read::clock(store))?;
-    show_slots(rt, "", store, show_expiry)
+    show_slots(rt, "", store, show_expiry)?;
+    Ok(())
 }
 
 // Does what a line asks: shows the store after a row, starts a row on an empty store, or does a command.
@@ -97,10 +98,10 @@ fn take_lines(rt: &impl Print, input: &[u8], store: &mut [u8]) -> io::Result<()>
     show_store(rt, store)
 }
 
-// A failed read is the input's end, and a failed write the program's.
+// A failed read is the input's end, and what a failed write was to write is lost.
 fn main(rt: HostRuntime) {
-    let mut input = Vec::new(rt.alloc());
-    let _ = rt.reader().take(INPUT).read_to_end(&mut input);
+    let mut input = [0u8; INPUT];
+    let size = read_full(&mut rt.stdin(), &mut input);
     let mut store = [0u8; STORE];
-    let _ = take_lines(&rt, input.as_slice(), &mut store);
+    let _ = take_lines(&Steady { rt: &rt }, &input[..size], &mut store);
 }

@@ -6,11 +6,11 @@ ghost use Rattle.std.specs.Prelude.{◌<◌};
 
 use commands::execute::BUFFER_LEAST;
 use feeder::{Fed, Feeder};
-use programs::unused;
-use std::io::{self, Read};
+use programs::{Steady, read_full, unused};
+use std::io;
 use store::layout::{HEADER_SIZE, SLOT_SIZE};
 
-const STREAM: u64 = 100000;
+const STREAM: usize = 100000;
 
 // A store of four slots.
 const STORE: usize = HEADER_SIZE + 4 * SLOT_SIZE;
@@ -125,9 +125,9 @@ fn try_cuts(rt: &impl Print, stream: &[u8]) -> io::Result<()> {
     Ok(())
 }
 
-// A failed read is the stream's end, and a failed write the program's.
+// A failed read is the stream's end, and what a failed write was to write is lost.
 fn main(rt: HostRuntime) {
-    let mut stream = Vec::new(rt.alloc());
-    let _ = rt.reader().take(STREAM).read_to_end(&mut stream);
-    let _ = try_cuts(&rt, stream.as_slice());
+    let mut space = [0u8; STREAM];
+    let size = read_full(&mut rt.stdin(), &mut space);
+    let _ = try_cuts(&Steady { rt: &rt }, &space[..size]);
 }

@@ -5,12 +5,12 @@
 
 ghost use Rattle.std.specs.Prelude.{◌<◌, length, IfSome};
 
-use programs::take_sized;
-use std::io::{self, Read};
+use programs::{Steady, read_full, take_sized};
+use std::io;
 use store::check::well_formed;
 use store::find;
 
-const INPUT: u64 = 400000;
+const INPUT: usize = 400000;
 
 #[derive(Clone, Copy)]
 struct Search<'a> {
@@ -38,7 +38,7 @@ fn take_search(input: &[u8]) -> Option<(Search<'_>, &[u8])>
 
 fn show(rt: &impl Print, search: Search<'_>) -> io::Result<()> {
     if !well_formed(search.store) {
-        return println!(rt; "2");
+        return rt.write_all(b"2\n");
     }
     let searched = find::search(search.store, search.key, search.field);
     match searched.found {
@@ -57,9 +57,9 @@ fn search_all(rt: &impl Print, input: &[u8]) -> io::Result<()> {
     Ok(())
 }
 
-// A failed read is the input's end, and a failed write the program's.
+// A failed read is the input's end, and what a failed write was to write is lost.
 fn main(rt: HostRuntime) {
-    let mut input = Vec::new(rt.alloc());
-    let _ = rt.reader().take(INPUT).read_to_end(&mut input);
-    let _ = search_all(&rt, input.as_slice());
+    let mut space = [0u8; INPUT];
+    let size = read_full(&mut rt.stdin(), &mut space);
+    let _ = search_all(&Steady { rt: &rt }, &space[..size]);
 }

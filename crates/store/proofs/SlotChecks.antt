@@ -125,11 +125,15 @@ module _ (at m n used : ℕ) (t : List ℕ) where
       zero_split (m - used) (drop used (part at (m + n) t)) ∙ rw (first, last)
 
   -- where they end in the last
-  beyond_last : m ≤ used → zero_beyond at (m + n) used t ≡ zero_beyond (at + m) n (used - m) t
+  pub beyond_last : m ≤ used → zero_beyond at (m + n) used t ≡ zero_beyond (at + m) n (used - m) t
   unfolding zero_beyond
   beyond_last h =
       let e : m + (used - m) ≡ used = omega arith in
       rw (← rest_part, drop-drop (used - m) m (part at (m + n) t), e)
+
+  -- a number of what is beyond in the first and one of the second are together one of what is beyond in both
+  pub beyond_bits : used ≤ m → (x y : ℕ) → eqb x 0 ≡ zero_beyond at m used t → eqb y 0 ≡ all_zero (part (at + m) n t) → eqb (bit_or x y) 0 ≡ zero_beyond at (m + n) used t
+  beyond_bits h x y p q = or_zero x y ∙ rw (p, q) (sym (beyond_first h))
 
 -- where the bytes used end in the last word of a place, what is beyond is what is left of it
 pub beyond_end : (at size used : ℕ) (t : List ℕ) → Bytes t → size - 8 ≤ used → 8 ≤ size → (x : ℕ) → x ≡ from_le (part (at + (size - 8)) 8 t)

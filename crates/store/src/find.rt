@@ -1,5 +1,6 @@
 // Searches and counts over the slots of a well-formed store, in ascending order.
 ghost use Rattle.std.specs.Prelude.{◌≡◌, Bool, true, ◌≤◌, length};
+ghost use Rattle.wire.specs.Bytes.{from_le, part};
 ghost use Rattle.wire.specs.Lists.{keep};
 ghost use Rattle.store.specs.Store.{Slot, decode, well_formed, holds};
 ghost use Rattle.store.specs.Time.{lowest_slot, empty_slot, dead_slot, room_slot, of_key, live_of_key, key_exists};
@@ -149,6 +150,13 @@ pub fn dead(store: &[u8], time: u64) -> Option<usize>
     ensures { result ≡ lowest_slot (dead_slot time) (decode store.now).slots }
 {
     lowest(store, 0, |t| t.is_dead(time))
+}
+
+// The number that the word of a key at a place spells, where the bytes past its end count as zero.
+pub fn key_word(key: &[u8], at: usize) -> u64
+    ensures { result ≡ from_le (part at 8 key.now) }
+{
+    slot::word_padded(key, at)
 }
 
 // The lowest slot from a slot on that holds an entry of a key live at a time, where the key is looked for more than once.

@@ -11,9 +11,12 @@ put_bulk-requires c =
       | else-longest-lt100 w ↦ omega (arith, length_bulk 3 c.args.word.now (omega arith) (omega arith))
     ]
 
-pub returns : goal.returns
-returns c =
+pub returns-clause-within : goal.returns-clause-within
+returns-clause-within c =
     elim c.if-longest-lt100.branch [
       | then-longest-lt100 w ↦ omega (arith, c.put_bulk.ensures.size, length_bulk 2 c.args.word.now (omega arith) (omega arith))
       | else-longest-lt100 w ↦ omega (arith, c.put_bulk.ensures.size, length_bulk 3 c.args.word.now (omega arith) (omega arith))
     ]
+
+pub returns-clause-size : goal.returns-clause-size
+returns-clause-size c = omega (arith, c.put_bulk.ensures.size, length_bulk 3 c.args.word.now (omega arith) (omega arith))
