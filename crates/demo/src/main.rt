@@ -290,8 +290,8 @@ impl Play {
             }
             [b'&', ..] => {
                 self.begin(self.store);
-                println!(rt;
-                    "  store put aside as the first handset's, and the second's begins empty"
+                rt.write_all(
+                    b"  store put aside as the first handset's, and the second's begins empty\n",
                 )
             }
             _ => self.show(rt, line),
