@@ -13,7 +13,7 @@ use store::read;
 use wire::bytes::read_le;
 use wire::replies::{put_bulk, put_header};
 
-// Reads until the place is full, the input ends or a read fails, and answers how many bytes that are: the next that the reader gives.
+// Reads until the place is full, the input ends or a read fails, and answers how many bytes it read: the next that the reader gives.
 pub fn read_full<R: Read>(reader: &mut R, space: &mut [u8]) -> usize
     ensures within { result ≤ length space.new }
     ensures bytes { Consumes (R.remaining reader.old) (R.remaining reader.new) (take result space.new) }
